@@ -1,0 +1,87 @@
+-- The model's definitions give the numbers of the independent version in rust/: three by three cells of each kind, and two cells whose
+-- step pass 2 stops. Computed by the checker, so that the two versions are held together before there is code to compare.
+use mathlib.Core.Bool.{Bool, true, false, cond}
+use mathlib.Core.List.{List, [], _∷_, _++_}
+use Prim.Native.Nat.{ℕ}
+use lib.Dec.{T}
+use lib.IntN.{ℤ, pos}
+use Rattle.model.specs.Numbers.{all}
+use Rattle.model.specs.State.{State}
+use Rattle.model.specs.Opened.{everything}
+use Rattle.model.specs.Examples.{Example, vorticities, tends, energy, steps, runs, holds, minus, accepted, none2, sevens, zeros}
+
+-- nine cells, deep and shallow, at rest along a wall in the west and in the south; an inflow and a q to lend
+abbrev unless : Bool → ℤ → ℤ
+unless closed x = cond closed (pos 0) x
+
+abbrev nine : (kind : ℕ) (west south : Bool) → State
+nine kind west south = record {
+  w = 3;
+  n = 3;
+  kind = kind;
+  G = pos 9810;
+  c = pos 100;
+  R = pos 200000;
+  h = pos 2000 ∷ pos 2500 ∷ pos 3000 ∷ pos 1500 ∷ pos 1200 ∷ pos 4000 ∷ pos 3500 ∷ pos 1800 ∷ pos 2200 ∷ [];
+  b = pos 10 ∷ pos 20 ∷ pos 30 ∷ pos 40 ∷ pos 50 ∷ pos 60 ∷ pos 70 ∷ pos 80 ∷ pos 90 ∷ [];
+  u = unless west (pos 10) ∷ minus 20 ∷ pos 30 ∷ unless west (minus 40) ∷ pos 50 ∷ minus 60 ∷ unless west (pos 70) ∷ minus 80 ∷ pos 90 ∷ [];
+  v = unless south (pos 7) ∷ unless south (minus 14) ∷ unless south (pos 21) ∷ minus 28 ∷ pos 35 ∷ minus 42 ∷ pos 49 ∷ minus 56 ∷ pos 63 ∷ [];
+}
+
+abbrev rain : List ℤ
+rain = pos 1 ∷ minus 2 ∷ pos 3 ∷ minus 4 ∷ pos 5 ∷ minus 6 ∷ pos 7 ∷ minus 8 ∷ pos 9 ∷ []
+
+abbrev lent : List ℤ
+lent = pos 1000 ∷ minus 2000 ∷ pos 3000 ∷ minus 4000 ∷ pos 5000 ∷ minus 6000 ∷ pos 7000 ∷ minus 8000 ∷ pos 9000 ∷ []
+
+-- two cells at rest under a steep surface
+abbrev steep : ℤ → State
+steep R = record { w = 2; n = 1; kind = 0; G = pos 9810; c = pos 0; R = R; h = pos 1000 ∷ pos 2000 ∷ []; b = none2; u = none2; v = none2 }
+
+abbrev pub agreed : List Example
+agreed =
+    vorticities (nine 0 false false) (zeros 9) accepted (pos 3577 ∷ pos 508 ∷ pos 5381 ∷ pos 4094 ∷ pos 3386 ∷ pos 2768 ∷ minus 562 ∷ pos 4096 ∷ pos 1966 ∷ [])
+    ∷ tends (nine 0 false false) lent (zeros 9) (zeros 9) (zeros 9) accepted
+    (pos 276500 ∷ minus 444700 ∷ pos 518200 ∷ minus 698000 ∷ pos 744500 ∷ minus 776600 ∷ pos 1029500 ∷ minus 891800 ∷ pos 242400 ∷ [])
+    (pos 31477776314304 ∷ minus 15739751924416 ∷ minus 15735517989888 ∷ pos 77759320537536 ∷ pos 8947798879168 ∷ minus 86706168616704 ∷ minus 39488814509280 ∷ pos 52148556823776 ∷ minus 12632356514496 ∷ [])
+    (pos 48150377146944 ∷ minus 19737807901248 ∷ minus 22843969176640 ∷ pos 14501046246336 ∷ pos 39188443249920 ∷ minus 31784779976896 ∷ minus 62650733393280 ∷ minus 19450802948672 ∷ pos 54597780753536 ∷ [])
+    ∷ energy (nine 0 false false) (pos 0 ∷ pos 1206520900800 ∷ [])
+    ∷ steps (nine 0 false false) rain (sevens 73) accepted
+    (pos 2004 ∷ pos 2496 ∷ pos 3004 ∷ pos 1498 ∷ pos 1210 ∷ pos 3986 ∷ pos 3505 ∷ pos 1790 ∷ pos 2212 ∷ [])
+    (pos 60 ∷ minus 45 ∷ pos 5 ∷ pos 84 ∷ pos 64 ∷ minus 197 ∷ pos 7 ∷ pos 4 ∷ pos 69 ∷ [])
+    (pos 84 ∷ minus 46 ∷ minus 15 ∷ minus 5 ∷ pos 97 ∷ minus 92 ∷ minus 51 ∷ minus 86 ∷ pos 149 ∷ [])
+    (zeros 72 ++ sevens 1)
+    ∷ vorticities (nine 1 false true) (zeros 9) accepted (pos 3920 ∷ pos 1070 ∷ pos 4415 ∷ pos 4094 ∷ pos 3386 ∷ pos 2768 ∷ minus 562 ∷ pos 4096 ∷ pos 1966 ∷ [])
+    ∷ tends (nine 1 false true) lent (zeros 9) (zeros 9) (zeros 9) accepted
+    (pos 238000 ∷ minus 384500 ∷ pos 409000 ∷ minus 698000 ∷ pos 744500 ∷ minus 776600 ∷ pos 1068000 ∷ minus 952000 ∷ pos 351600 ∷ [])
+    (pos 31478463432960 ∷ minus 15739385718912 ∷ minus 15734605714048 ∷ pos 77759320537536 ∷ pos 8947798879168 ∷ minus 86706168616704 ∷ minus 39492514290624 ∷ pos 52148838329280 ∷ minus 12634898038656 ∷ [])
+    (pos 0 ∷ pos 0 ∷ pos 0 ∷ pos 14501238711168 ∷ pos 39188650309248 ∷ minus 31785126793408 ∷ minus 62650001858112 ∷ minus 19449324408000 ∷ pos 54598564370048 ∷ [])
+    ∷ energy (nine 1 false true) (pos 0 ∷ pos 1206517495300 ∷ [])
+    ∷ steps (nine 1 false true) rain (sevens 73) accepted
+    (pos 2003 ∷ pos 2496 ∷ pos 3004 ∷ pos 1498 ∷ pos 1210 ∷ pos 3986 ∷ pos 3506 ∷ pos 1790 ∷ pos 2212 ∷ [])
+    (pos 60 ∷ minus 45 ∷ pos 5 ∷ pos 84 ∷ pos 64 ∷ minus 197 ∷ pos 7 ∷ pos 4 ∷ pos 69 ∷ [])
+    (pos 0 ∷ pos 0 ∷ pos 0 ∷ minus 5 ∷ pos 97 ∷ minus 92 ∷ minus 51 ∷ minus 86 ∷ pos 149 ∷ [])
+    (zeros 72 ++ sevens 1)
+    ∷ vorticities (nine 2 true true) (zeros 9) accepted (pos 2450 ∷ pos 1070 ∷ pos 4415 ∷ pos 2846 ∷ pos 3386 ∷ pos 2768 ∷ pos 2013 ∷ pos 4096 ∷ pos 1966 ∷ [])
+    ∷ tends (nine 2 true true) lent (zeros 9) (zeros 9) (zeros 9) accepted
+    (pos 188000 ∷ minus 384500 ∷ pos 459000 ∷ minus 478000 ∷ pos 744500 ∷ minus 996600 ∷ pos 669000 ∷ minus 952000 ∷ pos 750600 ∷ [])
+    (pos 0 ∷ minus 15739564362112 ∷ minus 15735227070848 ∷ pos 0 ∷ pos 8946100587968 ∷ minus 86710630325504 ∷ pos 0 ∷ pos 52144984812480 ∷ minus 12635832521856 ∷ [])
+    (pos 0 ∷ pos 0 ∷ pos 0 ∷ pos 14500078359168 ∷ pos 39188650309248 ∷ minus 31786037145408 ∷ minus 62648357632512 ∷ minus 19449324408000 ∷ pos 54610709595648 ∷ [])
+    ∷ energy (nine 2 true true) (pos 0 ∷ pos 1206480265300 ∷ [])
+    ∷ steps (nine 2 true true) rain (sevens 73) accepted
+    (pos 2002 ∷ pos 2496 ∷ pos 3005 ∷ pos 1497 ∷ pos 1210 ∷ pos 3987 ∷ pos 3506 ∷ pos 1790 ∷ pos 2212 ∷ [])
+    (pos 0 ∷ minus 45 ∷ pos 5 ∷ pos 0 ∷ pos 64 ∷ minus 197 ∷ pos 0 ∷ pos 4 ∷ pos 69 ∷ [])
+    (pos 0 ∷ pos 0 ∷ pos 0 ∷ minus 5 ∷ pos 97 ∷ minus 92 ∷ minus 51 ∷ minus 86 ∷ pos 149 ∷ [])
+    (zeros 72 ++ sevens 1)
+    ∷ runs (nine 2 true true) rain 12 (sevens 72) (pos 0 ∷ pos 12 ∷ [])
+    (pos 2023 ∷ pos 2429 ∷ pos 3081 ∷ pos 1544 ∷ pos 1478 ∷ pos 3613 ∷ pos 3420 ∷ pos 1766 ∷ pos 2406 ∷ [])
+    (pos 0 ∷ minus 295 ∷ minus 312 ∷ pos 0 ∷ pos 146 ∷ minus 1552 ∷ pos 0 ∷ pos 931 ∷ minus 233 ∷ [])
+    (pos 0 ∷ pos 0 ∷ pos 0 ∷ pos 245 ∷ pos 682 ∷ minus 547 ∷ minus 1138 ∷ minus 325 ∷ pos 959 ∷ [])
+    (zeros 72)
+    -- a step that pass 2 stops
+    ∷ steps (steep (pos 2000)) none2 (sevens 16) (pos 6 ∷ pos 2 ∷ pos 0 ∷ pos 1 ∷ []) (pos 1000 ∷ pos 2000 ∷ []) none2 none2 (zeros 16)
+    ∷ []
+
+pub all-agree : T (all holds agreed)
+unfolding everything
+all-agree = tt

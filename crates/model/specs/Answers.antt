@@ -1,0 +1,98 @@
+-- What each answer means: 01's number, then the values returned with it in 01's order, as one list. 0 stands for no refusal.
+use mathlib.Core.List.{List, [], _∷_, map}
+use Prim.Native.Nat.{ℕ}
+use lib.IntN.{ℤ, pos}
+use Rattle.model.specs.declared.Field.{Field}
+use Rattle.model.specs.declared.Field.the-variants.{Depth, Bottom, VelocityU, VelocityV, Vorticity, Inflow}
+use Rattle.model.specs.declared.Refusal.{Refusal}
+use Rattle.model.specs.declared.Refusal.the-variants.{Grid, Lengths, Constants, Value, ClosedEdge, Record, Destination}
+use Rattle.model.specs.declared.FillAnswer.{FillAnswer}
+use Rattle.model.specs.declared.StepAnswer.{StepAnswer}
+use Rattle.model.specs.declared.RunAnswer.{RunAnswer}
+use Rattle.model.specs.declared.TotalAnswer.{TotalAnswer}
+use Rattle.model.specs.declared.WriteAnswer.{WriteAnswer}
+use Rattle.model.specs.declared.ReadAnswer.{ReadAnswer}
+use Rattle.model.specs.declared.CompareAnswer.{CompareAnswer}
+use Rattle.model.specs.declared.FillAnswer.the-variants as F
+use Rattle.model.specs.declared.StepAnswer.the-variants as S
+use Rattle.model.specs.declared.RunAnswer.the-variants as R
+use Rattle.model.specs.declared.TotalAnswer.the-variants as T
+use Rattle.model.specs.declared.WriteAnswer.the-variants as W
+use Rattle.model.specs.declared.ReadAnswer.the-variants as D
+use Rattle.model.specs.declared.CompareAnswer.the-variants as C
+
+-- h, b, u, v, q, s
+abbrev pub fieldNumber : Field → ℕ
+fieldNumber Depth = 0
+fieldNumber Bottom = 1
+fieldNumber VelocityU = 2
+fieldNumber VelocityV = 3
+fieldNumber Vorticity = 4
+fieldNumber Inflow = 5
+
+abbrev pub number : Refusal → ℕ
+number Grid = 1
+number Lengths = 2
+number Constants = 3
+number (Value f k) = 4
+number (ClosedEdge f k) = 5
+number (Record k) = 7
+number Destination = 8
+
+abbrev pub values : Refusal → List ℕ
+values Grid = []
+values Lengths = []
+values Constants = []
+values (Value f k) = fieldNumber f ∷ k ∷ []
+values (ClosedEdge f k) = fieldNumber f ∷ k ∷ []
+values (Record k) = k ∷ []
+values Destination = []
+
+-- ---- whole answers
+
+abbrev whole : List ℕ → List ℤ
+whole l = map pos l
+
+abbrev pub told : Refusal → List ℤ
+told r = whole (number r ∷ values r)
+
+abbrev pub toldFill : FillAnswer → List ℤ
+toldFill F.Done = whole (0 ∷ [])
+toldFill (F.Refused r) = told r
+
+-- refusal 6: pass, field, cell
+abbrev pub toldStep : StepAnswer → List ℤ
+toldStep S.Done = whole (0 ∷ [])
+toldStep (S.Refused r) = told r
+toldStep (S.OutOfBounds p f k) = whole (6 ∷ p ∷ fieldNumber f ∷ k ∷ [])
+
+-- the number of steps done; beside it the refusal 6 that stopped the run
+abbrev pub toldRun : RunAnswer → List ℤ
+toldRun (R.Finished m) = whole (0 ∷ m ∷ [])
+toldRun (R.Refused r) = told r
+toldRun (R.Stopped m p f k) = whole (6 ∷ p ∷ fieldNumber f ∷ k ∷ m ∷ [])
+
+abbrev pub toldTotal : TotalAnswer → List ℤ
+toldTotal (T.Total x) = pos 0 ∷ x ∷ []
+toldTotal (T.Refused r) = told r
+
+abbrev pub toldWrite : WriteAnswer → List ℤ
+toldWrite (W.Written m) = whole (0 ∷ m ∷ [])
+toldWrite (W.Refused r) = told r
+
+-- w, n, kind, G, c, R and the timestamp
+abbrev pub toldRead : ReadAnswer → List ℤ
+toldRead (D.Read p t) = pos 0 ∷ pos (p .w) ∷ pos (p .n) ∷ pos (p .kind) ∷ p .g ∷ p .c ∷ p .r ∷ pos t ∷ []
+toldRead (D.Refused r) = told r
+
+-- which record is refused stands straight after the number
+abbrev toldOf : ℕ → Refusal → List ℤ
+toldOf k r = whole (number r ∷ k ∷ values r)
+
+abbrev pub toldCompare : CompareAnswer → List ℤ
+toldCompare C.Same = whole (0 ∷ 0 ∷ [])
+toldCompare C.FirstNewer = whole (0 ∷ 1 ∷ [])
+toldCompare C.SecondNewer = whole (0 ∷ 2 ∷ [])
+toldCompare C.Conflict = whole (0 ∷ 3 ∷ [])
+toldCompare (C.FirstRefused r) = toldOf 1 r
+toldCompare (C.SecondRefused r) = toldOf 2 r

@@ -1,0 +1,248 @@
+-- The theorems, as statements over the promises of the public calls. Each is proved in the crate `theorems`.
+use mathlib.Core.Path.{_≡_}
+use mathlib.Core.Bool.{Bool, true}
+use mathlib.Core.Logic.{_↔_}
+use mathlib.Core.List.{List, [], _∷_}
+use mathlib.Core.Option.{none}
+use Prim.Native.Nat.{ℕ, zero, suc, _*_, _^_, _≤_, _<_}
+use lib.Dec.{T}
+use lib.IntN.{ℤ, pos, negℤ, natAbs, _+ℤ_, _-ℤ_, _*ℤ_}
+use lib.ListN.{length, getD, take, drop, replicate}
+use lib.Signed.{_≤ℤ_}
+use Rattle.model.specs.Numbers.{rnd, vorticityLimits}
+use Rattle.model.specs.Grid.{at, byCell, filled}
+use Rattle.model.specs.State.{State, stateOf, parametersOf, cells, WithinLimits, FieldWithin, OpenEverywhere}
+use Rattle.model.specs.Answers.{number}
+use Rattle.model.specs.Refusals.{Taken, workLength, stateTest}
+use Rattle.model.specs.Scheme.{vorticityAt, D, tendencyU, tendencyV}
+use Rattle.model.specs.Rates.{energyRate, enstrophyRate}
+use Rattle.model.specs.Totals.{totalDepth, energy4}
+use Rattle.model.specs.Step.{moved, stuck, pass, twoPass}
+use Rattle.model.specs.Record.{recordLength, rising, decode, accepted}
+use Rattle.model.specs.Promises.{VorticityPromise, TendenciesPromise, StepPromise, RunPromise, TotalDepthPromise, WritePromise, ReadPromise, ComparePromise}
+use Rattle.model.specs.Histories.{Call, History, inflowDue, runCount}
+use Rattle.model.specs.declared.Parameters.{Parameters}
+use Rattle.model.specs.declared.Field.{Field}
+use Rattle.model.specs.declared.Refusal.{Refusal}
+use Rattle.model.specs.declared.FillAnswer.{FillAnswer}
+use Rattle.model.specs.declared.StepAnswer.{StepAnswer}
+use Rattle.model.specs.declared.RunAnswer.{RunAnswer}
+use Rattle.model.specs.declared.TotalAnswer.{TotalAnswer}
+use Rattle.model.specs.declared.WriteAnswer.{WriteAnswer}
+use Rattle.model.specs.declared.ReadAnswer.{ReadAnswer}
+use Rattle.model.specs.declared.CompareAnswer.{CompareAnswer}
+use Rattle.model.specs.declared.FillAnswer.the-variants as F
+use Rattle.model.specs.declared.StepAnswer.the-variants as S
+use Rattle.model.specs.declared.RunAnswer.the-variants as R
+use Rattle.model.specs.declared.TotalAnswer.the-variants as A
+use Rattle.model.specs.declared.WriteAnswer.the-variants as W
+use Rattle.model.specs.declared.ReadAnswer.the-variants as G
+use Rattle.model.specs.declared.CompareAnswer.the-variants.{Same, FirstNewer, SecondNewer, Conflict, FirstRefused, SecondRefused}
+
+-- ==== demand 1: the full result, or a refusal where its cause holds and only there
+
+-- tests 1 to 5 pass exactly the states within the limits
+abbrev pub LimitsClaim : Type 0
+LimitsClaim = (s : State) → (stateTest s [] true true ≡ none) ↔ WithinLimits s
+
+-- the same with what else a call takes: further fields, a run length and a work space
+abbrev pub EachWithin : ℕ → List Taken → Type 0
+EachWithin m [] = Unit
+EachWithin m (f ∷ l) = FieldWithin (f .limits) m (f .numbers) × EachWithin m l
+
+abbrev pub AcceptedClaim : Type 0
+AcceptedClaim = (s : State) (extra : List Taken) (run work : Bool)
+    → (stateTest s extra run work ≡ none) ↔ (WithinLimits s × EachWithin (cells s) extra × T run × T work)
+
+-- a refused call leaves everything but its work space as it was
+pub record RefusedClaim : Type 0 where
+  pub vorticity : (s : State) (d d′ : List ℤ) (r : Refusal) → VorticityPromise s d (F.Refused r) d′ → d′ ≡ d
+  pub tendencies : (s : State) (q dh du dv dh′ du′ dv′ : List ℤ) (r : Refusal) → TendenciesPromise s q dh du dv (F.Refused r) dh′ du′ dv′
+      → (dh′ ≡ dh) × (du′ ≡ du) × (dv′ ≡ dv)
+  pub step : (s s′ : State) (inflow work work′ : List ℤ) (r : Refusal) → StepPromise s inflow work (S.Refused r) s′ work′ → s′ ≡ s
+  pub step-6 : (s s′ : State) (inflow work work′ : List ℤ) (p k : ℕ) (f : Field) → StepPromise s inflow work (S.OutOfBounds p f k) s′ work′ → s′ ≡ s
+  pub run : (s s′ : State) (inflow work work′ : List ℤ) (m : ℕ) (r : Refusal) → RunPromise s inflow m work (R.Refused r) s′ work′ → s′ ≡ s
+  pub write : (s : State) (t : ℕ) (d d′ : List ℕ) (r : Refusal) → WritePromise s t d (W.Refused r) d′ → d′ ≡ d
+  pub read : (rec : List ℕ) (h b u v h′ b′ u′ v′ : List ℤ) (r : Refusal) → ReadPromise rec h b u v (G.Refused r) h′ b′ u′ v′
+      → (h′ ≡ h) × (b′ ≡ b) × (u′ ≡ u) × (v′ ≡ v)
+
+-- the work space is untouched after 1 and 2; in every other outcome its first 8w·n numbers are zero, and the rest is as it was
+abbrev pub cleared : State → List ℤ → List ℤ
+cleared s work = filled (workLength s) (replicate (workLength s) (pos 0)) work
+
+abbrev pub StepWork : StepAnswer → State → List ℤ → List ℤ → Type 0
+StepWork S.Done s work work′ = work′ ≡ cleared s work
+StepWork (S.Refused r) s work work′ = (number r ≤ 2 → work′ ≡ work) × (2 < number r → work′ ≡ cleared s work)
+StepWork (S.OutOfBounds p f k) s work work′ = work′ ≡ cleared s work
+
+abbrev pub RunWork : RunAnswer → State → List ℤ → List ℤ → Type 0
+RunWork (R.Finished m) s work work′ = work′ ≡ cleared s work
+RunWork (R.Refused r) s work work′ = (number r ≤ 2 → work′ ≡ work) × (2 < number r → work′ ≡ cleared s work)
+RunWork (R.Stopped m p f k) s work work′ = work′ ≡ cleared s work
+
+pub record WorkClaim : Type 0 where
+  pub step : (s s′ : State) (inflow work work′ : List ℤ) (answer : StepAnswer) → StepPromise s inflow work answer s′ work′ → StepWork answer s work work′
+  pub run : (s s′ : State) (inflow work work′ : List ℤ) (m : ℕ) (answer : RunAnswer) → RunPromise s inflow m work answer s′ work′ → RunWork answer s work work′
+
+-- ==== demand 2: the published scheme and 01's rules, at every cell
+
+-- rnd(a/b) is nearest to a/b: twice the distance, times b, is at most b; where it is b, rnd(a/b) is further from zero than a/b
+abbrev pub RoundingClaim : Type 0
+RoundingClaim = (a b : ℤ) → pos 1 ≤ℤ b → let away = 2 * natAbs (a -ℤ b *ℤ rnd a b) in
+    (away ≤ natAbs b) × (away ≡ natAbs b → natAbs a < natAbs (b *ℤ rnd a b))
+
+-- a field holds f at every cell, in its first w·n places
+abbrev pub Holds : State → List ℤ → (ℕ → ℕ → ℤ) → Type 0
+Holds s d f = (i j : ℕ) → i < s .w → j < s .n → at (s .w) d i j ≡ f i j
+
+-- an accepted potential vorticity call fills in q, which may then be lent to the tendency call
+abbrev pub VorticityClaim : Type 0
+VorticityClaim = (s : State) (d d′ : List ℤ) → VorticityPromise s d F.Done d′
+    → Holds s d′ (vorticityAt s) × FieldWithin vorticityLimits (cells s) (take (cells s) d′) × (drop (cells s) d′ ≡ drop (cells s) d)
+
+-- the tendency call accepts any state within the limits, any q within its bound and destinations that have room, and these alone
+abbrev pub TendenciesAcceptedClaim : Type 0
+TendenciesAcceptedClaim = (s : State) (q dh du dv dh′ du′ dv′ : List ℤ) (answer : FillAnswer) → TendenciesPromise s q dh du dv answer dh′ du′ dv′
+    → (answer ≡ F.Done) ↔ (WithinLimits s × FieldWithin vorticityLimits (cells s) q × (cells s ≤ length dh) × (cells s ≤ length du) × (cells s ≤ length dv))
+
+-- it then fills in -D, Tu and Tv
+abbrev pub TendenciesClaim : Type 0
+TendenciesClaim = (s : State) (q dh du dv dh′ du′ dv′ : List ℤ) → TendenciesPromise s q dh du dv F.Done dh′ du′ dv′
+    → Holds s dh′ (λ i j. negℤ (D s i j)) × Holds s du′ (tendencyU s q) × Holds s dv′ (tendencyV s q)
+    × (drop (cells s) dh′ ≡ drop (cells s) dh) × (drop (cells s) du′ ≡ drop (cells s) du) × (drop (cells s) dv′ ≡ drop (cells s) dv)
+
+-- a pass moves the velocities of its base by what the two calls above fill in for the state that it is given: its own q, and the
+-- tendencies with that q
+pub record Given (s : State) (du dv : List ℤ) : Type 0 where
+  pub d : List ℤ
+  pub q : List ℤ
+  pub dh₀ : List ℤ
+  pub du₀ : List ℤ
+  pub dv₀ : List ℤ
+  pub dh : List ℤ
+  pub vorticity : VorticityPromise s d F.Done q
+  pub tendencies : TendenciesPromise s (take (cells s) q) dh₀ du₀ dv₀ F.Done dh du dv
+
+abbrev pub PassClaim : Type 0
+PassClaim = (base given : State) (inflow du dv : List ℤ) → given .w ≡ base .w → given .n ≡ base .n → Given given du dv
+    → Holds base (pass base given inflow .u) (λ i j. at (base .w) (base .u) i j +ℤ rnd (at (base .w) du i j) (pos 3145728 *ℤ given .R))
+    × Holds base (pass base given inflow .v) (λ i j. at (base .w) (base .v) i j +ℤ rnd (at (base .w) dv i j) (pos 3145728 *ℤ given .R))
+
+-- a step leads within the limits, by a pass that led within them; so inside a run only refusal 6 can stop it
+abbrev pub StepClaim : Type 0
+StepClaim = (s t : State) (inflow : List ℤ) → WithinLimits s → twoPass s inflow ≡ moved t
+    → WithinLimits (pass s s inflow) × (t ≡ pass s (pass s s inflow) inflow) × WithinLimits t
+
+-- the state after m definition steps, each of which leads on
+pub data Steps (inflow : List ℤ) : ℕ → State → State → Type 0 where
+  start : {s : State} → Steps inflow zero s s
+  onward : {m : ℕ} {s t e : State} → twoPass s inflow ≡ moved t → Steps inflow m t e → Steps inflow (suc m) s e
+
+-- why a run of m steps ended at t: it was refused, its length was reached, or the next step is refused with the 6 that it tells
+abbrev pub Ended : List ℤ → ℕ → RunAnswer → State → Type 0
+Ended inflow m (R.Refused r) t = Unit
+Ended inflow m (R.Finished k) t = k ≡ m
+Ended inflow m (R.Stopped k p f c) t = (k < m) × (twoPass t inflow ≡ stuck p (record { field = f; cell = c }))
+
+-- the number that a run answers is the number of definition steps that lead to the state left
+abbrev pub RunClaim : Type 0
+RunClaim = (s s′ : State) (inflow work work′ : List ℤ) (m : ℕ) (answer : RunAnswer) → RunPromise s inflow m work answer s′ work′
+    → Steps inflow (runCount answer) s s′ × Ended inflow m answer s′
+
+-- ---- the record
+
+-- written, then read into destinations that have room: the same state and timestamp
+abbrev pub RoundTripClaim : Type 0
+RoundTripClaim = (s : State) (t : ℕ) (d d′ : List ℕ) (written : WriteAnswer) (h b u v h′ b′ u′ v′ : List ℤ) (answer : ReadAnswer)
+    → WithinLimits s → t < 2 ^ 64
+    → recordLength s ≤ length d → WritePromise s t d written d′
+    → cells s ≤ length h → cells s ≤ length b → cells s ≤ length u → cells s ≤ length v
+    → ReadPromise (take (recordLength s) d′) h b u v answer h′ b′ u′ v′
+    → (written ≡ W.Written (recordLength s)) × (answer ≡ G.Read (parametersOf s) t)
+    × (stateOf (parametersOf s) (take (cells s) h′) (take (cells s) b′) (take (cells s) u′) (take (cells s) v′) ≡ s)
+
+-- each number is a byte, as in any slice of bytes
+abbrev pub Bytes : List ℕ → Type 0
+Bytes rec = (k : ℕ) → getD rec k 0 < 256
+
+-- an accepted record whose tags rise, read and written again: the same bytes
+abbrev pub RewriteClaim : Type 0
+RewriteClaim = (rec d d′ : List ℕ) (h b u v h′ b′ u′ v′ : List ℤ) (p : Parameters) (t : ℕ) (written : WriteAnswer)
+    → Bytes rec → T (rising rec) → ReadPromise rec h b u v (G.Read p t) h′ b′ u′ v′
+    → let m = p .w * p .n in WritePromise (stateOf p (take m h′) (take m b′) (take m u′) (take m v′)) t d written d′
+    → length rec ≤ length d → (written ≡ W.Written (length rec)) × (take (length rec) d′ ≡ rec)
+
+-- same exactly where both records are accepted, with one state and one timestamp
+pub record BothAre (first second : List ℕ) : Type 0 where
+  pub state : State
+  pub timestamp : ℕ
+  pub in-first : decode first [] ≡ accepted state timestamp
+  pub in-second : decode second [] ≡ accepted state timestamp
+
+-- the answer with the records swapped
+abbrev pub swapped : CompareAnswer → CompareAnswer
+swapped Same = Same
+swapped FirstNewer = SecondNewer
+swapped SecondNewer = FirstNewer
+swapped Conflict = Conflict
+swapped (FirstRefused r) = SecondRefused r
+swapped (SecondRefused r) = FirstRefused r
+
+pub record CompareClaim : Type 0 where
+  pub same : (first second : List ℕ) (answer : CompareAnswer) → ComparePromise first second answer → (answer ≡ Same) ↔ BothAre first second
+  pub swap : (first second : List ℕ) (answer back : CompareAnswer) (s t : State) (x y : ℕ) → decode first [] ≡ accepted s x → decode second [] ≡ accepted t y
+      → ComparePromise first second answer → ComparePromise second first back → back ≡ swapped answer
+
+-- ==== demand 3: what is kept, of what the public calls leave
+
+-- the scaled energy rate is the product rule's: let h change by 1,572,864 times its tendency, u and v by theirs, all times e (this is
+-- the time of e times 3,145,728 spacings); then four times total energy changes by e times the rate, but for terms in e²
+abbrev pub changed : State → ℤ → (dh du dv : List ℤ) → State
+changed s e dh du dv = record {
+  w = s .w;
+  n = s .n;
+  kind = s .kind;
+  G = s .G;
+  c = s .c;
+  R = s .R;
+  h = byCell (s .w) (s .n) (λ i j. at (s .w) (s .h) i j +ℤ e *ℤ (pos 1572864 *ℤ at (s .w) dh i j));
+  b = s .b;
+  u = byCell (s .w) (s .n) (λ i j. at (s .w) (s .u) i j +ℤ e *ℤ at (s .w) du i j);
+  v = byCell (s .w) (s .n) (λ i j. at (s .w) (s .v) i j +ℤ e *ℤ at (s .w) dv i j);
+}
+
+abbrev pub EnergyRateClaim : Type 0
+EnergyRateClaim = (s : State) (dh du dv : List ℤ) (e : ℤ)
+    → (k : ℤ) × (energy4 (changed s e dh du dv) ≡ energy4 s +ℤ e *ℤ energyRate s dh du dv +ℤ e *ℤ e *ℤ k)
+
+-- the scaled energy rate is zero, for all three kinds, at every accepted tendency call
+abbrev pub EnergyClaim : Type 0
+EnergyClaim = (s : State) (q dh du dv dh′ du′ dv′ : List ℤ) → TendenciesPromise s q dh du dv F.Done dh′ du′ dv′ → energyRate s dh′ du′ dv′ ≡ pos 0
+
+-- the scaled enstrophy rate is zero where the grid wraps both ways: no edge is closed
+abbrev pub EnstrophyClaim : Type 0
+EnstrophyClaim = (s : State) (q dh du dv dh′ du′ dv′ : List ℤ) → OpenEverywhere s → TendenciesPromise s q dh du dv F.Done dh′ du′ dv′
+    → enstrophyRate s dh′ du′ dv′ q ≡ pos 0
+
+-- which is kind 0
+abbrev pub PeriodicEnstrophyClaim : Type 0
+PeriodicEnstrophyClaim = (s : State) (q dh du dv dh′ du′ dv′ : List ℤ) → s .kind ≡ 0 → TendenciesPromise s q dh du dv F.Done dh′ du′ dv′
+    → enstrophyRate s dh′ du′ dv′ q ≡ pos 0
+
+-- over any list of step and run calls from any state, total depth answers after the list what it answered before, plus the inflow
+-- due; a refusal stays the same refusal
+abbrev pub raised : ℤ → TotalAnswer → TotalAnswer
+raised due (A.Total x) = A.Total (x +ℤ due)
+raised due (A.Refused r) = A.Refused r
+
+abbrev pub BalanceClaim : Type 0
+BalanceClaim = (s t : State) (calls : List Call) (before after : TotalAnswer) → History s calls t → TotalDepthPromise s before → TotalDepthPromise t after
+    → after ≡ raised (inflowDue s calls) before
+
+-- where on a state within the limits it answers the sum of h
+abbrev pub TotalDepthClaim : Type 0
+TotalDepthClaim = (s : State) (answer : TotalAnswer) → WithinLimits s → TotalDepthPromise s answer → answer ≡ A.Total (totalDepth s)
+
+-- any such list keeps the limits
+abbrev pub KeptClaim : Type 0
+KeptClaim = (s t : State) (calls : List Call) → WithinLimits s → History s calls t → WithinLimits t

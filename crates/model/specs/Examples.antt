@@ -1,0 +1,259 @@
+-- Worked examples (01: soundings), as one table that the checker computes from the definitions.
+use mathlib.Core.Bool.{Bool, _&&_}
+use mathlib.Core.List.{List, [], _∷_, _++_}
+use Prim.Native.Nat.{ℕ, _+_}
+use Prim.Native.String.{String}
+use lib.Dec.{T, eqb}
+use lib.IntN.{ℤ, pos, negℤ}
+use lib.ListN.{length, take, drop, getD, replicate}
+use Rattle.model.specs.Numbers.{rnd, eqℤ, sameBy, all}
+use Rattle.model.specs.Grid.{filled}
+use Rattle.model.specs.State.{State, cells}
+use Rattle.model.specs.Answers.{toldFill, toldStep, toldRun, toldTotal, toldWrite, toldRead, toldCompare}
+use Rattle.model.specs.Scheme.{vorticity, hTendencies, uTendencies, vTendencies}
+use Rattle.model.specs.Totals.{totalDepth, energy4}
+use Rattle.model.specs.Step.{stepTest, stepAnswer, stepState, Ran, runTest, runOf, workLeft}
+use Rattle.model.specs.Record.{bytes, Decoded, encode, recordLength, compareAnswer}
+use Rattle.model.specs.Program.{text, programOutput}
+use Rattle.model.specs.Promises.{fillAnswer, leftBy, totalTest, totalAnswer, writeAnswer, readAnswer, readInto, vorticityTest, tendenciesTest, writeTest, readOf}
+use Rattle.model.specs.Opened.{everything}
+
+-- ---- an example: what a call takes, then what it answers (01's number and values) and what it leaves in each lent slice
+
+pub data Example : Type 0 where
+  rounds : (a b r : ℤ) → Example
+  vorticities : State → (d : List ℤ) → (answer d′ : List ℤ) → Example
+  tends : State → (q dh du dv : List ℤ) → (answer dh′ du′ dv′ : List ℤ) → Example
+  steps : State → (inflow work : List ℤ) → (answer h′ u′ v′ work′ : List ℤ) → Example
+  runs : State → (inflow : List ℤ) (m : ℕ) (work : List ℤ) → (answer h′ u′ v′ work′ : List ℤ) → Example
+  depth : State → (answer : List ℤ) → Example
+  energy : State → (answer : List ℤ) → Example
+  writes : State → (t : ℕ) (d : List ℕ) → (answer : List ℤ) (d′ : List ℕ) → Example
+  reads : (rec : List ℕ) (h b u v : List ℤ) → (answer h′ b′ u′ v′ : List ℤ) → Example
+  compares : (first second : List ℕ) → (answer : List ℤ) → Example
+  prints : (input : List ℕ) → (output : String) → Example
+
+infix 40 _is_
+abbrev _is_ : List ℤ → List ℤ → Bool
+a is b = sameBy eqℤ a b
+
+-- t has s's grid and bottom, and these depths and velocities
+abbrev stateIs : State → State → List ℤ → List ℤ → List ℤ → Bool
+stateIs s t h u v = eqb (t .w) (s .w) && eqb (t .n) (s .n) && t .h is h && t .b is s .b && t .u is u && t .v is v
+
+abbrev readIs : Decoded → (h b u v : List ℤ) → (answer h′ b′ u′ v′ : List ℤ) → Bool
+readIs x h b u v a h′ b′ u′ v′ =
+    toldRead (readAnswer x) is a && readInto (λ s. s .h) x h is h′ && readInto (λ s. s .b) x b is b′ && readInto (λ s. s .u) x u is u′ && readInto (λ s. s .v) x v is v′
+
+abbrev ranIs : Ran → State → (a h u v : List ℤ) → Bool
+ranIs r s a h u v = toldRun (r .answer) is a && stateIs s (r .state) h u v
+
+abbrev pub holds : Example → Bool
+holds (rounds a b r) = eqℤ (rnd a b) r
+holds (vorticities s d a d′) =
+    toldFill (fillAnswer (vorticityTest s (length d))) is a && leftBy (vorticityTest s (length d)) (filled (cells s) (vorticity s) d) d is d′
+holds (tends s q dh du dv a dh′ du′ dv′) =
+    let t = tendenciesTest s q (length dh) (length du) (length dv) in
+    toldFill (fillAnswer t) is a
+    && leftBy t (filled (cells s) (hTendencies s) dh) dh is dh′
+    && leftBy t (filled (cells s) (uTendencies s q) du) du is du′
+    && leftBy t (filled (cells s) (vTendencies s q) dv) dv is dv′
+holds (steps s inflow work a h u v work′) =
+    toldStep (stepAnswer s inflow (length work)) is a
+    && stateIs s (stepState s inflow (length work)) h u v
+    && workLeft (stepTest s inflow (length work)) s work is work′
+holds (runs s inflow m work a h u v work′) =
+    ranIs (runOf s inflow m (length work)) s a h u v && workLeft (runTest s inflow m (length work)) s work is work′
+holds (depth s a) = toldTotal (totalAnswer (totalTest s) (totalDepth s)) is a
+holds (energy s a) = toldTotal (totalAnswer (totalTest s) (energy4 s)) is a
+holds (writes s t d a d′) =
+    toldWrite (writeAnswer (writeTest s (length d)) (recordLength s)) is a
+    && sameBy eqb (leftBy (writeTest s (length d)) (filled (recordLength s) (encode s t) d) d) d′
+holds (reads rec h b u v a h′ b′ u′ v′) = readIs (readOf rec h b u v) h b u v a h′ b′ u′ v′
+holds (compares x y a) = toldCompare (compareAnswer x y) is a
+holds (prints input output) = sameBy eqb (programOutput input) (text output)
+
+abbrev pub minus : ℕ → ℤ
+minus x = negℤ (pos x)
+
+-- ---- states
+
+-- cases 2, 3, 7 and 10: one cell of depth h
+abbrev one : ℤ → State
+one h = record { w = 1; n = 1; kind = 0; G = pos 9810; c = pos 10; R = pos 1000; h = h ∷ []; b = pos 0 ∷ []; u = pos 100 ∷ []; v = minus 50 ∷ [] }
+
+-- cases 4 to 6: two cells
+abbrev two : ℕ → ℤ → State
+two kind R = record {
+  w = 2;
+  n = 1;
+  kind = kind;
+  G = pos 9810;
+  c = pos 0;
+  R = R;
+  h = pos 2000 ∷ pos 3000 ∷ [];
+  b = pos 0 ∷ pos 0 ∷ [];
+  u = pos 10 ∷ pos 0 ∷ [];
+  v = pos 0 ∷ pos 0 ∷ [];
+}
+
+-- case 8
+abbrev four : State
+four = record {
+  w = 2;
+  n = 2;
+  kind = 0;
+  G = pos 9810;
+  c = pos 10000;
+  R = pos 1000;
+  h = replicate 4 (pos 1000);
+  b = replicate 4 (pos 0);
+  u = minus 5000 ∷ pos 0 ∷ pos 5000 ∷ pos 0 ∷ [];
+  v = pos 5000 ∷ minus 5000 ∷ pos 0 ∷ pos 0 ∷ [];
+}
+
+-- a state with several faults at once, to tell the order of the tests: one cell, walled
+abbrev faulty : (w : ℕ) (G : ℤ) (h b u v : List ℤ) → State
+faulty w G h b u v = record { w = w; n = 1; kind = 2; G = G; c = pos 0; R = pos 1000; h = h; b = b; u = u; v = v }
+
+-- ---- answers and lists
+
+abbrev pub accepted : List ℤ
+accepted = pos 0 ∷ []
+
+abbrev none : List ℤ
+none = pos 0 ∷ []
+
+abbrev pub none2 : List ℤ
+none2 = pos 0 ∷ pos 0 ∷ []
+
+abbrev just : ℤ → List ℤ
+just x = x ∷ []
+
+abbrev pub sevens : ℕ → List ℤ
+sevens m = replicate m (pos 7)
+
+abbrev pub zeros : ℕ → List ℤ
+zeros m = replicate m (pos 0)
+
+abbrev channel : List ℤ → List ℤ → State
+channel u v = record { w = 1; n = 1; kind = 1; G = pos 1; c = pos 0; R = pos 1000; h = just (pos 1000); b = none; u = u; v = v }
+
+-- ---- records
+
+-- case 10's record, and the same with a timestamp and a depth of its own
+abbrev dock : List ℕ
+dock =
+    1 ∷ 0 ∷ 3 ∷ 1 ∷ 1 ∷ 0
+    ∷ 2 ∷ 0 ∷ 0x0c ∷ 0 ∷ 0 ∷ 0x26 ∷ 0x52 ∷ 0 ∷ 0 ∷ 0 ∷ 0x0a ∷ 0 ∷ 0 ∷ 3 ∷ 0xe8
+    ∷ 3 ∷ 0 ∷ 8 ∷ 0 ∷ 0 ∷ 0 ∷ 0 ∷ 0 ∷ 0 ∷ 0 ∷ 0
+    ∷ 4 ∷ 0 ∷ 4 ∷ 0 ∷ 0 ∷ 7 ∷ 0xd0
+    ∷ 5 ∷ 0 ∷ 4 ∷ 0 ∷ 0 ∷ 0 ∷ 0
+    ∷ 6 ∷ 0 ∷ 2 ∷ 0 ∷ 0x64
+    ∷ 7 ∷ 0 ∷ 2 ∷ 0xff ∷ 0xce
+    ∷ []
+
+abbrev stamped : ℕ → ℕ → List ℕ
+stamped t h = take 24 dock ++ bytes 8 t ++ (4 ∷ 0 ∷ 4 ∷ []) ++ bytes 4 h ++ drop 39 dock
+
+-- read into four fields of one number, a record is refused with 7 and this offset
+abbrev damaged : List ℕ → ℕ → Example
+damaged rec k = reads rec none none none none (pos 7 ∷ pos k ∷ []) none none none none
+
+-- ---- 01's cases 1 to 10; 6 and 7 of every call that they speak to
+
+abbrev pub soundings : List Example
+soundings =
+    -- 1
+    rounds (pos 5) (pos 2) (pos 3)
+    ∷ rounds (minus 5) (pos 2) (minus 3)
+    ∷ rounds (pos 7) (pos 3) (pos 2)
+    ∷ rounds (pos 0) (pos 9) (pos 0)
+    -- 2
+    ∷ vorticities (one (pos 2000)) none accepted (just (pos 328))
+    ∷ tends (one (pos 2000)) (just (pos 328)) none none none accepted none (just (minus 1574400000)) (just (minus 3148800000))
+    ∷ energy (one (pos 2000)) (pos 0 ∷ pos 78530000000 ∷ [])
+    -- 3
+    ∷ steps (one (pos 2000)) none (sevens 8) accepted (just (pos 2000)) (just (pos 99)) (just (minus 51)) (zeros 8)
+    -- 4
+    ∷ tends (two 0 (pos 1000)) none2 none2 none2 none2 accepted (pos 50000 ∷ minus 50000 ∷ []) (pos 30859591680000 ∷ minus 30859591680000 ∷ []) none2
+    ∷ energy (two 0 (pos 1000)) (pos 0 ∷ pos 255060500000 ∷ [])
+    -- 5
+    ∷ steps (two 0 (pos 100000)) none2 (sevens 16) accepted (pos 2005 ∷ pos 2995 ∷ []) (pos 108 ∷ minus 98 ∷ []) none2 (zeros 16)
+    -- 6: refusal 5, field u, cell 0
+    ∷ tends (two 2 (pos 1000)) none2 none2 none2 none2 (pos 5 ∷ pos 2 ∷ pos 0 ∷ []) none2 none2 none2
+    -- 7: refusal 4, field h, cell 0; and accepted
+    ∷ vorticities (one (pos 999)) none (pos 4 ∷ pos 0 ∷ pos 0 ∷ []) none
+    ∷ tends (one (pos 999)) (just (pos 328)) none none none (pos 4 ∷ pos 0 ∷ pos 0 ∷ []) none none none
+    ∷ energy (one (pos 999)) (pos 4 ∷ pos 0 ∷ pos 0 ∷ [])
+    ∷ depth (one (pos 1000)) (pos 0 ∷ pos 1000 ∷ [])
+    ∷ vorticities (one (pos 1000)) none accepted (just (pos 655))
+    -- 8: q(0,0), and the other three
+    ∷ vorticities four (zeros 4) accepted (pos 1966080 ∷ pos 0 ∷ pos 0 ∷ pos 655360 ∷ [])
+    -- 9
+    ∷ steps (one (pos 2000)) none (sevens 7) (just (pos 2)) (just (pos 2000)) (just (pos 100)) (just (minus 50)) (sevens 7)
+    ∷ runs (one (pos 2000)) none 0 (sevens 9) (pos 0 ∷ pos 0 ∷ []) (just (pos 2000)) (just (pos 100)) (just (minus 50)) (zeros 8 ++ sevens 1)
+    ∷ runs (one (pos 100000)) (just (pos 1)) 10001 (sevens 9) (just (pos 1)) (just (pos 100000)) (just (pos 100)) (just (minus 50)) (sevens 9)
+    ∷ runs (one (pos 2000)) none 10000 (sevens 7) (just (pos 2)) (just (pos 2000)) (just (pos 100)) (just (minus 50)) (sevens 7)
+    -- 10: the program, and its input as a record
+    ∷ prints dock "total 2000\n0 0 2000 99 -51\n"
+    ∷ writes (one (pos 2000)) 0 (replicate 57 7) (pos 0 ∷ pos 56 ∷ []) (dock ++ (7 ∷ []))
+    ∷ reads dock (sevens 2) none none none (pos 0 ∷ pos 1 ∷ pos 1 ∷ pos 0 ∷ pos 9810 ∷ pos 10 ∷ pos 1000 ∷ pos 0 ∷ []) (pos 2000 ∷ pos 7 ∷ []) none (just (pos 100)) (just (minus 50))
+    ∷ []
+
+-- ---- what 01's cases leave open: which of two causes is told, and what a refusal leaves
+
+abbrev pub orders : List Example
+orders =
+    -- 1 before 2 before 3 before 4 before 5 before 8
+    vorticities (faulty 65 (pos 0) (just (pos 999)) [] (just (pos 1)) none) [] (just (pos 1)) []
+    ∷ vorticities (faulty 1 (pos 0) (just (pos 999)) [] (just (pos 1)) none) [] (just (pos 2)) []
+    ∷ vorticities (faulty 1 (pos 0) (just (pos 999)) none (just (pos 1)) none) [] (just (pos 3)) []
+    ∷ vorticities (faulty 1 (pos 1) (just (pos 999)) none (just (pos 1)) none) [] (pos 4 ∷ pos 0 ∷ pos 0 ∷ []) []
+    ∷ vorticities (faulty 1 (pos 1) (just (pos 1000)) none (just (pos 1)) none) [] (pos 5 ∷ pos 2 ∷ pos 0 ∷ []) []
+    ∷ vorticities (faulty 1 (pos 1) (just (pos 1000)) none none none) [] (just (pos 8)) []
+    -- 4 by h, b, u, v, then q; then lowest cell
+    ∷ tends (faulty 2 (pos 1) (pos 1000 ∷ pos 999 ∷ []) (minus 1 ∷ pos 0 ∷ []) none2 none2) none2 none2 none2 none2 (pos 4 ∷ pos 0 ∷ pos 1 ∷ []) none2 none2 none2
+    ∷ tends (faulty 2 (pos 1) (replicate 2 (pos 1000)) none2 (pos 0 ∷ pos 5001 ∷ []) (pos 5001 ∷ pos 0 ∷ [])) none2 none2 none2 none2 (pos 4 ∷ pos 2 ∷ pos 1 ∷ []) none2 none2 none2
+    ∷ tends (faulty 2 (pos 1) (replicate 2 (pos 1000)) none2 none2 none2) (replicate 2 (pos 2000001)) none2 none2 none2 (pos 4 ∷ pos 4 ∷ pos 0 ∷ []) none2 none2 none2
+    ∷ tends (faulty 2 (pos 1) (replicate 2 (pos 1000)) none2 (pos 0 ∷ pos 1 ∷ []) (pos 0 ∷ pos 1 ∷ [])) none2 none2 none2 none2 (pos 5 ∷ pos 3 ∷ pos 1 ∷ []) none2 none2 none2
+    -- a channel has a wall in the south and none in the west
+    ∷ depth (channel (just (pos 1)) none) (pos 0 ∷ pos 1000 ∷ [])
+    ∷ depth (channel none (just (pos 1))) (pos 5 ∷ pos 3 ∷ pos 0 ∷ [])
+    ∷ depth (channel none none) (pos 0 ∷ pos 1000 ∷ [])
+    -- 3, 4 and 6 clear the work space; 6 keeps the state
+    ∷ steps (faulty 1 (pos 0) (just (pos 1000)) none none none) none (sevens 9) (just (pos 3)) (just (pos 1000)) none none (zeros 8 ++ sevens 1)
+    ∷ steps (faulty 1 (pos 1) (just (pos 1000)) none none none) (just (pos 1001)) (sevens 8) (pos 4 ∷ pos 5 ∷ pos 0 ∷ []) (just (pos 1000)) none none (zeros 8)
+    ∷ steps (faulty 1 (pos 1) (just (pos 1000)) none none none) (just (minus 1)) (sevens 8) (pos 6 ∷ pos 1 ∷ pos 0 ∷ pos 0 ∷ []) (just (pos 1000)) none none (zeros 8)
+    -- a run that its third step stops
+    ∷ runs (faulty 1 (pos 1) (just (pos 1500)) none none none) (just (minus 200)) 5 (sevens 8) (pos 6 ∷ pos 1 ∷ pos 0 ∷ pos 0 ∷ pos 2 ∷ []) (just (pos 1100)) none none (zeros 8)
+    -- 7 at a tag: 1 or 2 bytes left; unknown tag; repeated tag; value past the end; wrong length; then a tag missing
+    ∷ damaged (dock ++ (1 ∷ [])) 56
+    ∷ damaged (dock ++ (1 ∷ 0 ∷ [])) 56
+    ∷ damaged (dock ++ (8 ∷ 0 ∷ 0 ∷ [])) 56
+    ∷ damaged (dock ++ (0 ∷ 0 ∷ 0 ∷ [])) 56
+    ∷ damaged (dock ++ (7 ∷ 0 ∷ 2 ∷ 0 ∷ 0 ∷ [])) 56
+    ∷ damaged (take 55 dock) 51
+    ∷ damaged (1 ∷ 0 ∷ 2 ∷ 1 ∷ 1 ∷ drop 6 dock) 0
+    ∷ damaged (take 51 dock) 51
+    ∷ damaged [] 0
+    -- reading: 7 before 1 before 2 before 8 before 3
+    ∷ reads (drop 51 dock ++ take 51 (1 ∷ 0 ∷ 3 ∷ 1 ∷ 1 ∷ 3 ∷ drop 6 dock)) [] [] [] [] (just (pos 1)) [] [] [] []
+    ∷ reads (take 51 dock ++ (7 ∷ 0 ∷ 1 ∷ 0 ∷ [])) [] [] [] [] (just (pos 2)) [] [] [] []
+    ∷ reads (take 9 dock ++ replicate 12 0 ++ drop 21 dock) none none none [] (just (pos 8)) none none none []
+    ∷ reads (take 9 dock ++ replicate 12 0 ++ drop 21 dock) none none none none (just (pos 3)) none none none none
+    -- the newer timestamp tells; under one timestamp the states do
+    ∷ compares dock dock (pos 0 ∷ pos 0 ∷ [])
+    ∷ compares (stamped 0 2001) (stamped 0 2000) (pos 0 ∷ pos 3 ∷ [])
+    ∷ compares (stamped 256 2000) (stamped 1 2000) (pos 0 ∷ pos 1 ∷ [])
+    ∷ compares (stamped 255 2001) (stamped 256 2000) (pos 0 ∷ pos 2 ∷ [])
+    ∷ compares [] (take 51 dock) (pos 7 ∷ pos 1 ∷ pos 0 ∷ [])
+    ∷ compares dock (take 51 dock) (pos 7 ∷ pos 2 ∷ pos 51 ∷ [])
+    -- the program's refusals carry the number alone
+    ∷ prints [] "refused 7\n"
+    ∷ prints (stamped 0 999) "refused 4\n"
+    ∷ []
+
+pub all-hold : T (all holds (soundings ++ orders))
+unfolding everything
+all-hold = tt

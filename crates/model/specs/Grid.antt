@@ -1,0 +1,44 @@
+-- The cells of a grid of w columns and n rows: cell (i, j) has index j·w + i, and indices wrap in both ways.
+use mathlib.Core.Bool.{Bool, cond}
+use mathlib.Core.List.{List, [], _∷_, _++_}
+use mathlib.Core.Option.{Option, none, some}
+use Prim.Native.Nat.{ℕ, zero, suc, _+_, _-_, _*_, _/_, _%_}
+use lib.IntN.{ℤ, pos, _+ℤ_}
+use lib.ListN.{getD, drop}
+
+-- the next place on a side of w places, and the one before
+abbrev pub next : ℕ → ℕ → ℕ
+next w i = (i + 1) % w
+
+abbrev pub previous : ℕ → ℕ → ℕ
+previous w i = (i + (w - 1)) % w
+
+-- what a field has at cell (i, j)
+abbrev pub at : ℕ → List ℤ → ℕ → ℕ → ℤ
+at w f i j = getD f (j * w + i) (pos 0)
+
+-- f 0, …, f (m - 1)
+abbrev pub tabulate : {A : Type 0} → ℕ → (ℕ → A) → List A
+tabulate zero f = []
+tabulate (suc m) f = f 0 ∷ tabulate m (λ k. f (suc k))
+
+-- a field of the grid, from its number at each cell
+unfoldable pub byCell : ℕ → ℕ → (ℕ → ℕ → ℤ) → List ℤ
+byCell w n f = tabulate (w * n) (λ k. f (k % w) (k / w))
+
+-- a destination d whose first m places are filled with the list l: the places past it keep their values
+abbrev pub filled : {A : Type 0} → ℕ → List A → List A → List A
+filled m l d = l ++ drop m d
+
+-- f 0 + … + f (n - 1), and the sum over the cells of the grid
+unfoldable pub sumTo : ℕ → (ℕ → ℤ) → ℤ
+sumTo zero f = pos 0
+sumTo (suc n) f = sumTo n f +ℤ f n
+
+unfoldable pub sumGrid : ℕ → ℕ → (ℕ → ℕ → ℤ) → ℤ
+sumGrid w n f = sumTo n (λ j. sumTo w (λ i. f i j))
+
+-- the first of the m indices from k on at which the test holds: a scan that ends at the first one found
+unfoldable pub firstFrom : (ℕ → Bool) → ℕ → ℕ → Option ℕ
+firstFrom bad zero k = none
+firstFrom bad (suc m) k = cond (bad k) (some k) (firstFrom bad m (suc k))

@@ -1,0 +1,17 @@
+pub mod Numbers
+pub mod Grid
+pub mod State
+pub mod Answers
+pub mod Refusals
+pub mod Weights
+pub mod Scheme
+pub mod Rates
+pub mod Totals
+pub mod Step
+pub mod Record
+pub mod Program
+pub mod Promises
+pub mod Histories
+pub mod Opened
+pub mod Examples
+pub mod Claims

@@ -1,0 +1,232 @@
+-- The record: fields of a one-byte tag, a two-byte length and the value; numbers big-endian, negative ones two's complement.
+use mathlib.Core.Bool.{Bool, true, false, not, cond, _&&_, _||_}
+use mathlib.Core.List.{List, [], _∷_, _++_, map}
+use mathlib.Core.Option.{Option, none, some}
+use Prim.Native.Nat.{ℕ, zero, suc, _+_, _*_, _/_, _%_, _^_}
+use lib.Dec.{eqb, leb, ltb}
+use lib.IntN.{ℤ}
+use lib.ListN.{length, getD, take, drop}
+use mir.Syntax.{w16, w32}
+use mir.Val.{toZ, ofZ}
+use Rattle.model.specs.Numbers.{all, eqℤ, sameBy}
+use Rattle.model.specs.Grid.{tabulate}
+use Rattle.model.specs.State.{State, cells}
+use Rattle.model.specs.Refusals.{_then_, must, gridKnown, contentTest, roomTest}
+use Rattle.model.specs.declared.Refusal.{Refusal}
+use Rattle.model.specs.declared.Refusal.the-variants.{Grid, Lengths, Record}
+use Rattle.model.specs.declared.CompareAnswer.{CompareAnswer}
+use Rattle.model.specs.declared.CompareAnswer.the-variants.{Same, FirstNewer, SecondNewer, Conflict, FirstRefused, SecondRefused}
+
+-- ---- numbers as bytes
+
+-- the last k bytes of x, and the number that bytes stand for
+abbrev pub bytes : ℕ → ℕ → List ℕ
+bytes zero x = []
+bytes (suc k) x = (x / 256 ^ k % 256) ∷ bytes k x
+
+abbrev pub unsignedFrom : ℕ → List ℕ → ℕ
+unsignedFrom a [] = a
+unsignedFrom a (x ∷ l) = unsignedFrom (a * 256 + x) l
+
+abbrev pub unsigned : List ℕ → ℕ
+unsigned l = unsignedFrom 0 l
+
+-- signed numbers of 2 and of 4 bytes: `ofZ` and `toZ` are the kit's two's complement
+abbrev pub bytes2 : ℤ → List ℕ
+bytes2 x = bytes 2 (ofZ w16 x)
+
+abbrev pub bytes4 : ℤ → List ℕ
+bytes4 x = bytes 4 (ofZ w32 x)
+
+abbrev pub signed2 : List ℕ → ℤ
+signed2 l = toZ w16 (unsigned l)
+
+abbrev pub signed4 : List ℕ → ℤ
+signed4 l = toZ w32 (unsigned l)
+
+-- ---- the writer: by rising tag
+
+abbrev pub eachBy : (ℤ → List ℕ) → List ℤ → List ℕ
+eachBy f [] = []
+eachBy f (x ∷ l) = f x ++ eachBy f l
+
+-- a field of the record
+pub record Part : Type 0 where
+  pub tag : ℕ
+  pub value : List ℕ
+
+abbrev pub joined : List Part → List ℕ
+joined [] = []
+joined (p ∷ l) = p .tag ∷ (bytes 2 (length (p .value)) ++ (p .value ++ joined l))
+
+-- the timestamp (01: stamp) is whole seconds since 2000-01-01 00:00
+unfoldable pub partsOf : State → ℕ → List Part
+partsOf s timestamp =
+    record { tag = 1; value = s .w ∷ s .n ∷ s .kind ∷ [] }
+    ∷ record { tag = 2; value = bytes4 (s .G) ++ (bytes4 (s .c) ++ bytes4 (s .R)) }
+    ∷ record { tag = 3; value = bytes 8 timestamp }
+    ∷ record { tag = 4; value = eachBy bytes4 (s .h) }
+    ∷ record { tag = 5; value = eachBy bytes4 (s .b) }
+    ∷ record { tag = 6; value = eachBy bytes2 (s .u) }
+    ∷ record { tag = 7; value = eachBy bytes2 (s .v) }
+    ∷ []
+
+unfoldable pub encode : State → ℕ → List ℕ
+encode s timestamp = joined (partsOf s timestamp)
+
+-- its length
+abbrev pub recordLength : State → ℕ
+recordLength s = 44 + 12 * cells s
+
+-- ---- the reader: fields in any order
+
+abbrev pub tags : List ℕ
+tags = 1 ∷ 2 ∷ 3 ∷ 4 ∷ 5 ∷ 6 ∷ 7 ∷ []
+
+abbrev pub has : ℕ → List Part → Bool
+has t [] = false
+has t (p ∷ l) = eqb (p .tag) t || has t l
+
+-- the value of a tag
+abbrev pub valueOf : ℕ → List Part → List ℕ
+valueOf t [] = []
+valueOf t (p ∷ l) = cond (eqb (p .tag) t) (p .value) (valueOf t l)
+
+-- at offset k of a record: the tag, the length, the value
+abbrev pub tagAt : List ℕ → ℕ → ℕ
+tagAt rec k = getD rec k 0
+
+abbrev pub sizeAt : List ℕ → ℕ → ℕ
+sizeAt rec k = unsigned (take 2 (drop (k + 1) rec))
+
+abbrev pub partAt : List ℕ → ℕ → Part
+partAt rec k = record { tag = tagAt rec k; value = take (sizeAt rec k) (drop (k + 3) rec) }
+
+abbrev pub knownTag : ℕ → Bool
+knownTag t = leb 1 t && leb t 7
+
+-- tags 1, 2 and 3 have one length
+abbrev pub rightSize : ℕ → ℕ → Bool
+rightSize t size = cond (eqb t 1) (eqb size 3) (cond (eqb t 2) (eqb size 12) (cond (eqb t 3) (eqb size 8) true))
+
+-- 7, at the tag at offset k, past the fields found so far:
+-- 1 or 2 bytes left; unknown tag; repeated tag; value past the end; tag 1, 2, 3 of wrong length
+unfoldable pub tagTest : List ℕ → ℕ → List Part → Option Refusal
+tagTest rec k parts =
+    must (leb (k + 3) (length rec)) (Record k)
+    then must (knownTag (tagAt rec k)) (Record k)
+    then must (not (has (tagAt rec k) parts)) (Record k)
+    then must (leb (k + 3 + sizeAt rec k) (length rec)) (Record k)
+    then must (rightSize (tagAt rec k) (sizeAt rec k)) (Record k)
+
+-- 7, at the end: a tag missing
+unfoldable pub missingTest : List ℕ → List Part → Option Refusal
+missingTest rec parts = must (all (λ t. has t parts) tags) (Record (length rec))
+
+-- the fields in the order in which they stand, or refusal 7
+pub data Walked : Type 0 where
+  damaged : Refusal → Walked
+  whole : List Part → Walked
+
+abbrev pub unless : Option Refusal → Walked → Walked
+unless none more = more
+unless (some r) more = damaged r
+
+-- from offset k on; at most m fields more, where m is the record's length and each field has 3 bytes at least
+unfoldable pub walk : List ℕ → ℕ → ℕ → List Part → Walked
+walk rec zero k parts = unless (missingTest rec parts) (whole parts)
+walk rec (suc m) k parts =
+    let onward = walk rec m (k + 3 + sizeAt rec k) (parts ++ (partAt rec k ∷ [])) in
+    cond (leb (length rec) k) (unless (missingTest rec parts) (whole parts)) (unless (tagTest rec k parts) onward)
+
+unfoldable pub walked : List ℕ → Walked
+walked rec = walk rec (length rec) 0 []
+
+-- ---- what the fields mean
+
+-- m numbers of z bytes each
+abbrev pub numbers : (List ℕ → ℤ) → ℕ → ℕ → List ℕ → List ℤ
+numbers f z m value = tabulate m (λ k. f (take z (drop (k * z) value)))
+
+unfoldable pub stateIn : List Part → State
+stateIn parts =
+    let grid = valueOf 1 parts in
+    let constants = valueOf 2 parts in
+    let m = getD grid 0 0 * getD grid 1 0 in
+    record {
+      w = getD grid 0 0;
+      n = getD grid 1 0;
+      kind = getD grid 2 0;
+      G = signed4 (take 4 constants);
+      c = signed4 (take 4 (drop 4 constants));
+      R = signed4 (take 4 (drop 8 constants));
+      h = numbers signed4 4 m (valueOf 4 parts);
+      b = numbers signed4 4 m (valueOf 5 parts);
+      u = numbers signed2 2 m (valueOf 6 parts);
+      v = numbers signed2 2 m (valueOf 7 parts);
+    }
+
+unfoldable pub timestampIn : List Part → ℕ
+timestampIn parts = unsigned (valueOf 3 parts)
+
+-- 2, in a record: a field's length is not that of the bytes of w·n numbers
+unfoldable pub bytesRight : State → List Part → Bool
+bytesRight s parts =
+    eqb (length (valueOf 4 parts)) (4 * cells s)
+    && eqb (length (valueOf 5 parts)) (4 * cells s)
+    && eqb (length (valueOf 6 parts)) (2 * cells s)
+    && eqb (length (valueOf 7 parts)) (2 * cells s)
+
+-- ---- a record read: 7, then 1, 2, 8, 3, 4, 5
+
+pub data Decoded : Type 0 where
+  accepted : State → (timestamp : ℕ) → Decoded
+  refused : Refusal → Decoded
+
+abbrev pub judged : Option Refusal → State → ℕ → Decoded
+judged none s t = accepted s t
+judged (some r) s t = refused r
+
+unfoldable pub recordTest : State → List Part → List ℕ → Option Refusal
+recordTest s parts rooms = must (gridKnown s) Grid then must (bytesRight s parts) Lengths then roomTest (cells s) rooms then contentTest s []
+
+abbrev pub readBy : List ℕ → Walked → Decoded
+readBy rooms (damaged r) = refused r
+readBy rooms (whole parts) = judged (recordTest (stateIn parts) parts rooms) (stateIn parts) (timestampIn parts)
+
+-- `rooms` are the lengths of the destinations: none in a comparison
+unfoldable pub decode : List ℕ → List ℕ → Decoded
+decode rec rooms = readBy rooms (walked rec)
+
+-- whether the tags of a record that passes test 7 rise
+abbrev pub risingBy : Walked → Bool
+risingBy (damaged r) = false
+risingBy (whole parts) = sameBy eqb (map (λ p. p .tag) parts) tags
+
+unfoldable pub rising : List ℕ → Bool
+rising rec = risingBy (walked rec)
+
+-- ---- comparison
+
+-- tags 1, 2 and 4 to 7 mean the same
+unfoldable pub sameState : State → State → Bool
+sameState s t =
+    eqb (s .w) (t .w) && eqb (s .n) (t .n) && eqb (s .kind) (t .kind)
+    && eqℤ (s .G) (t .G) && eqℤ (s .c) (t .c) && eqℤ (s .R) (t .R)
+    && sameBy eqℤ (s .h) (t .h) && sameBy eqℤ (s .b) (t .b) && sameBy eqℤ (s .u) (t .u) && sameBy eqℤ (s .v) (t .v)
+
+-- the newer timestamp tells; under one timestamp the states do
+unfoldable pub compared : State → ℕ → State → ℕ → CompareAnswer
+compared s a t b = cond (ltb b a) FirstNewer (cond (ltb a b) SecondNewer (cond (sameState s t) Same Conflict))
+
+-- the first record wholly, then the second
+abbrev pub compareSecond : State → ℕ → Decoded → CompareAnswer
+compareSecond s a (accepted t b) = compared s a t b
+compareSecond s a (refused r) = SecondRefused r
+
+abbrev pub compareBy : Decoded → Decoded → CompareAnswer
+compareBy (accepted s a) second = compareSecond s a second
+compareBy (refused r) second = FirstRefused r
+
+unfoldable pub compareAnswer : List ℕ → List ℕ → CompareAnswer
+compareAnswer first second = compareBy (decode first []) (decode second [])

@@ -1,0 +1,140 @@
+-- 01's table of refusals: tests 1 to 5 and 8, in order. Test 6 is in Step.antt, test 7 in Record.antt.
+use mathlib.Core.Bool.{Bool, true, false, not, _&&_}
+use mathlib.Core.List.{List, [], _∷_, _++_}
+use mathlib.Core.Option.{Option, none, some}
+use Prim.Native.Nat.{ℕ, _*_, _/_, _%_}
+use lib.Dec.{eqb, leb}
+use lib.IntN.{ℤ, pos}
+use lib.ListN.{length, getD}
+use Rattle.model.specs.Numbers.{Limits, within, all, eqℤ, depthLimits, bottomLimits, velocityLimits, gravityLimits, coriolisLimits, ratioLimits, vorticityLimits, inflowLimits, longestSide, longestRun}
+use Rattle.model.specs.Grid.{firstFrom}
+use Rattle.model.specs.State.{State, cells, known, boundaryOf, closedWest, closedSouth}
+use Rattle.model.specs.declared.Field.{Field}
+use Rattle.model.specs.declared.Field.the-variants.{Depth, Bottom, VelocityU, VelocityV, Vorticity, Inflow}
+use Rattle.model.specs.declared.Refusal.{Refusal}
+use Rattle.model.specs.declared.Refusal.the-variants.{Grid, Lengths, Constants, Value, ClosedEdge, Destination}
+
+-- ---- tests in order
+
+-- the first refusal of two tests
+infixr 20 _then_
+abbrev pub _then_ : Option Refusal → Option Refusal → Option Refusal
+none then b = b
+some r then b = some r
+
+-- a test that must hold
+abbrev pub must : Bool → Refusal → Option Refusal
+must true r = none
+must false r = some r
+
+-- ---- places
+
+-- a field and a cell of it, as a refusal names them
+pub record Place : Type 0 where
+  pub field : Field
+  pub cell : ℕ
+
+-- the cell that a scan of a field found, or else what a later scan found
+abbrev pub placed : Field → Option ℕ → Option Place → Option Place
+placed f none later = later
+placed f (some k) later = some (record { field = f; cell = k })
+
+abbrev pub refusedAt : (Field → ℕ → Refusal) → Option Place → Option Refusal
+refusedAt r none = none
+refusedAt r (some p) = some (r (p .field) (p .cell))
+
+-- ---- fields that a call takes
+
+-- a field: its name in a refusal, its limits and its numbers
+pub record Taken : Type 0 where
+  pub field : Field
+  pub limits : Limits
+  pub numbers : List ℤ
+
+abbrev pub depthOf : State → Taken
+depthOf s = record { field = Depth; limits = depthLimits; numbers = s .h }
+
+abbrev pub bottomOf : State → Taken
+bottomOf s = record { field = Bottom; limits = bottomLimits; numbers = s .b }
+
+abbrev pub uOf : State → Taken
+uOf s = record { field = VelocityU; limits = velocityLimits; numbers = s .u }
+
+abbrev pub vOf : State → Taken
+vOf s = record { field = VelocityV; limits = velocityLimits; numbers = s .v }
+
+abbrev pub fieldsOf : State → List Taken
+fieldsOf s = depthOf s ∷ bottomOf s ∷ uOf s ∷ vOf s ∷ []
+
+-- beside the state: a potential vorticity q, or an inflow (01: entry s)
+abbrev pub vorticityTaken : List ℤ → List Taken
+vorticityTaken q = record { field = Vorticity; limits = vorticityLimits; numbers = q } ∷ []
+
+abbrev pub inflowTaken : List ℤ → List Taken
+inflowTaken s = record { field = Inflow; limits = inflowLimits; numbers = s } ∷ []
+
+-- the first place outside: fields in their order, then lowest cell
+abbrev pub outside : Taken → ℕ → Bool
+outside f k = not (within (f .limits) (getD (f .numbers) k (pos 0)))
+
+abbrev pub firstOutside : ℕ → List Taken → Option Place
+firstOutside m [] = none
+firstOutside m (f ∷ l) = placed (f .field) (firstFrom (outside f) m 0) (firstOutside m l)
+
+-- ---- the table's causes
+
+-- 1: w, n or kind unknown
+unfoldable pub gridKnown : State → Bool
+gridKnown s = leb 1 (s .w) && leb (s .w) longestSide && leb 1 (s .n) && leb (s .n) longestSide && known (boundaryOf (s .kind))
+
+-- 1: run too long
+unfoldable pub runAllowed : ℕ → Bool
+runAllowed m = leb m longestRun
+
+-- 2: a field's length is not w·n
+unfoldable pub lengthsRight : State → List Taken → Bool
+lengthsRight s extra = all (λ f. eqb (length (f .numbers)) (cells s)) (fieldsOf s ++ extra)
+
+-- 2: work space short, of m numbers
+abbrev pub workLength : State → ℕ
+workLength s = 8 * cells s
+
+unfoldable pub workEnough : State → ℕ → Bool
+workEnough s m = leb (workLength s) m
+
+-- 3: G, c or R outside
+unfoldable pub constantsWithin : State → Bool
+constantsWithin s = within gravityLimits (s .G) && within coriolisLimits (s .c) && within ratioLimits (s .R)
+
+-- 4: a value outside; fields in order h, b, u, v, then q or s; lowest cell
+unfoldable pub valueTest : State → List Taken → Option Refusal
+valueTest s extra = refusedAt Value (firstOutside (cells s) (fieldsOf s ++ extra))
+
+-- 5: velocity on a closed edge, u before v; lowest cell
+abbrev pub moving : State → (State → ℕ → ℕ → Bool) → List ℤ → ℕ → Bool
+moving s closed f k = closed s (k % s .w) (k / s .w) && not (eqℤ (getD f k (pos 0)) (pos 0))
+
+unfoldable pub edgeTest : State → Option Refusal
+edgeTest s =
+    refusedAt ClosedEdge
+    (placed VelocityU (firstFrom (moving s closedWest (s .u)) (cells s) 0)
+    (placed VelocityV (firstFrom (moving s closedSouth (s .v)) (cells s) 0)
+    none))
+
+-- 8: a lent destination too short for m numbers
+unfoldable pub roomTest : ℕ → List ℕ → Option Refusal
+roomTest m rooms = must (all (λ room. leb m room) rooms) Destination
+
+-- ---- in number order
+
+-- tests 3 to 5
+unfoldable pub contentTest : State → List Taken → Option Refusal
+contentTest s extra = must (constantsWithin s) Constants then valueTest s extra then edgeTest s
+
+-- tests 1 to 5; `run` and `work` are what else falls under 1 and 2
+unfoldable pub stateTest : State → List Taken → Bool → Bool → Option Refusal
+stateTest s extra run work = must (gridKnown s && run) Grid then must (lengthsRight s extra && work) Lengths then contentTest s extra
+
+-- tests 1 to 5, then 8, of a call that fills destinations of m numbers
+unfoldable pub callTest : State → List Taken → ℕ → List ℕ → Option Refusal
+callTest s extra m rooms = stateTest s extra true true then roomTest m rooms

@@ -1,0 +1,100 @@
+-- A state, its closed edges, and what it is to be within the limits.
+use mathlib.Core.Bool.{Bool, true, false, cond}
+use mathlib.Core.Path.{_≡_}
+use mathlib.Core.List.{List}
+use Prim.Native.Nat.{ℕ, _*_, _≤_, _<_}
+use lib.Dec.{T, eqb}
+use lib.IntN.{ℤ, pos}
+use lib.ListN.{length, getD}
+use Rattle.model.specs.Numbers.{Limits, Within, depthLimits, bottomLimits, velocityLimits, gravityLimits, coriolisLimits, ratioLimits, longestSide}
+use Rattle.model.specs.Grid.{at}
+use Rattle.model.specs.declared.Parameters.{Parameters}
+use Rattle.model.specs.declared.Boundary.{Boundary}
+use Rattle.model.specs.declared.Boundary.the-variants.{Periodic, Channel, Basin}
+use Rattle.model.specs.declared.BoundaryByte.{BoundaryByte}
+use Rattle.model.specs.declared.BoundaryByte.the-variants.{Known, Unknown}
+
+-- 01's state. G is gravity, c the Coriolis parameter times spacing, R the spacing over the time step.
+-- h is the depth and b the bottom height of a cell, u the velocity at its west edge, v that at its south edge.
+pub record State : Type 0 where
+  pub w : ℕ
+  pub n : ℕ
+  pub kind : ℕ
+  pub G : ℤ
+  pub c : ℤ
+  pub R : ℤ
+  pub h : List ℤ
+  pub b : List ℤ
+  pub u : List ℤ
+  pub v : List ℤ
+
+-- the state that a call takes as parameters and four slices, and its parameters
+abbrev pub stateOf : Parameters → List ℤ → List ℤ → List ℤ → List ℤ → State
+stateOf p h b u v = record { w = p .w; n = p .n; kind = p .kind; G = p .g; c = p .c; R = p .r; h = h; b = b; u = u; v = v }
+
+abbrev pub parametersOf : State → Parameters
+parametersOf s = record { w = s .w; n = s .n; kind = s .kind; g = s .G; c = s .c; r = s .R }
+
+abbrev pub cells : State → ℕ
+cells s = s .w * s .n
+
+-- ---- the boundary (01: seam)
+
+-- the boundary that a kind's number stands for
+unfoldable pub boundaryOf : ℕ → BoundaryByte
+boundaryOf k = cond (eqb k 0) (Known Periodic) (cond (eqb k 1) (Known Channel) (cond (eqb k 2) (Known Basin) Unknown))
+
+abbrev pub known : BoundaryByte → Bool
+known (Known b) = true
+known Unknown = false
+
+-- where a boundary has walls: whether the west edges of column i are closed, and the south edges of row j
+abbrev pub wallWest : BoundaryByte → ℕ → Bool
+wallWest (Known Periodic) i = false
+wallWest (Known Channel) i = false
+wallWest (Known Basin) i = eqb i 0
+wallWest Unknown i = false
+
+abbrev pub wallSouth : BoundaryByte → ℕ → Bool
+wallSouth (Known Periodic) j = false
+wallSouth (Known Channel) j = eqb j 0
+wallSouth (Known Basin) j = eqb j 0
+wallSouth Unknown j = false
+
+-- whether the west edge, and the south edge, of cell (i, j) is closed. All else goes by these two.
+unfoldable pub closedWest : State → ℕ → ℕ → Bool
+closedWest s i j = wallWest (boundaryOf (s .kind)) i
+
+unfoldable pub closedSouth : State → ℕ → ℕ → Bool
+closedSouth s i j = wallSouth (boundaryOf (s .kind)) j
+
+-- no edge is closed: the grid wraps both ways
+pub record OpenEverywhere (s : State) : Type 0 where
+  pub west : (i j : ℕ) → i < s .w → j < s .n → closedWest s i j ≡ false
+  pub south : (i j : ℕ) → i < s .w → j < s .n → closedSouth s i j ≡ false
+
+-- ---- within the limits
+
+pub record Side (w : ℕ) : Type 0 where
+  pub some : 1 ≤ w
+  pub most : w ≤ longestSide
+
+-- m numbers, each within the limits
+pub record FieldWithin (l : Limits) (m : ℕ) (f : List ℤ) : Type 0 where
+  pub long : length f ≡ m
+  pub each : (k : ℕ) → k < m → Within l (getD f k (pos 0))
+
+-- each part meets its bound, each field has w·n numbers, and each closed edge has velocity 0
+pub record WithinLimits (s : State) : Type 0 where
+  pub columns : Side (s .w)
+  pub rows : Side (s .n)
+  pub boundary : T (known (boundaryOf (s .kind)))
+  pub gravity : Within gravityLimits (s .G)
+  pub coriolis : Within coriolisLimits (s .c)
+  pub ratio : Within ratioLimits (s .R)
+  pub depths : FieldWithin depthLimits (cells s) (s .h)
+  pub bottoms : FieldWithin bottomLimits (cells s) (s .b)
+  pub us : FieldWithin velocityLimits (cells s) (s .u)
+  pub vs : FieldWithin velocityLimits (cells s) (s .v)
+  pub still-west : (i j : ℕ) → i < s .w → j < s .n → T (closedWest s i j) → at (s .w) (s .u) i j ≡ pos 0
+  pub still-south : (i j : ℕ) → i < s .w → j < s .n → T (closedSouth s i j) → at (s .w) (s .v) i j ≡ pos 0

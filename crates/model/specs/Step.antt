@@ -1,0 +1,146 @@
+-- The two-pass step, the run, and the work space.
+use mathlib.Core.Bool.{Bool, true, false, cond}
+use mathlib.Core.List.{List, [], _∷_}
+use mathlib.Core.Option.{Option, none, some}
+use Prim.Native.Nat.{ℕ, zero, suc}
+use lib.Dec.{leb}
+use lib.IntN.{ℤ, pos, _+ℤ_, _-ℤ_, _*ℤ_}
+use lib.ListN.{replicate}
+use Rattle.model.specs.Numbers.{rnd}
+use Rattle.model.specs.Grid.{at, byCell, filled}
+use Rattle.model.specs.State.{State, cells}
+use Rattle.model.specs.Answers.{number}
+use Rattle.model.specs.Refusals.{Place, depthOf, uOf, vOf, firstOutside, inflowTaken, runAllowed, workLength, workEnough, stateTest}
+use Rattle.model.specs.Scheme.{fluxU, fluxV, east, north, vorticity, tendencyU, tendencyV}
+use Rattle.model.specs.declared.Refusal.{Refusal}
+use Rattle.model.specs.declared.StepAnswer.{StepAnswer}
+use Rattle.model.specs.declared.StepAnswer.the-variants as S
+use Rattle.model.specs.declared.RunAnswer.{RunAnswer}
+use Rattle.model.specs.declared.RunAnswer.the-variants as R
+
+-- ---- a pass from a base state with the tendencies of a given state
+
+module _ (given : State) where
+  -- the flows through a cell's west and south edge, each rounded once
+  unfoldable pub X : ℕ → ℕ → ℤ
+  X i j = rnd (fluxU given i j) (pos 2 *ℤ given .R)
+
+  unfoldable pub Y : ℕ → ℕ → ℤ
+  Y i j = rnd (fluxV given i j) (pos 2 *ℤ given .R)
+
+  module _ (base : State) where
+    unfoldable pub newDepth : List ℤ → ℕ → ℕ → ℤ
+    newDepth inflow i j =
+        at (base .w) (base .h) i j
+        -ℤ (X (east given i) j -ℤ X i j +ℤ Y i (north given j) -ℤ Y i j)
+        +ℤ at (base .w) inflow i j
+
+    -- q is the given state's own potential vorticity
+    unfoldable pub newU : List ℤ → ℕ → ℕ → ℤ
+    newU q i j = at (base .w) (base .u) i j +ℤ rnd (tendencyU given q i j) (pos 3145728 *ℤ given .R)
+
+    unfoldable pub newV : List ℤ → ℕ → ℕ → ℤ
+    newV q i j = at (base .w) (base .v) i j +ℤ rnd (tendencyV given q i j) (pos 3145728 *ℤ given .R)
+
+unfoldable pub pass : State → State → List ℤ → State
+pass base given inflow =
+    let q = vorticity given in
+    record {
+      w = base .w;
+      n = base .n;
+      kind = base .kind;
+      G = base .G;
+      c = base .c;
+      R = base .R;
+      h = byCell (base .w) (base .n) (newDepth given base inflow);
+      b = base .b;
+      u = byCell (base .w) (base .n) (newU given base q);
+      v = byCell (base .w) (base .n) (newV given base q);
+    }
+
+-- ---- the two-pass step, of a state and an inflow that passed the tests
+
+-- 6: where a pass leaves a bound: h, u, v, then lowest cell
+unfoldable pub leaves : State → Option Place
+leaves s = firstOutside (cells s) (depthOf s ∷ uOf s ∷ vOf s ∷ [])
+
+-- what a step comes to: the state that it leads to, or the pass and the place at which it leaves a bound
+pub data Outcome : Type 0 where
+  moved : State → Outcome
+  stuck : (pass : ℕ) → Place → Outcome
+
+abbrev pub passed : Option Place → ℕ → Outcome → Outcome
+passed none p later = later
+passed (some x) p later = stuck p x
+
+-- the base of both passes is the start state s. Pass 1 uses the start state, pass 2 uses pass 1's result.
+unfoldable pub second : State → State → List ℤ → Outcome
+second s first inflow = let r = pass s first inflow in passed (leaves r) 2 (moved r)
+
+unfoldable pub twoPass : State → List ℤ → Outcome
+twoPass s inflow = let r = pass s s inflow in passed (leaves r) 1 (second s r inflow)
+
+-- ---- the step call; `room` is the length of its work space
+
+unfoldable pub stepTest : State → List ℤ → ℕ → Option Refusal
+stepTest s inflow room = stateTest s (inflowTaken inflow) true (workEnough s room)
+
+abbrev pub stepTold : Outcome → StepAnswer
+stepTold (moved t) = S.Done
+stepTold (stuck p x) = S.OutOfBounds p (x .field) (x .cell)
+
+-- refusal 6 leaves the state before that step
+abbrev pub afterStep : State → Outcome → State
+afterStep s (moved t) = t
+afterStep s (stuck p x) = s
+
+abbrev pub stepAnswerBy : Option Refusal → Outcome → StepAnswer
+stepAnswerBy none o = stepTold o
+stepAnswerBy (some r) o = S.Refused r
+
+abbrev pub stepStateBy : Option Refusal → State → Outcome → State
+stepStateBy none s o = afterStep s o
+stepStateBy (some r) s o = s
+
+-- the answer of a step, and the state that it leaves
+unfoldable pub stepAnswer : State → List ℤ → ℕ → StepAnswer
+stepAnswer s inflow room = stepAnswerBy (stepTest s inflow room) (twoPass s inflow)
+
+unfoldable pub stepState : State → List ℤ → ℕ → State
+stepState s inflow room = stepStateBy (stepTest s inflow room) s (twoPass s inflow)
+
+-- ---- the run call: the step again and again with the same inflow, until its length is reached or the next step is refused with 6
+
+pub record Ran : Type 0 where
+  pub answer : RunAnswer
+  pub state : State
+
+-- by what the next step comes to, after `done` steps
+abbrev pub runOn : (State → Ran) → ℕ → State → Outcome → Ran
+runOn more done s (moved t) = more t
+runOn more done s (stuck p x) = record { answer = R.Stopped done p (x .field) (x .cell); state = s }
+
+-- m steps more, from a state after `done` steps
+unfoldable pub runFrom : ℕ → ℕ → State → List ℤ → Ran
+runFrom zero done s inflow = record { answer = R.Finished done; state = s }
+runFrom (suc m) done s inflow = runOn (λ t. runFrom m (suc done) t inflow) done s (twoPass s inflow)
+
+unfoldable pub runTest : State → List ℤ → ℕ → ℕ → Option Refusal
+runTest s inflow m room = stateTest s (inflowTaken inflow) (runAllowed m) (workEnough s room)
+
+abbrev pub runBy : Option Refusal → State → Ran → Ran
+runBy none s r = r
+runBy (some x) s r = record { answer = R.Refused x; state = s }
+
+-- a run of m steps
+unfoldable pub runOf : State → List ℤ → ℕ → ℕ → Ran
+runOf s inflow m room = let r = runFrom m 0 s inflow in runBy (runTest s inflow m room) s r
+
+-- ---- the work space: once the length test has passed, its first 8w·n numbers are zero after the call, accepted or not
+
+abbrev pub untouched : Option Refusal → Bool
+untouched none = false
+untouched (some r) = leb (number r) 2
+
+unfoldable pub workLeft : Option Refusal → State → List ℤ → List ℤ
+workLeft t s work = cond (untouched t) work (filled (workLength s) (replicate (workLength s) (pos 0)) work)

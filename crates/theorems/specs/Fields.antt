@@ -1,0 +1,46 @@
+-- What stands in a field that was filled cell by cell, and past it. Assumes nothing.
+use mathlib.Core.Path.{_≡_, refl, sym, ap, _∙_}
+use mathlib.Core.List.{List, [], _∷_, _++_}
+use Prim.Native.Nat.{ℕ, zero, suc, _*_, _/_, _%_, _+_, _<_}
+use native.Mathlib.Nat.{not-suc-le-zero, le-of-suc-le-suc, mul-comm}
+use lib.Arith.{digits-lt, digits-div, digits-mod}
+use lib.IntN.{ℤ, pos}
+use lib.ListN.{length, getD, take, drop, List·getD-append}
+use lib.Seq.{take-at, drop-at}
+use Rattle.model.specs.Grid.{tabulate, byCell, filled, at}
+
+module _ {A : Type 0} where
+  pub length-tabulate : (m : ℕ) (f : ℕ → A) → length (tabulate m f) ≡ m
+  length-tabulate zero f = refl
+  length-tabulate (suc m) f = ap suc (length-tabulate m (λ k. f (suc k)))
+
+  pub getD-tabulate : (m : ℕ) (f : ℕ → A) (k : ℕ) (z : A) → k < m → getD (tabulate m f) k z ≡ f k
+  getD-tabulate zero f k z h = absurd (not-suc-le-zero h)
+  getD-tabulate (suc m) f zero z h = refl
+  getD-tabulate (suc m) f (suc k) z h = getD-tabulate m (λ k. f (suc k)) k z (le-of-suc-le-suc h)
+
+  -- the part filled, and the rest
+  pub take-filled : (m : ℕ) (l d : List A) → length l ≡ m → take m (filled m l d) ≡ l
+  take-filled m l d e = take-at l (drop m d) m e
+
+  pub drop-filled : (m : ℕ) (l d : List A) → length l ≡ m → drop m (filled m l d) ≡ drop m d
+  drop-filled m l d e = drop-at l (drop m d) m e
+
+pub length-byCell : (w n : ℕ) (f : ℕ → ℕ → ℤ) → length (byCell w n f) ≡ w * n
+unfolding byCell
+length-byCell w n f = length-tabulate (w * n) (λ k. f (k % w) (k / w))
+
+pub cell-lt : {w n i j : ℕ} → i < w → j < n → j * w + i < w * n
+cell-lt {w} {n} p q = rw (mul-comm w n) (digits-lt q p)
+
+pub getD-byCell : (w n : ℕ) (f : ℕ → ℕ → ℤ) (k : ℕ) → k < w * n → getD (byCell w n f) k (pos 0) ≡ f (k % w) (k / w)
+unfolding byCell
+getD-byCell w n f k l = getD-tabulate (w * n) (λ k. f (k % w) (k / w)) k (pos 0) l
+
+pub at-byCell : (w n : ℕ) (f : ℕ → ℕ → ℤ) (i j : ℕ) → i < w → j < n → at w (byCell w n f) i j ≡ f i j
+at-byCell w n f i j p q =
+    getD-byCell w n f (j * w + i) (cell-lt p q) ∙ ap (λ x. f x ((j * w + i) / w)) (digits-mod j p) ∙ ap (λ y. f i y) (digits-div j p)
+
+-- the first places of a list are what stands there in a longer one
+pub at-filled : (w n : ℕ) (l d : List ℤ) (i j : ℕ) → length l ≡ w * n → i < w → j < n → at w (filled (w * n) l d) i j ≡ at w l i j
+at-filled w n l d i j e p q = List·getD-append l (drop (w * n) d) (pos 0) (j * w + i) (rw e (cell-lt p q))

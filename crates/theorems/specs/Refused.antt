@@ -1,0 +1,114 @@
+-- What a refused call leaves, and what every step and run leaves in its work space. Assumes nothing.
+use mathlib.Core.Path.{_≡_, refl, sym, ap, subst, _∙_}
+use mathlib.Core.Bool.{Bool, true, false, cond}
+use mathlib.Core.List.{List}
+use mathlib.Core.Option.{Option, none, some}
+use Prim.Native.Nat.{ℕ, zero, suc, _≤_, _<_}
+use lib.Dec.{leb}
+use lib.IntN.{ℤ}
+use lib.ListN.{length}
+use borrow.Author.Tests.{le-leb, lt-leb}
+use Rattle.model.specs.State.{State}
+use Rattle.model.specs.Answers.{number}
+use Rattle.model.specs.Step.{Outcome, moved, stuck, twoPass, stepTold, afterStep, stepTest, stepAnswerBy, stepStateBy, stepAnswer, stepState, Ran, runOn, runFrom, runTest, runBy, runOf, untouched, workLeft}
+use Rattle.model.specs.Record.{Decoded, accepted, refused}
+use Rattle.model.specs.Promises.{leftBy, fillAnswer, vorticityTest, tendenciesTest, writeTest, writeAnswer, readAnswer, readInto, readOf}
+use Rattle.model.specs.Claims.{RefusedClaim, WorkClaim, StepWork, RunWork, cleared}
+use Rattle.model.specs.declared.Field.{Field}
+use Rattle.model.specs.declared.Refusal.{Refusal}
+use Rattle.model.specs.declared.StepAnswer.{StepAnswer}
+use Rattle.model.specs.declared.RunAnswer.{RunAnswer}
+use Rattle.model.specs.declared.FillAnswer.the-variants as F
+use Rattle.model.specs.declared.StepAnswer.the-variants as S
+use Rattle.model.specs.declared.RunAnswer.the-variants as R
+use Rattle.model.specs.declared.WriteAnswer.the-variants as W
+use Rattle.model.specs.declared.ReadAnswer.the-variants as G
+use Rattle.theorems.specs.Tests.{differ}
+
+-- ---- destinations
+
+fill-refused : {A : Type 0} {r : Refusal} (o : Option Refusal) (new old : List A) → F.Refused r ≡ fillAnswer o → leftBy o new old ≡ old
+fill-refused none new old h = differ (cc h)
+fill-refused (some x) new old h = refl
+
+write-refused : {r : Refusal} (m : ℕ) (o : Option Refusal) (new old : List ℕ) → W.Refused r ≡ writeAnswer o m → leftBy o new old ≡ old
+write-refused m none new old h = differ (cc h)
+write-refused m (some x) new old h = refl
+
+read-refused : {r : Refusal} (f : State → List ℤ) (x : Decoded) (d : List ℤ) → G.Refused r ≡ readAnswer x → readInto f x d ≡ d
+read-refused f (accepted s t) d h = differ (cc h)
+read-refused f (refused r) d h = refl
+
+-- ---- states
+
+step-refused : {r : Refusal} (s : State) (o : Outcome) (x : Option Refusal) → S.Refused r ≡ stepAnswerBy x o → stepStateBy x s o ≡ s
+step-refused s (moved t) none h = differ (cc h)
+step-refused s (stuck p x) none h = refl
+step-refused s o (some y) h = refl
+
+step-out : {p k : ℕ} {f : Field} (s : State) (o : Outcome) (x : Option Refusal) → S.OutOfBounds p f k ≡ stepAnswerBy x o → stepStateBy x s o ≡ s
+step-out s (moved t) none h = differ (cc h)
+step-out s (stuck p x) none h = refl
+step-out s o (some y) h = refl
+
+-- a run that passes its tests is finished or stopped
+module _ (Q : RunAnswer → Type 0) (finished : (k : ℕ) → Q (R.Finished k)) (stopped : (k p : ℕ) (f : Field) (c : ℕ) → Q (R.Stopped k p f c)) where
+  by-outcome : (more : State → Ran) → ((t : State) → Q (more t .answer)) → (done : ℕ) (s : State) (o : Outcome) → Q (runOn more done s o .answer)
+  by-outcome more h done s (moved t) = h t
+  by-outcome more h done s (stuck p x) = stopped done p (x .field) (x .cell)
+
+  ran : (m done : ℕ) (s : State) (inflow : List ℤ) → Q (runFrom m done s inflow .answer)
+  unfolding runFrom
+  ran zero done s inflow = finished done
+  ran (suc m) done s inflow = by-outcome (λ t. runFrom m (suc done) t inflow) (λ t. ran m (suc done) t inflow) done s (twoPass s inflow)
+
+run-refused : {r : Refusal} (s : State) (x : Option Refusal) (q : Ran) → (R.Refused r ≡ q .answer → ⊥) → R.Refused r ≡ runBy x s q .answer → runBy x s q .state ≡ s
+run-refused s none q n h = absurd (n h)
+run-refused s (some y) q n h = refl
+
+pub refused-leaves : RefusedClaim
+unfolding stepState stepAnswer runOf
+refused-leaves = record {
+  vorticity = λ s d d′ r p. p .fills ∙ fill-refused (vorticityTest s (length d)) _ d (p .answers);
+  tendencies = λ s q dh du dv dh′ du′ dv′ r p.
+      let t = tendenciesTest s q (length dh) (length du) (length dv) in
+      (p .fills-h ∙ fill-refused t _ dh (p .answers), p .fills-u ∙ fill-refused t _ du (p .answers), p .fills-v ∙ fill-refused t _ dv (p .answers));
+  step = λ s s′ inflow work work′ r p. p .steps ∙ step-refused s (twoPass s inflow) (stepTest s inflow (length work)) (p .answers);
+  step-6 = λ s s′ inflow work work′ a k f p. p .steps ∙ step-out s (twoPass s inflow) (stepTest s inflow (length work)) (p .answers);
+  run = λ s s′ inflow work work′ m r p. p .steps ∙ run-refused s (runTest s inflow m (length work)) (runFrom m 0 s inflow) (ran (λ a. R.Refused r ≡ a → ⊥) (λ k h. differ (cc h)) (λ k p f c h. differ (cc h)) m 0 s inflow) (p .answers);
+  write = λ s t d d′ r p. p .fills ∙ write-refused _ (writeTest s (length d)) _ d (p .answers);
+  read = λ rec h b u v h′ b′ u′ v′ r p.
+      let x = readOf rec h b u v in (
+        p .fills-h ∙ read-refused (λ s. s .h) x h (p .answers),
+        p .fills-b ∙ read-refused (λ s. s .b) x b (p .answers),
+        p .fills-u ∙ read-refused (λ s. s .u) x u (p .answers),
+        p .fills-v ∙ read-refused (λ s. s .v) x v (p .answers),
+      );
+}
+
+-- ---- the work space
+
+refused-work : (r : Refusal) (s : State) (work : List ℤ) → (number r ≤ 2 → workLeft (some r) s work ≡ work) × (2 < number r → workLeft (some r) s work ≡ cleared s work)
+unfolding workLeft
+refused-work r s work = (λ h. ap (λ t. cond t work (cleared s work)) (le-leb (number r) 2 h), λ h. ap (λ t. cond t work (cleared s work)) (lt-leb (number r) 2 h))
+
+step-work : (s : State) (work : List ℤ) (x : Option Refusal) (o : Outcome) → StepWork (stepAnswerBy x o) s work (workLeft x s work)
+unfolding workLeft
+step-work s work none (moved t) = refl
+step-work s work none (stuck p y) = refl
+step-work s work (some r) o = refused-work r s work
+
+run-work : (s : State) (work : List ℤ) (x : Option Refusal) (q : Ran) → RunWork (q .answer) s work (workLeft none s work) → RunWork (runBy x s q .answer) s work (workLeft x s work)
+run-work s work none q h = h
+run-work s work (some r) q h = refused-work r s work
+
+pub work-left : WorkClaim
+unfolding stepAnswer runOf workLeft
+work-left = record {
+  step = λ s s′ inflow work work′ answer p.
+      subst (λ a. StepWork a s work work′) (sym (p .answers))
+      (subst (λ l. StepWork (stepAnswer s inflow (length work)) s work l) (sym (p .clears)) (step-work s work (stepTest s inflow (length work)) (twoPass s inflow)));
+  run = λ s s′ inflow work work′ m answer p.
+      subst (λ a. RunWork a s work work′) (sym (p .answers))
+      (subst (λ l. RunWork (runOf s inflow m (length work) .answer) s work l) (sym (p .clears)) (run-work s work (runTest s inflow m (length work)) (runFrom m 0 s inflow) (ran (λ a. RunWork a s work (workLeft none s work)) (λ k. refl) (λ k p f c. refl) m 0 s inflow)));
+}

@@ -1,0 +1,152 @@
+-- A pass takes the tendencies that the public calls fill in; a step leads within the limits, and adds the inflow to total depth.
+-- Assumes nothing.
+use mathlib.Core.Path.{_≡_, refl, sym, ap, ap₂, subst, _∙_}
+use mathlib.Core.Bool.{Bool, true, false, cond, _&&_}
+use mathlib.Core.List.{List, [], _∷_}
+use mathlib.Core.Option.{Option, none, some}
+use Prim.Native.Nat.{ℕ, _*_, _<_}
+use lib.Dec.{T, eqb}
+use lib.IntN.{ℤ, pos, _+ℤ_, _*ℤ_}
+use lib.ListN.{length, take}
+use Rattle.model.specs.Numbers.{rnd, total}
+use Rattle.model.specs.Grid.{at, byCell}
+use Rattle.model.specs.State.{State, cells, closedWest, closedSouth, WithinLimits}
+use Rattle.model.specs.Refusals.{Place, Taken, depthOf, uOf, vOf, firstOutside}
+use Rattle.model.specs.Scheme.{vorticity, Tu, Tv, tendencyU, tendencyV}
+use Rattle.model.specs.Step.{X, Y, newDepth, newU, newV, pass, leaves, Outcome, moved, stuck, passed, second, twoPass}
+use Rattle.model.specs.Claims.{EachWithin, Given, PassClaim, StepClaim}
+use Rattle.theorems.specs.Tests.{and-iff, eq-iff, longEach, each-iff, differ}
+use Rattle.theorems.specs.Fields.{length-byCell, at-byCell}
+use Rattle.theorems.specs.Filling.{tendencies-fill, vorticity-fill}
+use Rattle.theorems.specs.Rounding.{rnd-zero}
+use Rattle.theorems.specs.Depth.{depth-sum}
+
+-- ---- a pass, by the public calls
+
+module _ (base given : State) (du dv : List ℤ) (ew : given .w ≡ base .w) (en : given .n ≡ base .n) (g : Given given du dv) (i j : ℕ) (p : i < base .w) (r : j < base .n) where
+  abbrev q : List ℤ
+  q = take (cells given) (g .q)
+
+  own : q ≡ vorticity given
+  own = vorticity-fill given (g .d) (g .q) (g .vorticity) .first
+
+  given-u : tendencyU given (vorticity given) i j ≡ at (base .w) du i j
+  given-u =
+      ap (λ x. tendencyU given x i j) (sym own)
+      ∙ sym (tendencies-fill given q (g .dh₀) (g .du₀) (g .dv₀) (g .dh) du dv (g .tendencies) .1 i j (subst (λ w. i < w) (sym ew) p) (subst (λ n. j < n) (sym en) r))
+      ∙ ap (λ w. at w du i j) ew
+
+  given-v : tendencyV given (vorticity given) i j ≡ at (base .w) dv i j
+  given-v =
+      ap (λ x. tendencyV given x i j) (sym own)
+      ∙ sym (tendencies-fill given q (g .dh₀) (g .du₀) (g .dv₀) (g .dh) du dv (g .tendencies) .2 i j (subst (λ w. i < w) (sym ew) p) (subst (λ n. j < n) (sym en) r))
+      ∙ ap (λ w. at w dv i j) ew
+
+pub pass-given : PassClaim
+unfolding pass newU newV
+pass-given base given inflow du dv ew en g = (
+  λ i j p r. at-byCell (base .w) (base .n) (newU given base (vorticity given)) i j p r
+      ∙ ap (λ x. at (base .w) (base .u) i j +ℤ rnd x (pos 3145728 *ℤ given .R)) (given-u base given du dv ew en g i j p r),
+  λ i j p r. at-byCell (base .w) (base .n) (newV given base (vorticity given)) i j p r
+      ∙ ap (λ x. at (base .w) (base .v) i j +ℤ rnd x (pos 3145728 *ℤ given .R)) (given-v base given du dv ew en g i j p r),
+)
+
+-- ---- refusal 6 is not given
+
+stuck≢ : {A : Type 0} {p : ℕ} {x : Place} {t : State} → stuck p x ≡ moved t → A
+stuck≢ h = differ (cc h)
+
+passed-on : (o : Option Place) (p : ℕ) (later : Outcome) (t : State) → passed o p later ≡ moved t → (o ≡ none) × (later ≡ moved t)
+passed-on none p later t h = (refl, h)
+passed-on (some x) p later t h = stuck≢ h
+
+same-moved : (s t : State) → moved s ≡ moved t → s ≡ t
+same-moved s t h = cc
+
+-- both passes leave no bound, and the second is what the step comes to
+record Moved (s : State) (inflow : List ℤ) (t : State) : Type 0 where
+  first : leaves (pass s s inflow) ≡ none
+  second : leaves (pass s (pass s s inflow) inflow) ≡ none
+  result : pass s (pass s s inflow) inflow ≡ t
+
+moves : (s t : State) (inflow : List ℤ) → twoPass s inflow ≡ moved t → Moved s inflow t
+unfolding twoPass second
+moves s t inflow h =
+    let r = pass s s inflow in
+    let e = pass s r inflow in
+    let p = passed-on (leaves r) 1 (second s r inflow) t h in
+    let q = passed-on (leaves e) 2 (moved e) t (p .1) in
+    record { first = p .0; second = q .0; result = same-moved e t (q .1) }
+
+-- ---- the limits
+
+closed-rest : (a x b : ℤ) (c : Bool) → a ≡ pos 0 → T c → a +ℤ rnd (cond c (pos 0) x) b ≡ pos 0
+closed-rest a x b true e t = ap₂ _+ℤ_ e (rnd-zero b)
+closed-rest a x b false e t = absurd t
+
+-- the two states have the same closed edges
+record SameWalls (g s : State) : Type 0 where
+  west : (i j : ℕ) → closedWest g i j ≡ closedWest s i j
+  south : (i j : ℕ) → closedSouth g i j ≡ closedSouth s i j
+
+pass-walls : (s g : State) (inflow : List ℤ) → SameWalls (pass s g inflow) s
+unfolding pass closedWest closedSouth
+pass-walls s g inflow = record { west = λ i j. refl; south = λ i j. refl }
+
+module _ (s g : State) (q : List ℤ) (same : SameWalls g s) (l : WithinLimits s) (i j : ℕ) (p : i < s .w) (r : j < s .n) where
+  rests-west : T (closedWest s i j) → newU g s q i j ≡ pos 0
+  unfolding newU tendencyU
+  rests-west t = closed-rest (at (s .w) (s .u) i j) (Tu g q i j) (pos 3145728 *ℤ g .R) (closedWest g i j) (l .still-west i j p r t) (subst T (sym (same .west i j)) t)
+
+  rests-south : T (closedSouth s i j) → newV g s q i j ≡ pos 0
+  unfolding newV tendencyV
+  rests-south t = closed-rest (at (s .w) (s .v) i j) (Tv g q i j) (pos 3145728 *ℤ g .R) (closedSouth g i j) (l .still-south i j p r t) (subst T (sym (same .south i j)) t)
+
+-- a field by cell has a number for each cell
+long-by : (w n : ℕ) (f : ℕ → ℕ → ℤ) (l : Bool) → T l → T (eqb (length (byCell w n f)) (w * n) && l)
+long-by w n f l t = and-iff (eqb (length (byCell w n f)) (w * n)) l .1 (eq-iff (length (byCell w n f)) (w * n) .1 (length-byCell w n f), t)
+
+-- a pass from a state within the limits, with the tendencies of a state that has the same walls, that leaves no bound
+pass-within : (s g : State) (inflow : List ℤ) → SameWalls g s → WithinLimits s → leaves (pass s g inflow) ≡ none → WithinLimits (pass s g inflow)
+unfolding pass leaves
+pass-within s g inflow same l h =
+    let r = pass s g inflow in
+    let q = vorticity g in
+    let fs : List Taken = depthOf r ∷ uOf r ∷ vOf r ∷ [] in
+    let long : T (longEach (cells r) fs) = long-by (s .w) (s .n) (newDepth g s inflow) _ (long-by (s .w) (s .n) (newU g s q) _ (long-by (s .w) (s .n) (newV g s q) true tt)) in
+    let e : EachWithin (cells r) fs = each-iff (cells r) fs .0 (long, h) in
+    record {
+      columns = l .columns;
+      rows = l .rows;
+      boundary = l .boundary;
+      gravity = l .gravity;
+      coriolis = l .coriolis;
+      ratio = l .ratio;
+      depths = e .0;
+      bottoms = l .bottoms;
+      us = e .1 .0;
+      vs = e .1 .1 .0;
+      still-west = λ i j a b t. at-byCell (s .w) (s .n) (newU g s q) i j a b ∙ rests-west s g q same l i j a b (subst T (pass-walls s g inflow .west i j) t);
+      still-south = λ i j a b t. at-byCell (s .w) (s .n) (newV g s q) i j a b ∙ rests-south s g q same l i j a b (subst T (pass-walls s g inflow .south i j) t);
+    }
+
+pub step-within : StepClaim
+step-within s t inflow l h =
+    let m = moves s t inflow h in
+    let same : SameWalls s s = record { west = λ i j. refl; south = λ i j. refl } in (
+      pass-within s s inflow same l (m .first),
+      sym (m .result),
+      subst WithinLimits (m .result) (pass-within s (pass s s inflow) inflow (pass-walls s s inflow) l (m .second)),
+    )
+
+-- ---- total depth
+
+pub step-total : (s t : State) (inflow : List ℤ) → WithinLimits s → length inflow ≡ cells s → twoPass s inflow ≡ moved t → total (t .h) ≡ total (s .h) +ℤ total inflow
+unfolding pass newDepth
+step-total s t inflow l e h =
+    let g = pass s s inflow in
+    ap (λ x. total (x .h)) (sym (moves s t inflow h .result)) ∙ depth-sum (s .w) (s .n) (s .h) inflow (X g) (Y g) (l .depths .long) e
+
+pub step-cells : (s t : State) (inflow : List ℤ) → twoPass s inflow ≡ moved t → cells t ≡ cells s
+unfolding pass
+step-cells s t inflow h = ap cells (sym (moves s t inflow h .result))

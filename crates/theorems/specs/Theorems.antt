@@ -1,0 +1,67 @@
+-- Every theorem: each claim of the model, proved over the promises of the public calls. Assumes nothing.
+use Rattle.model.specs.Claims.{LimitsClaim, AcceptedClaim, RefusedClaim, WorkClaim, RoundingClaim, VorticityClaim, TendenciesAcceptedClaim, TendenciesClaim, PassClaim, StepClaim, RunClaim, RoundTripClaim, RewriteClaim, CompareClaim, EnergyRateClaim, EnergyClaim, EnstrophyClaim, PeriodicEnstrophyClaim, BalanceClaim, TotalDepthClaim, KeptClaim}
+use Rattle.theorems.specs.Limits.{limits-tested, accepted}
+use Rattle.theorems.specs.Refused.{refused-leaves, work-left}
+use Rattle.theorems.specs.Rounding.{rounding}
+use Rattle.theorems.specs.Vorticity.{vorticity-within}
+use Rattle.theorems.specs.Filling.{tendencies-accepted, tendencies-fill}
+use Rattle.theorems.specs.Stepping.{pass-given, step-within}
+use Rattle.theorems.specs.Runs.{run-counts}
+use Rattle.theorems.specs.RoundTrip.{round-trip}
+use Rattle.theorems.specs.Rewrite.{rewritten}
+use Rattle.theorems.specs.Comparing.{comparison}
+use Rattle.theorems.specs.ProductRule.{energy-rate}
+use Rattle.theorems.specs.Rates.{energy-zero, enstrophy-zero, periodic-enstrophy}
+use Rattle.theorems.specs.Histories.{answered, balance, kept}
+
+pub record Theorems : Type 0 where
+  -- demand 1: the full result, or a refusal where its cause holds and only there
+  pub limits : LimitsClaim
+  pub accepted : AcceptedClaim
+  pub refused : RefusedClaim
+  pub work : WorkClaim
+  -- demand 2: the published scheme and 01's rules, at every cell
+  pub rounding : RoundingClaim
+  pub vorticity : VorticityClaim
+  pub tendencies-accepted : TendenciesAcceptedClaim
+  pub tendencies : TendenciesClaim
+  pub pass : PassClaim
+  pub step : StepClaim
+  pub run : RunClaim
+  pub write-then-read : RoundTripClaim
+  pub read-then-write : RewriteClaim
+  pub compare : CompareClaim
+  -- demand 3: what is kept
+  pub energy-rate : EnergyRateClaim
+  pub energy : EnergyClaim
+  pub enstrophy : EnstrophyClaim
+  pub periodic-enstrophy : PeriodicEnstrophyClaim
+  pub total-depth : TotalDepthClaim
+  pub balance : BalanceClaim
+  pub limits-kept : KeptClaim
+
+pub theorems : Theorems
+theorems =
+    record {
+      limits = limits-tested;
+      accepted = accepted;
+      refused = refused-leaves;
+      work = work-left;
+      rounding = rounding;
+      vorticity = vorticity-within;
+      tendencies-accepted = tendencies-accepted;
+      tendencies = tendencies-fill;
+      pass = pass-given;
+      step = step-within;
+      run = run-counts;
+      write-then-read = round-trip;
+      read-then-write = rewritten;
+      compare = comparison;
+      energy-rate = energy-rate;
+      energy = energy-zero;
+      enstrophy = enstrophy-zero;
+      periodic-enstrophy = periodic-enstrophy;
+      total-depth = answered;
+      balance = balance;
+      limits-kept = kept;
+    }

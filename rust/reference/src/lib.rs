@@ -1,0 +1,32 @@
+//! An independent version of the shallow-water core that document 01
+//! specifies: the Arakawa-Lamb C-grid scheme in whole numbers, its two-pass
+//! time step, and the record a state is stored in.
+//!
+//! It was written from 01 alone and is meant to be compared, call by call,
+//! with another version of the same core. 01 decides every question.
+//!
+//! The calls take the scalars of a state as [`Parameters`] and its fields as
+//! slices of `i64`. They take any numbers and any lengths and never panic:
+//! what 01 turns back is returned as a [`Refusal`]. Each answer has a `told`
+//! that gives 01's number and values for it.
+
+#![forbid(unsafe_code)]
+// A call takes a whole state as separate fields, and its destinations too.
+#![allow(clippy::too_many_arguments)]
+
+mod program;
+mod record;
+mod refusal;
+pub mod scheme;
+pub mod state;
+mod stepping;
+
+pub use program::{step_program, INPUT_LIMIT};
+pub use record::{compare, read, record_size, write};
+pub use refusal::{
+    CompareAnswer, Field, FillAnswer, ReadAnswer, Refusal, RunAnswer, StepAnswer, TotalAnswer,
+    WriteAnswer,
+};
+pub use scheme::{energy_rate, enstrophy_rate, potential_vorticity, tendencies};
+pub use state::{Boundary, Parameters, State};
+pub use stepping::{run, step, total_depth, total_energy};

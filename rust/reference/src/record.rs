@@ -1,0 +1,223 @@
+//! The record of a state: writer, reader and comparison.
+//!
+//! A record is a row of fields, each a one-byte tag, a two-byte length and a
+//! value; numbers are big-endian. Tag 1 holds w, n and kind, 2 holds G, c and
+//! R, 3 the timestamp (01: stamp), 4 to 7 hold h, b, u and v.
+
+use std::cmp::Ordering;
+
+use crate::refusal::{CompareAnswer, ReadAnswer, Refusal, WriteAnswer};
+use crate::state::{
+    test_destinations, test_grid, test_state, test_values, Fields, Parameters, State,
+};
+
+const TAGS: usize = 7;
+/// Tag and length of a field.
+const HEAD: usize = 3;
+/// Lengths of the values under tags 1, 2 and 3.
+const FIXED_LENGTHS: [usize; 3] = [3, 12, 8];
+/// Bytes of a cell under tags 4, 5, 6 and 7.
+const CELL_LENGTHS: [usize; 4] = [4, 4, 2, 2];
+
+/// Bytes of a record of so many cells.
+pub const fn record_size(cells: usize) -> usize {
+    44 + 12 * cells
+}
+
+/// Writes the record of a state, by rising tag.
+pub fn write(
+    p: &Parameters,
+    h: &[i64],
+    b: &[i64],
+    u: &[i64],
+    v: &[i64],
+    timestamp: u64,
+    out: &mut [u8],
+) -> WriteAnswer {
+    match try_write(p, Fields { h, b, u, v }, timestamp, out) {
+        Ok(bytes) => WriteAnswer::Written { bytes },
+        Err(refusal) => WriteAnswer::Refused(refusal),
+    }
+}
+
+fn try_write(
+    p: &Parameters,
+    fields: Fields,
+    timestamp: u64,
+    out: &mut [u8],
+) -> Result<usize, Refusal> {
+    let cells = test_state(p, fields, None)?.cells();
+    test_destinations(record_size(cells), [out.len()])?;
+
+    // Every number is within its bound by now, so the casts keep it.
+    let mut writer = Writer { out, at: 0 };
+    writer.head(1, 3);
+    writer.put(&[p.w as u8, p.n as u8, p.kind]);
+    writer.head(2, 12);
+    writer.put_4([p.g, p.c, p.r].iter());
+    writer.head(3, 8);
+    writer.put(&timestamp.to_be_bytes());
+    writer.head(4, 4 * cells);
+    writer.put_4(fields.h.iter());
+    writer.head(5, 4 * cells);
+    writer.put_4(fields.b.iter());
+    writer.head(6, 2 * cells);
+    writer.put_2(fields.u.iter());
+    writer.head(7, 2 * cells);
+    writer.put_2(fields.v.iter());
+    Ok(writer.at)
+}
+
+struct Writer<'a> {
+    out: &'a mut [u8],
+    at: usize,
+}
+
+impl Writer<'_> {
+    fn put(&mut self, bytes: &[u8]) {
+        self.out[self.at..][..bytes.len()].copy_from_slice(bytes);
+        self.at += bytes.len();
+    }
+
+    fn head(&mut self, tag: u8, length: usize) {
+        self.put(&[tag]);
+        self.put(&(length as u16).to_be_bytes());
+    }
+
+    fn put_4<'a>(&mut self, numbers: impl Iterator<Item = &'a i64>) {
+        numbers.for_each(|&x| self.put(&(x as i32).to_be_bytes()));
+    }
+
+    fn put_2<'a>(&mut self, numbers: impl Iterator<Item = &'a i64>) {
+        numbers.for_each(|&x| self.put(&(x as i16).to_be_bytes()));
+    }
+}
+
+/// Reads a record into the first w·n places of four lent fields.
+pub fn read(
+    record: &[u8],
+    h: &mut [i64],
+    b: &mut [i64],
+    u: &mut [i64],
+    v: &mut [i64],
+) -> ReadAnswer {
+    let room = h.len().min(b.len()).min(u.len()).min(v.len());
+    match decode(record, room) {
+        Ok((state, timestamp)) => {
+            let cells = state.h.len();
+            h[..cells].copy_from_slice(&state.h);
+            b[..cells].copy_from_slice(&state.b);
+            u[..cells].copy_from_slice(&state.u);
+            v[..cells].copy_from_slice(&state.v);
+            ReadAnswer::Read {
+                parameters: state.parameters,
+                timestamp,
+            }
+        }
+        Err(refusal) => ReadAnswer::Refused(refusal),
+    }
+}
+
+/// Compares two records, the first tested wholly before the second.
+pub fn compare(first: &[u8], second: &[u8]) -> CompareAnswer {
+    // Nothing is lent, so no grid is too large for it.
+    let decoded = |record, number| {
+        decode(record, usize::MAX).map_err(|refusal| CompareAnswer::Refused {
+            record: number,
+            refusal,
+        })
+    };
+    let (state, timestamp) = match decoded(first, 1) {
+        Ok(decoded) => decoded,
+        Err(answer) => return answer,
+    };
+    let (other_state, other_timestamp) = match decoded(second, 2) {
+        Ok(decoded) => decoded,
+        Err(answer) => return answer,
+    };
+    match timestamp.cmp(&other_timestamp) {
+        Ordering::Greater => CompareAnswer::FirstNewer,
+        Ordering::Less => CompareAnswer::SecondNewer,
+        Ordering::Equal if state == other_state => CompareAnswer::Same,
+        Ordering::Equal => CompareAnswer::Conflict,
+    }
+}
+
+/// The state and timestamp of a record, after tests 7, 1, 2, 8, 3, 4, 5;
+/// `room` is the length of the shortest destination.
+fn decode(record: &[u8], room: usize) -> Result<(State, u64), Refusal> {
+    let [sizes, constants, timestamp, h, b, u, v] = values_by_tag(record)?;
+    let constant = |k: usize| signed(&constants[4 * k..][..4]);
+    let parameters = Parameters {
+        w: usize::from(sizes[0]),
+        n: usize::from(sizes[1]),
+        kind: sizes[2],
+        g: constant(0),
+        c: constant(1),
+        r: constant(2),
+    };
+    let grid = test_grid(&parameters)?;
+    let fields = [h, b, u, v];
+    if fields
+        .iter()
+        .zip(CELL_LENGTHS)
+        .any(|(value, bytes)| value.len() != bytes * grid.cells())
+    {
+        return Err(Refusal::Lengths);
+    }
+    test_destinations(grid.cells(), [room])?;
+    let numbers = |value: &[u8], bytes| value.chunks_exact(bytes).map(signed).collect();
+    let state = State {
+        parameters,
+        h: numbers(h, 4),
+        b: numbers(b, 4),
+        u: numbers(u, 2),
+        v: numbers(v, 2),
+    };
+    test_values(&parameters, grid, state.fields(), None)?;
+    let timestamp = timestamp
+        .iter()
+        .fold(0, |number, &byte| number << 8 | u64::from(byte));
+    Ok((state, timestamp))
+}
+
+/// Test 7: the values under tags 1 to 7, those of 1, 2 and 3 of the right
+/// length.
+fn values_by_tag(record: &[u8]) -> Result<[&[u8]; TAGS], Refusal> {
+    let mut values = [None; TAGS];
+    let mut offset = 0;
+    while offset < record.len() {
+        let damage = Refusal::Record { offset };
+        let [tag, high, low, rest @ ..] = &record[offset..] else {
+            return Err(damage);
+        };
+        let index = usize::from(*tag).wrapping_sub(1);
+        let slot = values.get_mut(index).ok_or(damage)?;
+        if slot.is_some() {
+            return Err(damage);
+        }
+        let length = usize::from(u16::from_be_bytes([*high, *low]));
+        let value = rest.get(..length).ok_or(damage)?;
+        if FIXED_LENGTHS.get(index).is_some_and(|&l| l != length) {
+            return Err(damage);
+        }
+        *slot = Some(value);
+        offset += HEAD + length;
+    }
+    let missing = Refusal::Record { offset };
+    let mut found = [&[][..]; TAGS];
+    for (place, value) in found.iter_mut().zip(values) {
+        *place = value.ok_or(missing)?;
+    }
+    Ok(found)
+}
+
+/// A big-endian number in two's complement.
+#[inline]
+fn signed(bytes: &[u8]) -> i64 {
+    let negative = bytes.first().is_some_and(|&byte| byte >= 0x80);
+    let sign = if negative { -1 } else { 0 };
+    bytes
+        .iter()
+        .fold(sign, |number, &byte| number << 8 | i64::from(byte))
+}

@@ -1,0 +1,290 @@
+//! What the calls answer: refusals (01: turned back) and results.
+//!
+//! `told` gives the list of 01's number and values for an answer. Accepted
+//! calls begin with 0, refused ones with the number of the refusal.
+
+use crate::state::Parameters;
+
+/// A field of numbers, one per cell, that a refusal can name.
+#[derive(Clone, Copy, Debug, PartialEq, Eq, PartialOrd, Ord)]
+pub enum Field {
+    /// h
+    Depth,
+    /// b
+    Bottom,
+    /// u
+    VelocityU,
+    /// v
+    VelocityV,
+    /// q
+    Vorticity,
+    /// s (01: river entry)
+    Inflow,
+}
+
+impl Field {
+    /// The field's place in the order h, b, u, v, q, s.
+    pub fn number(self) -> u8 {
+        match self {
+            Field::Depth => 0,
+            Field::Bottom => 1,
+            Field::VelocityU => 2,
+            Field::VelocityV => 3,
+            Field::Vorticity => 4,
+            Field::Inflow => 5,
+        }
+    }
+}
+
+/// Why a call did nothing. Refusal 6 is not here: only step and run know it,
+/// and it carries a pass.
+#[derive(Clone, Copy, Debug, PartialEq, Eq)]
+pub enum Refusal {
+    /// 1: w, n or kind unknown, or a run too long.
+    Grid,
+    /// 2: a field does not have w·n numbers, or the work space is short.
+    Lengths,
+    /// 3: G, c or R outside its bound.
+    Constants,
+    /// 4: a value outside its bound.
+    Value { field: Field, cell: usize },
+    /// 5: a velocity on a closed edge.
+    ClosedEdge { field: Field, cell: usize },
+    /// 7: a damaged record; `offset` is that of the bad tag, or the record's
+    /// length where a tag is missing.
+    Record { offset: usize },
+    /// 8: a lent destination is too short.
+    Destination,
+}
+
+impl Refusal {
+    /// 01's number for the refusal.
+    pub fn number(&self) -> u8 {
+        match self {
+            Refusal::Grid => 1,
+            Refusal::Lengths => 2,
+            Refusal::Constants => 3,
+            Refusal::Value { .. } => 4,
+            Refusal::ClosedEdge { .. } => 5,
+            Refusal::Record { .. } => 7,
+            Refusal::Destination => 8,
+        }
+    }
+
+    /// The values that 01 returns beside the number.
+    fn values(&self) -> Vec<i128> {
+        match *self {
+            Refusal::Grid | Refusal::Lengths | Refusal::Constants | Refusal::Destination => vec![],
+            Refusal::Value { field, cell } | Refusal::ClosedEdge { field, cell } => {
+                vec![field.number().into(), cell as i128]
+            }
+            Refusal::Record { offset } => vec![offset as i128],
+        }
+    }
+
+    /// The number, then the values.
+    pub fn told(&self) -> Vec<i128> {
+        let mut told = vec![self.number().into()];
+        told.extend(self.values());
+        told
+    }
+}
+
+/// The answer of a call that only fills destinations.
+#[derive(Clone, Copy, Debug, PartialEq, Eq)]
+pub enum FillAnswer {
+    Done,
+    Refused(Refusal),
+}
+
+impl FillAnswer {
+    /// `[0]`, or the refusal.
+    pub fn told(&self) -> Vec<i128> {
+        match self {
+            FillAnswer::Done => vec![0],
+            FillAnswer::Refused(refusal) => refusal.told(),
+        }
+    }
+}
+
+impl From<Result<(), Refusal>> for FillAnswer {
+    fn from(result: Result<(), Refusal>) -> Self {
+        match result {
+            Ok(()) => FillAnswer::Done,
+            Err(refusal) => FillAnswer::Refused(refusal),
+        }
+    }
+}
+
+/// The answer of a step.
+#[derive(Clone, Copy, Debug, PartialEq, Eq)]
+pub enum StepAnswer {
+    Done,
+    /// Refusal 6: this pass (1 or 2) left the bound of this field at this cell.
+    OutOfBounds {
+        pass: u8,
+        field: Field,
+        cell: usize,
+    },
+    Refused(Refusal),
+}
+
+impl StepAnswer {
+    /// `[0]`, `[6, pass, field, cell]`, or the refusal.
+    pub fn told(&self) -> Vec<i128> {
+        match *self {
+            StepAnswer::Done => vec![0],
+            StepAnswer::OutOfBounds { pass, field, cell } => {
+                vec![6, pass.into(), field.number().into(), cell as i128]
+            }
+            StepAnswer::Refused(refusal) => refusal.told(),
+        }
+    }
+}
+
+/// The answer of a run.
+#[derive(Clone, Copy, Debug, PartialEq, Eq)]
+pub enum RunAnswer {
+    /// All the steps asked for were done.
+    Finished {
+        steps: u64,
+    },
+    /// `steps` were done; the next one met refusal 6.
+    Stopped {
+        steps: u64,
+        pass: u8,
+        field: Field,
+        cell: usize,
+    },
+    Refused(Refusal),
+}
+
+impl RunAnswer {
+    /// `[0, steps]`, `[6, pass, field, cell, steps]`, or the refusal.
+    pub fn told(&self) -> Vec<i128> {
+        match *self {
+            RunAnswer::Finished { steps } => vec![0, steps.into()],
+            RunAnswer::Stopped {
+                steps,
+                pass,
+                field,
+                cell,
+            } => vec![
+                6,
+                pass.into(),
+                field.number().into(),
+                cell as i128,
+                steps.into(),
+            ],
+            RunAnswer::Refused(refusal) => refusal.told(),
+        }
+    }
+}
+
+/// The answer of a total.
+#[derive(Clone, Copy, Debug, PartialEq, Eq)]
+pub enum TotalAnswer {
+    Total(i64),
+    Refused(Refusal),
+}
+
+impl TotalAnswer {
+    /// `[0, total]`, or the refusal.
+    pub fn told(&self) -> Vec<i128> {
+        match *self {
+            TotalAnswer::Total(total) => vec![0, total.into()],
+            TotalAnswer::Refused(refusal) => refusal.told(),
+        }
+    }
+}
+
+impl From<Result<i64, Refusal>> for TotalAnswer {
+    fn from(result: Result<i64, Refusal>) -> Self {
+        match result {
+            Ok(total) => TotalAnswer::Total(total),
+            Err(refusal) => TotalAnswer::Refused(refusal),
+        }
+    }
+}
+
+/// The answer of the record writer.
+#[derive(Clone, Copy, Debug, PartialEq, Eq)]
+pub enum WriteAnswer {
+    Written { bytes: usize },
+    Refused(Refusal),
+}
+
+impl WriteAnswer {
+    /// `[0, bytes]`, or the refusal.
+    pub fn told(&self) -> Vec<i128> {
+        match *self {
+            WriteAnswer::Written { bytes } => vec![0, bytes as i128],
+            WriteAnswer::Refused(refusal) => refusal.told(),
+        }
+    }
+}
+
+/// The answer of the record reader.
+#[derive(Clone, Copy, Debug, PartialEq, Eq)]
+pub enum ReadAnswer {
+    Read {
+        parameters: Parameters,
+        timestamp: u64,
+    },
+    Refused(Refusal),
+}
+
+impl ReadAnswer {
+    /// `[0, w, n, kind, G, c, R, timestamp]`, or the refusal.
+    pub fn told(&self) -> Vec<i128> {
+        match *self {
+            ReadAnswer::Read {
+                parameters: p,
+                timestamp,
+            } => vec![
+                0,
+                p.w as i128,
+                p.n as i128,
+                p.kind.into(),
+                p.g.into(),
+                p.c.into(),
+                p.r.into(),
+                timestamp.into(),
+            ],
+            ReadAnswer::Refused(refusal) => refusal.told(),
+        }
+    }
+}
+
+/// The answer of the comparison of two records.
+#[derive(Clone, Copy, Debug, PartialEq, Eq)]
+pub enum CompareAnswer {
+    /// Same state, same timestamp.
+    Same,
+    FirstNewer,
+    SecondNewer,
+    /// One timestamp, different states (01: clash).
+    Conflict,
+    /// `record` is 1 or 2: the record that was refused.
+    Refused {
+        record: u8,
+        refusal: Refusal,
+    },
+}
+
+impl CompareAnswer {
+    /// `[0, 0]` to `[0, 3]`, or the refusal with the record after its number.
+    pub fn told(&self) -> Vec<i128> {
+        match self {
+            CompareAnswer::Same => vec![0, 0],
+            CompareAnswer::FirstNewer => vec![0, 1],
+            CompareAnswer::SecondNewer => vec![0, 2],
+            CompareAnswer::Conflict => vec![0, 3],
+            CompareAnswer::Refused { record, refusal } => {
+                let mut told = vec![refusal.number().into(), (*record).into()];
+                told.extend(refusal.values());
+                told
+            }
+        }
+    }
+}

@@ -1,0 +1,303 @@
+//! A state, its limits, its grid, and refusals 1 to 5 and 8.
+
+use std::ops::RangeInclusive;
+
+use crate::refusal::{Field, Refusal};
+
+/// Least and greatest w and n.
+pub const SIDE: RangeInclusive<usize> = 1..=64;
+/// h, mm
+pub const DEPTH: RangeInclusive<i64> = 1_000..=100_000;
+/// b, mm
+pub const BOTTOM: RangeInclusive<i64> = 0..=100_000;
+/// u and v, mm/s
+pub const VELOCITY: RangeInclusive<i64> = -5_000..=5_000;
+/// q
+pub const VORTICITY: RangeInclusive<i64> = -2_000_000..=2_000_000;
+/// s, mm a step
+pub const INFLOW: RangeInclusive<i64> = -1_000..=1_000;
+/// G, mm/s²
+pub const GRAVITY: RangeInclusive<i64> = 1..=10_000;
+/// c, mm/s
+pub const CORIOLIS: RangeInclusive<i64> = -10_000..=10_000;
+/// R, mm/s
+pub const SPACING_RATE: RangeInclusive<i64> = 1_000..=1_000_000;
+/// Most steps of one run.
+pub const MAX_STEPS: u64 = 10_000;
+/// Work space of a step or run, in numbers per cell.
+pub const WORK_PER_CELL: usize = 8;
+
+/// The scalars of a state. Any numbers may stand here; the calls test them.
+#[derive(Clone, Copy, Debug, PartialEq, Eq)]
+pub struct Parameters {
+    /// Columns.
+    pub w: usize,
+    /// Rows.
+    pub n: usize,
+    /// The byte of a [`Boundary`].
+    pub kind: u8,
+    /// G, gravity in mm/s².
+    pub g: i64,
+    /// Coriolis parameter times spacing, mm/s.
+    pub c: i64,
+    /// R, spacing over time step, mm/s.
+    pub r: i64,
+}
+
+/// A whole state that owns its fields.
+#[derive(Clone, Debug, PartialEq, Eq)]
+pub struct State {
+    pub parameters: Parameters,
+    pub h: Vec<i64>,
+    pub b: Vec<i64>,
+    pub u: Vec<i64>,
+    pub v: Vec<i64>,
+}
+
+impl State {
+    pub(crate) fn fields(&self) -> Fields<'_> {
+        Fields {
+            h: &self.h,
+            b: &self.b,
+            u: &self.u,
+            v: &self.v,
+        }
+    }
+}
+
+/// The four fields of a state, borrowed.
+#[derive(Clone, Copy)]
+pub(crate) struct Fields<'a> {
+    pub h: &'a [i64],
+    pub b: &'a [i64],
+    pub u: &'a [i64],
+    pub v: &'a [i64],
+}
+
+/// What closes the grid (01: the seam). Indices wrap all the same.
+#[derive(Clone, Copy, Debug, PartialEq, Eq)]
+pub enum Boundary {
+    /// Kind 0: no closed edge.
+    Periodic,
+    /// Kind 1: a wall along the south edges of row 0.
+    Channel,
+    /// Kind 2: a wall along the west edges of column 0 as well.
+    Basin,
+}
+
+impl Boundary {
+    pub fn from_byte(kind: u8) -> Option<Self> {
+        match kind {
+            0 => Some(Boundary::Periodic),
+            1 => Some(Boundary::Channel),
+            2 => Some(Boundary::Basin),
+            _ => None,
+        }
+    }
+
+    fn closes_south(self) -> bool {
+        match self {
+            Boundary::Periodic => false,
+            Boundary::Channel | Boundary::Basin => true,
+        }
+    }
+
+    fn closes_west(self) -> bool {
+        match self {
+            Boundary::Periodic | Boundary::Channel => false,
+            Boundary::Basin => true,
+        }
+    }
+}
+
+/// A grid that has passed test 1, so that w·n is at most 4,096.
+#[derive(Clone, Copy, Debug)]
+pub(crate) struct Grid {
+    pub w: usize,
+    pub n: usize,
+    boundary: Boundary,
+}
+
+/// The indices of a cell and of the eight around it; both ways wrap.
+#[derive(Clone, Copy)]
+pub(crate) struct Stencil {
+    pub here: usize,
+    pub east: usize,
+    pub west: usize,
+    pub north: usize,
+    pub south: usize,
+    pub northeast: usize,
+    pub northwest: usize,
+    pub southeast: usize,
+    pub southwest: usize,
+}
+
+impl Grid {
+    pub fn cells(self) -> usize {
+        self.w * self.n
+    }
+
+    /// The row south of row j; it wraps.
+    pub fn row_south(self, j: usize) -> usize {
+        before(j, self.n)
+    }
+
+    #[inline]
+    pub fn stencil(self, i: usize, j: usize) -> Stencil {
+        let (east, west) = (after(i, self.w), before(i, self.w));
+        let row = j * self.w;
+        let north = after(j, self.n) * self.w;
+        let south = before(j, self.n) * self.w;
+        Stencil {
+            here: row + i,
+            east: row + east,
+            west: row + west,
+            north: north + i,
+            south: south + i,
+            northeast: north + east,
+            northwest: north + west,
+            southeast: south + east,
+            southwest: south + west,
+        }
+    }
+
+    /// Visits the cells in index order.
+    #[inline]
+    pub fn for_each(self, mut visit: impl FnMut(Stencil)) {
+        for j in 0..self.n {
+            for i in 0..self.w {
+                visit(self.stencil(i, j));
+            }
+        }
+    }
+
+    /// Writes 0 on the closed edges of a pair of edge fields.
+    pub fn close_edges(self, u: &mut [i64], v: &mut [i64]) {
+        if self.boundary.closes_west() {
+            u.iter_mut().step_by(self.w).for_each(|x| *x = 0);
+        }
+        if self.boundary.closes_south() {
+            v[..self.w].fill(0);
+        }
+    }
+
+    /// Test 5: u before v, lowest cell.
+    fn test_closed_edges(self, u: &[i64], v: &[i64]) -> Result<(), Refusal> {
+        if self.boundary.closes_west() {
+            if let Some(row) = u.iter().step_by(self.w).position(|&x| x != 0) {
+                return Err(Refusal::ClosedEdge {
+                    field: Field::VelocityU,
+                    cell: row * self.w,
+                });
+            }
+        }
+        if self.boundary.closes_south() {
+            if let Some(cell) = v[..self.w].iter().position(|&x| x != 0) {
+                return Err(Refusal::ClosedEdge {
+                    field: Field::VelocityV,
+                    cell,
+                });
+            }
+        }
+        Ok(())
+    }
+}
+
+fn after(i: usize, size: usize) -> usize {
+    if i + 1 == size {
+        0
+    } else {
+        i + 1
+    }
+}
+
+fn before(i: usize, size: usize) -> usize {
+    if i == 0 {
+        size - 1
+    } else {
+        i - 1
+    }
+}
+
+/// A field that a call takes beside the state: q or the inflow.
+pub(crate) type Extra<'a> = Option<(Field, &'a [i64])>;
+
+/// Test 1. w·n may be formed only after it.
+pub(crate) fn test_grid(p: &Parameters) -> Result<Grid, Refusal> {
+    match Boundary::from_byte(p.kind) {
+        Some(boundary) if SIDE.contains(&p.w) && SIDE.contains(&p.n) => Ok(Grid {
+            w: p.w,
+            n: p.n,
+            boundary,
+        }),
+        _ => Err(Refusal::Grid),
+    }
+}
+
+/// Test 2, but for the work space.
+pub(crate) fn test_lengths(grid: Grid, fields: Fields, extra: Extra) -> Result<(), Refusal> {
+    let Fields { h, b, u, v } = fields;
+    let state_fits = [h, b, u, v].iter().all(|f| f.len() == grid.cells());
+    let extra_fits = extra.is_none_or(|(_, values)| values.len() == grid.cells());
+    if state_fits && extra_fits {
+        Ok(())
+    } else {
+        Err(Refusal::Lengths)
+    }
+}
+
+/// Tests 3, 4 and 5; the lengths have been tested.
+pub(crate) fn test_values(
+    p: &Parameters,
+    grid: Grid,
+    fields: Fields,
+    extra: Extra,
+) -> Result<(), Refusal> {
+    if !(GRAVITY.contains(&p.g) && CORIOLIS.contains(&p.c) && SPACING_RATE.contains(&p.r)) {
+        return Err(Refusal::Constants);
+    }
+    let state = [
+        (Field::Depth, fields.h),
+        (Field::Bottom, fields.b),
+        (Field::VelocityU, fields.u),
+        (Field::VelocityV, fields.v),
+    ];
+    for (field, values) in state.into_iter().chain(extra) {
+        if let Some(cell) = first_outside(field, values) {
+            return Err(Refusal::Value { field, cell });
+        }
+    }
+    grid.test_closed_edges(fields.u, fields.v)
+}
+
+/// Tests 1 to 5.
+pub(crate) fn test_state(p: &Parameters, fields: Fields, extra: Extra) -> Result<Grid, Refusal> {
+    let grid = test_grid(p)?;
+    test_lengths(grid, fields, extra)?;
+    test_values(p, grid, fields, extra)?;
+    Ok(grid)
+}
+
+/// Test 8: every destination has at least `needed` places.
+pub(crate) fn test_destinations(
+    needed: usize,
+    lengths: impl IntoIterator<Item = usize>,
+) -> Result<(), Refusal> {
+    if lengths.into_iter().all(|length| length >= needed) {
+        Ok(())
+    } else {
+        Err(Refusal::Destination)
+    }
+}
+
+/// The lowest cell whose value is outside the field's bound.
+pub(crate) fn first_outside(field: Field, values: &[i64]) -> Option<usize> {
+    let bound = match field {
+        Field::Depth => DEPTH,
+        Field::Bottom => BOTTOM,
+        Field::VelocityU | Field::VelocityV => VELOCITY,
+        Field::Vorticity => VORTICITY,
+        Field::Inflow => INFLOW,
+    };
+    values.iter().position(|value| !bound.contains(value))
+}

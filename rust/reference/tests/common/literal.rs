@@ -1,0 +1,303 @@
+//! 01's formulas taken literally: every quantity a function of (i,j) that is
+//! worked out afresh where it is used, wrapped by remainders, in `i128`.
+//!
+//! `Variant` holds the ways in which copies of the scheme go astray, so that
+//! the tests can show that they would notice.
+
+use reference::{Parameters, State};
+
+#[derive(Clone, Copy, Debug, PartialEq)]
+pub struct Variant {
+    /// Rows P, M, E, F over ne, nw, sw, se.
+    pub table: [[i128; 4]; 4],
+    /// The weights beside V(i-1,j+1) from the edge's own cell.
+    pub beta_from_own_cell: bool,
+    /// Depth by a net divergence that is rounded per cell.
+    pub net_divergence: bool,
+    /// The second pass starts from the result of the first.
+    pub second_pass_on_first: bool,
+    /// The second pass keeps the vorticity of the start.
+    pub vorticity_of_start: bool,
+    /// The result of the first pass is returned.
+    pub one_pass: bool,
+    /// Halves are rounded up.
+    pub halves_up: bool,
+}
+
+/// As 01 has it.
+pub const PAPER: Variant = Variant {
+    table: [[2, 1, 2, 1], [1, 2, 1, 2], [1, 1, -1, -1], [-1, 1, 1, -1]],
+    beta_from_own_cell: false,
+    net_divergence: false,
+    second_pass_on_first: false,
+    vorticity_of_start: false,
+    one_pass: false,
+    halves_up: false,
+};
+
+/// Without E and F.
+pub const NO_E_F: Variant = Variant {
+    table: [[2, 1, 2, 1], [1, 2, 1, 2], [0; 4], [0; 4]],
+    ..PAPER
+};
+
+/// Tendencies -D, Tu, Tv, or a new h, u, v.
+#[derive(Clone, Debug, PartialEq)]
+pub struct Three {
+    pub h: Vec<i64>,
+    pub u: Vec<i64>,
+    pub v: Vec<i64>,
+}
+
+impl Variant {
+    pub fn rnd(&self, a: i128, b: i128) -> i128 {
+        if self.halves_up {
+            return (2 * a + b).div_euclid(2 * b);
+        }
+        let nearest = (2 * a.abs() + b) / (2 * b);
+        if a < 0 {
+            -nearest
+        } else {
+            nearest
+        }
+    }
+
+    pub fn vorticity(&self, state: &State) -> Vec<i64> {
+        let l = Literal::new(state, &[], self);
+        l.grid(|i, j| {
+            let z = l.c + l.v(i, j) - l.v(i - 1, j) + l.u(i, j - 1) - l.u(i, j);
+            let depths = l.h(i, j) + l.h(i - 1, j) + l.h(i, j - 1) + l.h(i - 1, j - 1);
+            self.rnd(262_144 * z, depths)
+        })
+    }
+
+    pub fn tendencies(&self, state: &State, q: &[i64]) -> Three {
+        let l = Literal::new(state, q, self);
+        Three {
+            h: l.grid(|i, j| -l.divergence(i, j)),
+            u: l.grid(|i, j| l.tendency_u(i, j)),
+            v: l.grid(|i, j| l.tendency_v(i, j)),
+        }
+    }
+
+    /// The step, or pass, field and cell of refusal 6.
+    pub fn step(&self, start: &State, inflow: &[i64]) -> Result<State, (i128, i128, i128)> {
+        let first_q = self.vorticity(start);
+        let first = self.pass(start, start, &first_q, inflow);
+        test_bounds(1, &first)?;
+        if self.one_pass {
+            return Ok(first);
+        }
+        let q = if self.vorticity_of_start {
+            first_q
+        } else {
+            self.vorticity(&first)
+        };
+        let base = if self.second_pass_on_first {
+            &first
+        } else {
+            start
+        };
+        let second = self.pass(base, &first, &q, inflow);
+        test_bounds(2, &second)?;
+        Ok(second)
+    }
+
+    fn pass(&self, base: &State, given: &State, q: &[i64], inflow: &[i64]) -> State {
+        let r = i128::from(base.parameters.r);
+        let l = Literal::new(given, q, self);
+        let x = |i, j| self.rnd(l.flux_u(i, j), 2 * r);
+        let y = |i, j| self.rnd(l.flux_v(i, j), 2 * r);
+        let flow = l.grid(|i, j| {
+            if self.net_divergence {
+                self.rnd(l.divergence(i, j), 2 * r)
+            } else {
+                x(i + 1, j) - x(i, j) + y(i, j + 1) - y(i, j)
+            }
+        });
+        let du = l.grid(|i, j| self.rnd(l.tendency_u(i, j), 3_145_728 * r));
+        let dv = l.grid(|i, j| self.rnd(l.tendency_v(i, j), 3_145_728 * r));
+        let cells = 0..base.h.len();
+        State {
+            parameters: base.parameters,
+            h: cells
+                .clone()
+                .map(|k| base.h[k] - flow[k] + inflow[k])
+                .collect(),
+            b: base.b.clone(),
+            u: cells.clone().map(|k| base.u[k] + du[k]).collect(),
+            v: cells.map(|k| base.v[k] + dv[k]).collect(),
+        }
+    }
+}
+
+fn test_bounds(pass: i128, state: &State) -> Result<(), (i128, i128, i128)> {
+    let fields = [
+        (0, &state.h, 1_000..=100_000),
+        (2, &state.u, -5_000..=5_000),
+        (3, &state.v, -5_000..=5_000),
+    ];
+    for (field, values, bound) in fields {
+        for (cell, value) in values.iter().enumerate() {
+            if !bound.contains(value) {
+                return Err((pass, field, cell as i128));
+            }
+        }
+    }
+    Ok(())
+}
+
+struct Literal<'a> {
+    p: Parameters,
+    g: i128,
+    c: i128,
+    state: &'a State,
+    q: &'a [i64],
+    variant: &'a Variant,
+}
+
+impl<'a> Literal<'a> {
+    fn new(state: &'a State, q: &'a [i64], variant: &'a Variant) -> Self {
+        let p = state.parameters;
+        Literal {
+            p,
+            g: p.g.into(),
+            c: p.c.into(),
+            state,
+            q,
+            variant,
+        }
+    }
+
+    fn grid(&self, f: impl Fn(i64, i64) -> i128) -> Vec<i64> {
+        (0..self.p.n as i64)
+            .flat_map(|j| (0..self.p.w as i64).map(move |i| (i, j)))
+            .map(|(i, j)| i64::try_from(f(i, j)).expect("fits 64 bits"))
+            .collect()
+    }
+
+    fn at(&self, field: &[i64], i: i64, j: i64) -> i128 {
+        let (w, n) = (self.p.w as i64, self.p.n as i64);
+        field[(j.rem_euclid(n) * w + i.rem_euclid(w)) as usize].into()
+    }
+
+    fn h(&self, i: i64, j: i64) -> i128 {
+        self.at(&self.state.h, i, j)
+    }
+
+    fn u(&self, i: i64, j: i64) -> i128 {
+        self.at(&self.state.u, i, j)
+    }
+
+    fn v(&self, i: i64, j: i64) -> i128 {
+        self.at(&self.state.v, i, j)
+    }
+
+    fn flux_u(&self, i: i64, j: i64) -> i128 {
+        self.u(i, j) * (self.h(i - 1, j) + self.h(i, j))
+    }
+
+    fn flux_v(&self, i: i64, j: i64) -> i128 {
+        self.v(i, j) * (self.h(i, j - 1) + self.h(i, j))
+    }
+
+    fn divergence(&self, i: i64, j: i64) -> i128 {
+        self.flux_u(i + 1, j) - self.flux_u(i, j) + self.flux_v(i, j + 1) - self.flux_v(i, j)
+    }
+
+    fn weight(&self, row: usize, i: i64, j: i64) -> i128 {
+        let [ne, nw, sw, se] = self.variant.table[row];
+        ne * self.at(self.q, i + 1, j + 1)
+            + nw * self.at(self.q, i, j + 1)
+            + sw * self.at(self.q, i, j)
+            + se * self.at(self.q, i + 1, j)
+    }
+
+    fn bernoulli(&self, i: i64, j: i64) -> i128 {
+        self.u(i, j).pow(2)
+            + self.u(i + 1, j).pow(2)
+            + self.v(i, j).pow(2)
+            + self.v(i, j + 1).pow(2)
+            + 4 * self.g * (self.h(i, j) + self.at(&self.state.b, i, j))
+    }
+
+    fn tendency_u(&self, i: i64, j: i64) -> i128 {
+        if self.p.kind == 2 && i == 0 {
+            return 0;
+        }
+        let p = |i, j| self.weight(0, i, j);
+        let m = |i, j| self.weight(1, i, j);
+        let e = |i, j| self.weight(2, i, j);
+        let beta = if self.variant.beta_from_own_cell {
+            m(i, j)
+        } else {
+            m(i - 1, j)
+        };
+        p(i, j) * self.flux_v(i, j + 1)
+            + beta * self.flux_v(i - 1, j + 1)
+            + p(i - 1, j) * self.flux_v(i - 1, j)
+            + m(i, j) * self.flux_v(i, j)
+            - e(i, j) * self.flux_u(i + 1, j)
+            + e(i - 1, j) * self.flux_u(i - 1, j)
+            - 786_432 * (self.bernoulli(i, j) - self.bernoulli(i - 1, j))
+    }
+
+    fn tendency_v(&self, i: i64, j: i64) -> i128 {
+        if self.p.kind != 0 && j == 0 {
+            return 0;
+        }
+        let p = |i, j| self.weight(0, i, j);
+        let m = |i, j| self.weight(1, i, j);
+        let f = |i, j| self.weight(3, i, j);
+        -p(i, j) * self.flux_u(i + 1, j)
+            - m(i, j) * self.flux_u(i, j)
+            - p(i, j - 1) * self.flux_u(i, j - 1)
+            - m(i, j - 1) * self.flux_u(i + 1, j - 1)
+            - f(i, j) * self.flux_v(i, j + 1)
+            + f(i, j - 1) * self.flux_v(i, j - 1)
+            - 786_432 * (self.bernoulli(i, j) - self.bernoulli(i, j - 1))
+    }
+}
+
+/// Four times total energy.
+pub fn energy(state: &State) -> i128 {
+    let l = Literal::new(state, &[], &PAPER);
+    sum(&l, |i, j| {
+        let (h, b) = (l.h(i, j), l.at(&state.b, i, j));
+        (l.h(i - 1, j) + h) * l.u(i, j).pow(2)
+            + (l.h(i, j - 1) + h) * l.v(i, j).pow(2)
+            + 2 * l.g * h * (h + 2 * b)
+    })
+}
+
+/// The scaled energy rate under these tendencies.
+pub fn energy_rate(state: &State, rates: &Three) -> i128 {
+    let l = Literal::new(state, &[], &PAPER);
+    sum(&l, |i, j| {
+        2 * l.flux_u(i, j) * l.at(&rates.u, i, j) + 2 * l.flux_v(i, j) * l.at(&rates.v, i, j)
+            - 1_572_864 * l.bernoulli(i, j) * -l.at(&rates.h, i, j)
+    })
+}
+
+/// The scaled enstrophy rate of this q under these tendencies.
+pub fn enstrophy_rate(state: &State, q: &[i64], rates: &Three) -> i128 {
+    let l = Literal::new(state, q, &PAPER);
+    let (d, tu, tv) = (
+        |i, j| -l.at(&rates.h, i, j),
+        |i, j| l.at(&rates.u, i, j),
+        |i, j| l.at(&rates.v, i, j),
+    );
+    sum(&l, |i, j| {
+        let eta = tv(i, j) - tv(i - 1, j) + tu(i, j - 1) - tu(i, j);
+        let d4 = d(i, j) + d(i - 1, j) + d(i, j - 1) + d(i - 1, j - 1);
+        let q = l.at(q, i, j);
+        q * eta + 3 * q * q * d4
+    })
+}
+
+fn sum(l: &Literal, f: impl Fn(i64, i64) -> i128) -> i128 {
+    (0..l.p.n as i64)
+        .flat_map(|j| (0..l.p.w as i64).map(move |i| (i, j)))
+        .map(|(i, j)| f(i, j))
+        .sum()
+}

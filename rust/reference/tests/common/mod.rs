@@ -1,0 +1,270 @@
+//! What the tests share: a random generator, random states, the limits and
+//! the record written out once more, and 01's formulas in their literal form.
+
+#![allow(dead_code)]
+
+pub mod literal;
+
+use reference::{Parameters, RunAnswer, State, StepAnswer};
+
+/// The splitmix64 generator.
+pub struct Random(u64);
+
+impl Random {
+    pub fn new(seed: u64) -> Self {
+        Random(seed)
+    }
+
+    pub fn next(&mut self) -> u64 {
+        self.0 = self.0.wrapping_add(0x9e37_79b9_7f4a_7c15);
+        let mut z = self.0;
+        z = (z ^ (z >> 30)).wrapping_mul(0xbf58_476d_1ce4_e5b9);
+        z = (z ^ (z >> 27)).wrapping_mul(0x94d0_49bb_1331_11eb);
+        z ^ (z >> 31)
+    }
+
+    /// A number below `bound`.
+    pub fn below(&mut self, bound: usize) -> usize {
+        (self.next() % bound as u64) as usize
+    }
+
+    /// A number from `low` to `high`, both included.
+    pub fn between(&mut self, low: i64, high: i64) -> i64 {
+        low + (self.next() % (high - low + 1) as u64) as i64
+    }
+
+    /// True once in `times`.
+    pub fn once_in(&mut self, times: usize) -> bool {
+        self.below(times) == 0
+    }
+
+    pub fn pick<T: Copy>(&mut self, from: &[T]) -> T {
+        from[self.below(from.len())]
+    }
+}
+
+/// How the numbers of a random state are spread.
+#[derive(Clone, Copy, Debug, PartialEq)]
+pub enum Spread {
+    /// Anywhere within the bounds.
+    Even,
+    /// At a bound.
+    Extreme,
+    /// Either, number by number.
+    Mixed,
+    /// Slow water of nearly even depth and a short time step, so that steps
+    /// are mostly accepted.
+    Calm,
+}
+
+pub const SPREADS: [Spread; 4] = [Spread::Even, Spread::Extreme, Spread::Mixed, Spread::Calm];
+
+/// One number of a field with bounds `low` and `high`.
+fn number(random: &mut Random, spread: Spread, low: i64, high: i64) -> i64 {
+    let at_bound = match spread {
+        Spread::Even | Spread::Calm => false,
+        Spread::Extreme => true,
+        Spread::Mixed => random.once_in(2),
+    };
+    if at_bound {
+        random.pick(&[low, high])
+    } else {
+        random.between(low, high)
+    }
+}
+
+/// So many numbers of a field with bounds `low` and `high`.
+pub fn numbers(random: &mut Random, spread: Spread, count: usize, low: i64, high: i64) -> Vec<i64> {
+    (0..count)
+        .map(|_| number(random, spread, low, high))
+        .collect()
+}
+
+/// Any q within its bound.
+pub fn random_q(random: &mut Random, spread: Spread, count: usize) -> Vec<i64> {
+    numbers(random, spread, count, -2_000_000, 2_000_000)
+}
+
+/// Width and height: mostly up to 8, with single rows and columns, and up to
+/// 64 now and then.
+pub fn random_size(random: &mut Random) -> (usize, usize) {
+    match random.below(100) {
+        0 => (1 + random.below(64), 1 + random.below(64)),
+        1..=10 => (1, 1 + random.below(16)),
+        11..=20 => (1 + random.below(16), 1),
+        _ => (1 + random.below(8), 1 + random.below(8)),
+    }
+}
+
+/// A state within the limits.
+pub fn random_state(
+    random: &mut Random,
+    spread: Spread,
+    (w, n): (usize, usize),
+    kind: u8,
+) -> State {
+    let cells = w * n;
+    let mut state = if spread == Spread::Calm {
+        let depth = random.between(2_000, 60_000);
+        let ripple = random.between(0, depth / 20);
+        let speed = random.between(0, 300);
+        State {
+            parameters: Parameters {
+                w,
+                n,
+                kind,
+                g: random.between(1, 10_000),
+                c: random.between(-100, 100),
+                r: random.between(80_000, 1_000_000),
+            },
+            h: numbers(random, spread, cells, depth - ripple, depth + ripple),
+            b: numbers(random, spread, cells, 0, ripple),
+            u: numbers(random, spread, cells, -speed, speed),
+            v: numbers(random, spread, cells, -speed, speed),
+        }
+    } else {
+        State {
+            parameters: Parameters {
+                w,
+                n,
+                kind,
+                g: number(random, spread, 1, 10_000),
+                c: number(random, spread, -10_000, 10_000),
+                r: number(random, spread, 1_000, 1_000_000),
+            },
+            h: numbers(random, spread, cells, 1_000, 100_000),
+            b: numbers(random, spread, cells, 0, 100_000),
+            u: numbers(random, spread, cells, -5_000, 5_000),
+            v: numbers(random, spread, cells, -5_000, 5_000),
+        }
+    };
+    clear_closed_edges(&mut state);
+    assert!(within_limits(&state), "{state:?}");
+    state
+}
+
+/// A state within the limits of any spread, size and kind.
+pub fn any_state(random: &mut Random) -> State {
+    let spread = random.pick(&SPREADS);
+    let size = random_size(random);
+    let kind = random.below(3) as u8;
+    random_state(random, spread, size, kind)
+}
+
+pub fn clear_closed_edges(state: &mut State) {
+    let p = state.parameters;
+    for k in 0..p.w * p.n {
+        if p.kind == 2 && k % p.w == 0 {
+            state.u[k] = 0;
+        }
+        if p.kind != 0 && k / p.w == 0 {
+            state.v[k] = 0;
+        }
+    }
+}
+
+/// 01's limits of a state, apart from the library.
+pub fn within_limits(state: &State) -> bool {
+    let p = state.parameters;
+    if !(1..=64).contains(&p.w) || !(1..=64).contains(&p.n) || p.kind > 2 {
+        return false;
+    }
+    let cells = p.w * p.n;
+    let inside = |field: &[i64], low, high| {
+        field.len() == cells && field.iter().all(|x| (low..=high).contains(x))
+    };
+    let edges_closed = (0..cells).all(|k| {
+        (p.kind != 2 || k % p.w != 0 || state.u[k] == 0)
+            && (p.kind == 0 || k / p.w != 0 || state.v[k] == 0)
+    });
+    (1..=10_000).contains(&p.g)
+        && (-10_000..=10_000).contains(&p.c)
+        && (1_000..=1_000_000).contains(&p.r)
+        && inside(&state.h, 1_000, 100_000)
+        && inside(&state.b, 0, 100_000)
+        && inside(&state.u, -5_000, 5_000)
+        && inside(&state.v, -5_000, 5_000)
+        && edges_closed
+}
+
+/// The public step on an owned state.
+pub fn step_state(state: &mut State, inflow: &[i64], work: &mut [i64]) -> StepAnswer {
+    reference::step(
+        &state.parameters,
+        &mut state.h,
+        &state.b,
+        &mut state.u,
+        &mut state.v,
+        inflow,
+        work,
+    )
+}
+
+/// The public run on an owned state.
+pub fn run_state(state: &mut State, inflow: &[i64], steps: u64, work: &mut [i64]) -> RunAnswer {
+    reference::run(
+        &state.parameters,
+        &mut state.h,
+        &state.b,
+        &mut state.u,
+        &mut state.v,
+        inflow,
+        steps,
+        work,
+    )
+}
+
+/// The public writer on an owned state, into a record of the right size.
+pub fn written(state: &State, timestamp: u64) -> Vec<u8> {
+    let State {
+        parameters,
+        h,
+        b,
+        u,
+        v,
+    } = state;
+    let mut record = vec![0; 44 + 12 * h.len()];
+    let answer = reference::write(parameters, h, b, u, v, timestamp, &mut record);
+    assert_eq!(answer.told(), [0, record.len() as i128], "{state:?}");
+    record
+}
+
+/// One field of a record.
+pub fn record_field(tag: u8, value: &[u8]) -> Vec<u8> {
+    let mut field = vec![tag];
+    field.extend((value.len() as u16).to_be_bytes());
+    field.extend(value);
+    field
+}
+
+/// The seven fields of a state's record by rising tag, apart from the
+/// library. The state need not be within the limits.
+pub fn record_fields(state: &State, timestamp: u64) -> Vec<Vec<u8>> {
+    let p = state.parameters;
+    let four = |numbers: &[i64]| -> Vec<u8> {
+        numbers
+            .iter()
+            .flat_map(|&x| i32::try_from(x).expect("fits four bytes").to_be_bytes())
+            .collect()
+    };
+    let two = |numbers: &[i64]| -> Vec<u8> {
+        numbers
+            .iter()
+            .flat_map(|&x| i16::try_from(x).expect("fits two bytes").to_be_bytes())
+            .collect()
+    };
+    vec![
+        record_field(1, &[p.w as u8, p.n as u8, p.kind]),
+        record_field(2, &four(&[p.g, p.c, p.r])),
+        record_field(3, &timestamp.to_be_bytes()),
+        record_field(4, &four(&state.h)),
+        record_field(5, &four(&state.b)),
+        record_field(6, &two(&state.u)),
+        record_field(7, &two(&state.v)),
+    ]
+}
+
+/// The record of a state, apart from the library.
+pub fn record_of(state: &State, timestamp: u64) -> Vec<u8> {
+    record_fields(state, timestamp).concat()
+}

@@ -1,0 +1,618 @@
+//! The record: both round trips, tags in any order, every kind of damage, and
+//! the comparison of two records.
+
+mod common;
+
+use common::{any_state, random_state, record_field, record_fields, record_of, written};
+use common::{Random, Spread};
+use reference::{compare, read, CompareAnswer, Parameters, State};
+
+/// A destination place that reading must not touch.
+const KEPT: i64 = -77;
+
+/// Reads into destinations of `room` places. Gives the answer as 01 tells it
+/// and the four destinations.
+fn read_into(record: &[u8], room: usize) -> (Vec<i128>, [Vec<i64>; 4]) {
+    let [mut h, mut b, mut u, mut v] = [(); 4].map(|()| vec![KEPT; room]);
+    let told = read(record, &mut h, &mut b, &mut u, &mut v).told();
+    (told, [h, b, u, v])
+}
+
+/// What reading the record of this state should tell.
+fn told_for(state: &State, timestamp: u64) -> Vec<i128> {
+    let p = state.parameters;
+    let scalars = [p.w as i64, p.n as i64, p.kind.into(), p.g, p.c, p.r];
+    let mut told = vec![0];
+    told.extend(scalars.map(i128::from));
+    told.push(timestamp.into());
+    told
+}
+
+fn random_timestamp(random: &mut Random) -> u64 {
+    match random.below(4) {
+        0 => random.pick(&[0, 1, 1 << 63, u64::MAX]),
+        1 => random.next() >> 32,
+        _ => random.next(),
+    }
+}
+
+/// The record is refused, and no destination is touched.
+fn assert_refused(record: &[u8], expected: &[i128], what: &str) {
+    let (told, fields) = read_into(record, 64);
+    assert_eq!(told, expected, "{what}: {record:?}");
+    for field in fields {
+        assert!(field.iter().all(|&x| x == KEPT), "{what}: {record:?}");
+    }
+}
+
+fn small_state() -> State {
+    State {
+        parameters: Parameters {
+            w: 2,
+            n: 1,
+            kind: 0,
+            g: 9_810,
+            c: -10,
+            r: 1_000,
+        },
+        h: vec![2_000, 3_000],
+        b: vec![0, 17],
+        u: vec![100, -1],
+        v: vec![-50, 5_000],
+    }
+}
+
+#[test]
+fn reading_what_was_written_gives_the_state_back() {
+    let mut random = Random::new(100);
+    for _ in 0..5_000 {
+        let state = any_state(&mut random);
+        let timestamp = random_timestamp(&mut random);
+        let record = written(&state, timestamp);
+        assert_eq!(record, record_of(&state, timestamp), "{state:?}");
+        let cells = state.h.len();
+        let room = cells + random.below(5);
+        let (told, fields) = read_into(&record, room);
+        assert_eq!(told, told_for(&state, timestamp), "{state:?} {timestamp}");
+        for (got, field) in fields.iter().zip([&state.h, &state.b, &state.u, &state.v]) {
+            assert_eq!(&got[..cells], field, "{state:?} {timestamp}");
+            assert!(got[cells..].iter().all(|&x| x == KEPT), "{state:?}");
+        }
+    }
+}
+
+#[test]
+fn writing_keeps_the_rest_of_its_destination() {
+    let state = small_state();
+    let p = &state.parameters;
+    let mut out = vec![0xEE; 44 + 24 + 3];
+    let answer = reference::write(p, &state.h, &state.b, &state.u, &state.v, 5, &mut out);
+    assert_eq!(answer.told(), [0, 68]);
+    assert_eq!(out[..68], record_of(&state, 5));
+    assert_eq!(out[68..], [0xEE; 3]);
+}
+
+#[test]
+fn writing_what_was_read_gives_a_rising_record_back() {
+    let mut random = Random::new(101);
+    for _ in 0..2_000 {
+        let state = any_state(&mut random);
+        let timestamp = random_timestamp(&mut random);
+        let record = record_of(&state, timestamp);
+        let cells = state.h.len();
+        let [mut h, mut b, mut u, mut v] = [(); 4].map(|()| vec![KEPT; cells]);
+        match read(&record, &mut h, &mut b, &mut u, &mut v) {
+            reference::ReadAnswer::Read {
+                parameters,
+                timestamp,
+            } => {
+                let mut out = vec![0; record.len()];
+                let answer =
+                    reference::write(&parameters, &h, &b, &u, &v, timestamp, &mut out).told();
+                assert_eq!(answer, [0, record.len() as i128], "{record:?}");
+                assert_eq!(out, record);
+            }
+            refused => panic!("{refused:?} {record:?}"),
+        }
+    }
+}
+
+#[test]
+fn the_largest_record_has_49_196_bytes() {
+    let mut random = Random::new(102);
+    let state = random_state(&mut random, Spread::Mixed, (64, 64), 2);
+    let record = written(&state, u64::MAX);
+    assert_eq!(record.len(), 49_196);
+    let (told, [h, ..]) = read_into(&record, 4_096);
+    assert_eq!(told, told_for(&state, u64::MAX));
+    assert_eq!(h, state.h);
+}
+
+/// Calls `visit` with every order of the seven fields.
+fn every_order(fields: &mut [Vec<u8>], from: usize, visit: &mut impl FnMut(&[Vec<u8>])) {
+    if from == fields.len() {
+        return visit(fields);
+    }
+    for k in from..fields.len() {
+        fields.swap(from, k);
+        every_order(fields, from + 1, visit);
+        fields.swap(from, k);
+    }
+}
+
+#[test]
+fn tags_in_every_order_read_the_same() {
+    let state = small_state();
+    let rising = record_of(&state, 12);
+    let expected = read_into(&rising, 3);
+    assert_eq!(expected.0, told_for(&state, 12));
+    let mut orders = 0;
+    every_order(&mut record_fields(&state, 12), 0, &mut |fields| {
+        let record = fields.concat();
+        assert_eq!(read_into(&record, 3), expected, "{record:?}");
+        assert_eq!(compare(&rising, &record), CompareAnswer::Same, "{record:?}");
+        orders += 1;
+    });
+    assert_eq!(orders, 5_040);
+}
+
+#[test]
+fn a_record_cut_off_anywhere_is_refused() {
+    let record = record_of(&small_state(), 12);
+    let mut starts = vec![0];
+    for field in record_fields(&small_state(), 12) {
+        starts.push(starts[starts.len() - 1] + field.len());
+    }
+    for length in 0..record.len() {
+        // Cut at the end of a field a tag is missing, else the last one is bad.
+        let offset = *starts
+            .iter()
+            .filter(|&&start| start <= length)
+            .max()
+            .expect("0 is one");
+        let expected = [7, offset as i128];
+        assert_refused(&record[..length], &expected, "cut off");
+        let mut told = vec![7, 1, offset as i128];
+        assert_eq!(compare(&record[..length], &record).told(), told);
+        told[1] = 2;
+        assert_eq!(compare(&record, &record[..length]).told(), told);
+    }
+    assert_eq!(read_into(&record, 2).0[0], 0);
+}
+
+/// The fields of the small state with one of them replaced, and the offset of
+/// that one.
+fn with_field(place: usize, field: Vec<u8>) -> (Vec<u8>, usize) {
+    let mut fields = record_fields(&small_state(), 12);
+    let offset = fields[..place].concat().len();
+    fields[place] = field;
+    (fields.concat(), offset)
+}
+
+#[test]
+fn one_or_two_bytes_left_are_refused() {
+    let whole = record_of(&small_state(), 12);
+    for rest in [&[1][..], &[0], &[9], &[1, 0], &[200, 200]] {
+        let record = [&whole, rest].concat();
+        let expected = [7, whole.len() as i128];
+        assert_refused(&record, &expected, "bytes left");
+        assert_refused(rest, &[7, 0], "nothing else");
+    }
+}
+
+#[test]
+fn an_unknown_tag_is_refused() {
+    for tag in (0..=255).filter(|tag| !(1..=7).contains(tag)) {
+        for place in 0..7 {
+            let mut field = record_fields(&small_state(), 12)[place].clone();
+            field[0] = tag;
+            let (record, offset) = with_field(place, field);
+            assert_refused(&record, &[7, offset as i128], "unknown tag");
+        }
+        let whole = record_of(&small_state(), 12);
+        let record = [whole.clone(), record_field(tag, &[])].concat();
+        let expected = [7, whole.len() as i128];
+        assert_refused(&record, &expected, "unknown tag at the end");
+    }
+}
+
+#[test]
+fn a_repeated_tag_is_refused() {
+    let fields = record_fields(&small_state(), 12);
+    for again in 0..7 {
+        for place in 0..=7 {
+            let mut damaged = fields.clone();
+            damaged.insert(place, fields[again].clone());
+            // The second of the two is the bad one.
+            let second = if place <= again { again + 1 } else { place };
+            let offset = damaged[..second].concat().len();
+            assert_refused(&damaged.concat(), &[7, offset as i128], "repeated tag");
+        }
+        // So is a repeat that is bad in a later way too.
+        let mut record = fields.concat();
+        let offset = record.len();
+        record.extend([again as u8 + 1, 255, 255]);
+        assert_refused(&record, &[7, offset as i128], "repeated tag, past the end");
+    }
+}
+
+#[test]
+fn a_value_past_the_end_is_refused() {
+    let fields = record_fields(&small_state(), 12);
+    for last in 0..7 {
+        let mut order = fields.clone();
+        let field = order.remove(last);
+        let offset = order.concat().len();
+        order.push(field);
+        let good = order.concat();
+        assert_eq!(read_into(&good, 2).0[0], 0);
+        for more in [1, 2, 1_000] {
+            let mut record = good.clone();
+            let length = good.len() - offset - 3 + more;
+            record[offset + 1..offset + 3].copy_from_slice(&(length as u16).to_be_bytes());
+            assert_refused(&record, &[7, offset as i128], "value past the end");
+        }
+    }
+}
+
+#[test]
+fn tags_1_2_and_3_of_a_wrong_length_are_refused() {
+    for (place, right) in [(0, 3), (1, 12), (2, 8)] {
+        for length in (0..30).chain([255, 256, 65_535]) {
+            if length == right {
+                continue;
+            }
+            let field = record_field(place as u8 + 1, &vec![1; length]);
+            let (record, offset) = with_field(place, field);
+            assert_refused(&record, &[7, offset as i128], "wrong length");
+        }
+    }
+}
+
+#[test]
+fn a_missing_tag_is_refused_at_the_records_length() {
+    let fields = record_fields(&small_state(), 12);
+    // Every set of the seven but the whole one.
+    for set in 0..127 {
+        let record: Vec<u8> = (0..7)
+            .filter(|k| set >> k & 1 == 1)
+            .flat_map(|k| fields[k].clone())
+            .collect();
+        let expected = [7, record.len() as i128];
+        assert_refused(&record, &expected, "missing tag");
+    }
+}
+
+#[test]
+fn the_first_bad_tag_is_reported() {
+    let fields = record_fields(&small_state(), 12);
+    // Field 2 unknown, field 5 of a wrong length, the last one missing.
+    let mut damaged = fields[..6].to_vec();
+    damaged[2][0] = 99;
+    let offset = fields[..2].concat().len() as i128;
+    assert_refused(&damaged.concat(), &[7, offset], "two bad tags");
+    // A bad tag goes before a bad grid, length or value.
+    let mut state = small_state();
+    state.parameters.kind = 3;
+    state.h = vec![999];
+    let mut record = record_of(&state, 12);
+    assert_refused(&record, &[1], "bad kind");
+    record.push(1);
+    let expected = [7, record.len() as i128 - 1];
+    assert_refused(&record, &expected, "bad kind, byte left");
+}
+
+#[test]
+fn tags_4_to_7_of_a_wrong_length_are_a_2() {
+    for (place, right) in [(3, 8), (4, 8), (5, 4), (6, 4)] {
+        for length in (0..20).chain([65_535]) {
+            if length == right {
+                continue;
+            }
+            let field = record_field(place as u8 + 1, &vec![0; length]);
+            let (record, _) = with_field(place, field);
+            assert_refused(&record, &[2], "wrong length of a field");
+            let told = compare(&record, &[]).told();
+            assert_eq!(told, [2, 1], "{record:?}");
+        }
+    }
+}
+
+#[test]
+fn reading_tests_7_1_2_8_3_4_5_in_this_order() {
+    // Bad in every way; each cause is then taken away in turn.
+    let mut state = small_state();
+    state.parameters.kind = 2;
+    state.u[0] = 1; // 5
+    state.b[1] = 100_001; // 4
+    state.parameters.g = 0; // 3
+    let room = 1; // 8
+    state.h.push(1_000); // 2
+    state.parameters.w = 0; // 1
+    let damage = [9]; // 7
+
+    let record = [record_of(&state, 1), damage.to_vec()].concat();
+    let expected = vec![7, record.len() as i128 - 1];
+    assert_eq!(read_into(&record, room).0, expected);
+    assert_eq!(read_into(&record_of(&state, 1), room).0, [1]);
+    state.parameters.w = 2;
+    assert_eq!(read_into(&record_of(&state, 1), room).0, [2]);
+    state.h.pop();
+    assert_eq!(read_into(&record_of(&state, 1), room).0, [8]);
+    let record = record_of(&state, 1);
+    let [mut two, mut two_more, mut yet_two, mut one] =
+        [vec![0; 2], vec![0; 2], vec![0; 2], vec![0]];
+    for short in 0..4 {
+        // Each of the four destinations may be the short one.
+        let told = match short {
+            0 => read(&record, &mut one, &mut two, &mut two_more, &mut yet_two),
+            1 => read(&record, &mut two, &mut one, &mut two_more, &mut yet_two),
+            2 => read(&record, &mut two, &mut two_more, &mut one, &mut yet_two),
+            _ => read(&record, &mut two, &mut two_more, &mut yet_two, &mut one),
+        };
+        assert_eq!(told.told(), [8]);
+    }
+    assert_eq!([two, two_more, yet_two, one].concat(), [0; 7]);
+    assert_eq!(read_into(&record, 2).0, [3]);
+    // A comparison lends nothing, so it never meets 8.
+    assert_eq!(compare(&record, &[]).told(), [3, 1]);
+    state.parameters.g = 1;
+    assert_eq!(read_into(&record_of(&state, 1), 2).0, [4, 1, 1]);
+    state.b[1] = 0;
+    assert_eq!(read_into(&record_of(&state, 1), 2).0, [5, 2, 0]);
+    state.u[0] = 0;
+    assert_eq!(read_into(&record_of(&state, 1), 2).0, [5, 3, 0]);
+    state.v = vec![0, 0];
+    assert_eq!(read_into(&record_of(&state, 1), 2).0[0], 0);
+}
+
+#[test]
+fn a_value_is_reported_by_field_and_not_by_place() {
+    let mut state = small_state();
+    state.h[1] = 999;
+    state.b[0] = -1;
+    state.u[1] = 5_001;
+    state.v[0] = -5_001;
+    let mut fields = record_fields(&state, 3);
+    fields.reverse();
+    assert_refused(&fields.concat(), &[4, 0, 1], "h");
+    state.h[1] = 1_000;
+    assert_refused(&record_of(&state, 3), &[4, 1, 0], "b");
+    state.b[0] = 0;
+    assert_refused(&record_of(&state, 3), &[4, 2, 1], "u");
+    state.u[1] = 5_000;
+    assert_refused(&record_of(&state, 3), &[4, 3, 0], "v");
+    state.v[0] = -5_000;
+    assert_eq!(read_into(&record_of(&state, 3), 2).0[0], 0);
+}
+
+#[test]
+fn numbers_of_every_sign_are_read_and_bounded() {
+    // Lowest and highest four-byte and two-byte numbers.
+    for value in [i32::MIN.into(), -1, i32::MAX.into()] {
+        let mut state = small_state();
+        state.h[0] = value;
+        assert_refused(&record_of(&state, 0), &[4, 0, 0], "h");
+        state = small_state();
+        state.b[1] = value;
+        assert_refused(&record_of(&state, 0), &[4, 1, 1], "b");
+        for constant in 0..2 {
+            state = small_state();
+            match constant {
+                0 => state.parameters.g = value,
+                _ => state.parameters.r = value,
+            }
+            assert_refused(&record_of(&state, 0), &[3], "constant");
+        }
+    }
+    for value in [i16::MIN.into(), i16::MAX.into()] {
+        let mut state = small_state();
+        state.u[1] = value;
+        assert_refused(&record_of(&state, 0), &[4, 2, 1], "u");
+        state = small_state();
+        state.v[1] = value;
+        assert_refused(&record_of(&state, 0), &[4, 3, 1], "v");
+    }
+    let mut state = small_state();
+    state.parameters.c = -10_000;
+    state.u = vec![-5_000, 5_000];
+    assert_eq!(read_into(&written(&state, 9), 2).0, told_for(&state, 9));
+}
+
+/// A state that differs from the given one in one number, still within the
+/// limits.
+fn neighbour(random: &mut Random, state: &State) -> State {
+    let moved = |x: i64, high: i64| if x == high { x - 1 } else { x + 1 };
+    let mut other = state.clone();
+    let k = random.below(state.h.len());
+    let p = &mut other.parameters;
+    match random.below(7) {
+        0 => p.g = moved(p.g, 10_000),
+        1 => p.c = moved(p.c, 10_000),
+        2 => p.r = moved(p.r, 1_000_000),
+        3 => other.h[k] = moved(other.h[k], 100_000),
+        4 => other.b[k] = moved(other.b[k], 100_000),
+        // The last cell of a grid of two rows and columns has open edges.
+        5 => *other.u.last_mut().expect("a cell") = moved(*state.u.last().expect("a cell"), 5_000),
+        _ => *other.v.last_mut().expect("a cell") = moved(*state.v.last().expect("a cell"), 5_000),
+    }
+    other
+}
+
+#[test]
+fn comparison_orders_by_timestamp_and_tells_states_apart() {
+    let mut random = Random::new(103);
+    let mut answers = [0; 4];
+    for _ in 0..4_000 {
+        let size = (2 + random.below(4), 2 + random.below(4));
+        let kind = random.below(3) as u8;
+        let spread = random.pick(&common::SPREADS);
+        let first = random_state(&mut random, spread, size, kind);
+        let second = if random.once_in(2) {
+            first.clone()
+        } else {
+            neighbour(&mut random, &first)
+        };
+        let time = random_timestamp(&mut random);
+        let other_time = match random.below(4) {
+            0 | 1 => time,
+            2 => time.wrapping_add(1),
+            _ => random_timestamp(&mut random),
+        };
+        let expected = if time > other_time {
+            CompareAnswer::FirstNewer
+        } else if time < other_time {
+            CompareAnswer::SecondNewer
+        } else if first == second {
+            CompareAnswer::Same
+        } else {
+            CompareAnswer::Conflict
+        };
+        let (a, mut fields) = (written(&first, time), record_fields(&second, other_time));
+        // The order of the tags is not part of the meaning.
+        let (x, y) = (random.below(7), random.below(7));
+        fields.swap(x, y);
+        let b = fields.concat();
+        let got = compare(&a, &b);
+        assert_eq!(got, expected, "{first:?} {time} {second:?} {other_time}");
+        let swapped = match got {
+            CompareAnswer::FirstNewer => CompareAnswer::SecondNewer,
+            CompareAnswer::SecondNewer => CompareAnswer::FirstNewer,
+            other => other,
+        };
+        assert_eq!(compare(&b, &a), swapped, "{first:?} {second:?}");
+        let same = first == second && time == other_time;
+        assert_eq!(got == CompareAnswer::Same, same, "{first:?} {second:?}");
+        assert_eq!(compare(&a, &a), CompareAnswer::Same, "{first:?}");
+        let told = got.told();
+        assert_eq!(told[0], 0);
+        answers[told[1] as usize] += 1;
+    }
+    assert!(answers.iter().all(|&times| times > 200), "{answers:?}");
+}
+
+#[test]
+fn comparison_tells_every_part_of_a_state_apart() {
+    let state = small_state();
+    let record = written(&state, 5);
+    let changes: [fn(&mut State); 9] = [
+        |s| (s.parameters.w, s.parameters.n) = (1, 2),
+        |s| {
+            s.parameters.kind = 1;
+            s.v = vec![0, 0];
+        },
+        |s| s.parameters.g += 1,
+        |s| s.parameters.c += 1,
+        |s| s.parameters.r += 1,
+        |s| s.h[1] += 1,
+        |s| s.b[0] += 1,
+        |s| s.u[0] += 1,
+        |s| s.v[1] -= 1,
+    ];
+    for change in changes {
+        let mut other = state.clone();
+        change(&mut other);
+        let told = |time| compare(&record, &written(&other, time)).told();
+        assert_eq!(told(5), [0, 3], "{other:?}");
+        assert_eq!(told(4), [0, 1], "{other:?}");
+        assert_eq!(told(6), [0, 2], "{other:?}");
+    }
+    // Equal states under two timestamps are told by the newer one.
+    assert_eq!(compare(&record, &written(&state, 4)).told(), [0, 1]);
+    assert_eq!(compare(&record, &written(&state, u64::MAX)).told(), [0, 2]);
+    assert_eq!(compare(&record, &record).told(), [0, 0]);
+}
+
+#[test]
+fn comparison_tells_kinds_apart() {
+    // At rest a state is within the limits under each kind.
+    let mut states = [small_state(), small_state(), small_state()];
+    for (kind, state) in states.iter_mut().enumerate() {
+        state.parameters.kind = kind as u8;
+        (state.u, state.v) = (vec![0, 0], vec![0, 0]);
+    }
+    for first in &states {
+        for second in &states {
+            let same = first.parameters.kind == second.parameters.kind;
+            let expected = if same { [0, 0] } else { [0, 3] };
+            let told = compare(&written(first, 1), &written(second, 1)).told();
+            assert_eq!(told, expected);
+        }
+    }
+}
+
+#[test]
+fn comparison_says_which_record_is_refused() {
+    let good = record_of(&small_state(), 1);
+    type Change = fn(&mut State);
+    let bad: [(Change, &[i128]); 5] = [
+        (|s| s.parameters.n = 65, &[1]),
+        (|s| s.u.push(0), &[2]),
+        (|s| s.parameters.r = 999, &[3]),
+        (|s| s.v[1] = -5_001, &[4, 3, 1]),
+        (|s| s.parameters.kind = 2, &[5, 2, 0]),
+    ];
+    let records: Vec<(Vec<u8>, Vec<i128>)> = bad
+        .iter()
+        .map(|(change, told)| {
+            let mut state = small_state();
+            change(&mut state);
+            (record_of(&state, 1), told.to_vec())
+        })
+        .chain([(vec![1], vec![7, 0])])
+        .collect();
+    let with = |told: &[i128], which: i128| {
+        let mut list = vec![told[0], which];
+        list.extend(&told[1..]);
+        list
+    };
+    for (record, told) in &records {
+        assert_eq!(compare(record, &good).told(), with(told, 1));
+        assert_eq!(compare(&good, record).told(), with(told, 2));
+        for (other, _) in &records {
+            // The first record is tested wholly before the second.
+            assert_eq!(compare(record, other).told(), with(told, 1));
+        }
+    }
+}
+
+#[test]
+fn any_bytes_are_answered() {
+    let mut random = Random::new(104);
+    let mut numbers = [0; 9];
+    for _ in 0..60_000 {
+        // A good record with a few bytes changed, or bytes at random.
+        let mut record = if random.once_in(10) {
+            let length = random.below(90);
+            (0..length).map(|_| random.next() as u8).collect()
+        } else {
+            record_of(&small_state(), random.next())
+        };
+        for _ in 0..random.below(4) {
+            if !record.is_empty() {
+                let place = random.below(record.len());
+                record[place] = random.pick(&[0, 1, 2, 3, 4, 7, 64, 127, 128, 255]);
+            }
+        }
+        let room = random.below(5);
+        let (told, fields) = read_into(&record, room);
+        numbers[told[0] as usize] += 1;
+        if told[0] != 0 {
+            assert!(fields.concat().iter().all(|&x| x == KEPT), "{record:?}");
+        }
+        let other = record_of(&small_state(), 7);
+        let first = compare(&record, &other).told();
+        let second = compare(&other, &record).told();
+        if first[0] == 0 {
+            assert_eq!(second[0], 0, "{record:?}");
+        } else {
+            assert_eq!((first[1], second[1]), (1, 2), "{record:?}");
+            assert_eq!(first[2..], second[2..], "{record:?}");
+        }
+    }
+    // Every number that a reader can give was met.
+    assert!(
+        [0, 1, 2, 3, 4, 5, 7, 8].iter().all(|&k| numbers[k] > 20),
+        "{numbers:?}"
+    );
+}

@@ -1,0 +1,823 @@
+//! The table of refusals, for every call that takes a state: each cause, the
+//! order of causes, the bounds from both sides, and what a refused call
+//! leaves as it was. Refusals of the reader and of the comparison are in
+//! record.rs.
+
+mod common;
+
+use common::literal::PAPER;
+use common::{any_state, numbers, random_state, run_state, step_state, within_limits};
+use common::{Random, Spread};
+use reference::{
+    potential_vorticity, run, step, tendencies, total_depth, total_energy, write, Parameters, State,
+};
+
+#[derive(Clone, Copy, Debug, PartialEq)]
+enum Call {
+    Vorticity,
+    Tendencies,
+    Step,
+    Run,
+    TotalDepth,
+    TotalEnergy,
+    Write,
+}
+
+use Call::{Run, Step, Tendencies, TotalDepth, TotalEnergy, Vorticity, Write};
+
+const ALL: &[Call] = &[
+    Vorticity,
+    Tendencies,
+    Step,
+    Run,
+    TotalDepth,
+    TotalEnergy,
+    Write,
+];
+
+/// Everything that a call can be lent.
+#[derive(Clone, Debug, PartialEq)]
+struct Lent {
+    p: Parameters,
+    h: Vec<i64>,
+    b: Vec<i64>,
+    u: Vec<i64>,
+    v: Vec<i64>,
+    q: Vec<i64>,
+    inflow: Vec<i64>,
+    work: Vec<i64>,
+    steps: u64,
+    vorticity: Vec<i64>,
+    dh: Vec<i64>,
+    du: Vec<i64>,
+    dv: Vec<i64>,
+    timestamp: u64,
+    out: Vec<u8>,
+}
+
+impl Lent {
+    /// A state with good things beside it, destinations longer than needed.
+    fn beside(state: State) -> Self {
+        let cells = state.h.len();
+        Lent {
+            p: state.parameters,
+            h: state.h,
+            b: state.b,
+            u: state.u,
+            v: state.v,
+            q: vec![1; cells],
+            inflow: vec![0; cells],
+            work: vec![71; 8 * cells + 2],
+            steps: 2,
+            vorticity: vec![72; cells + 2],
+            dh: vec![73; cells + 2],
+            du: vec![74; cells + 2],
+            dv: vec![75; cells + 2],
+            timestamp: 76,
+            out: vec![77; 44 + 12 * cells + 2],
+        }
+    }
+
+    /// A closed basin of 3 by 2 cells that every call accepts.
+    fn basin() -> Self {
+        Lent::beside(State {
+            parameters: Parameters {
+                w: 3,
+                n: 2,
+                kind: 2,
+                g: 9_810,
+                c: 10,
+                r: 1_000_000,
+            },
+            h: vec![5_000, 5_100, 5_200, 5_000, 5_050, 5_000],
+            b: vec![0, 1, 2, 3, 4, 5],
+            u: vec![0, 10, -10, 0, 7, 0],
+            v: vec![0, 0, 0, 3, -4, 5],
+        })
+    }
+
+    /// Makes the call and gives its answer as 01 tells it.
+    fn make(&mut self, call: Call) -> Vec<i128> {
+        let Lent { p, h, b, u, v, .. } = self;
+        match call {
+            Vorticity => potential_vorticity(p, h, b, u, v, &mut self.vorticity).told(),
+            Tendencies => {
+                let (dh, du, dv) = (&mut self.dh, &mut self.du, &mut self.dv);
+                tendencies(p, h, b, u, v, &self.q, dh, du, dv).told()
+            }
+            Step => step(p, h, b, u, v, &self.inflow, &mut self.work).told(),
+            Run => run(p, h, b, u, v, &self.inflow, self.steps, &mut self.work).told(),
+            TotalDepth => total_depth(p, h, b, u, v).told(),
+            TotalEnergy => total_energy(p, h, b, u, v).told(),
+            Write => write(p, h, b, u, v, self.timestamp, &mut self.out).told(),
+        }
+    }
+
+    /// What a refusal with this number leaves: all as it was, but that after
+    /// 3 to 6 the part of the work space that is used is clear.
+    fn after_refusal(&self, call: Call, number: i128) -> Self {
+        let mut after = self.clone();
+        if matches!(call, Step | Run) && (3..=6).contains(&number) {
+            after.work[..8 * self.p.w * self.p.n].fill(0);
+        }
+        after
+    }
+
+    fn assert_refused(&self, call: Call, told: &[i128], what: &str) {
+        let mut lent = self.clone();
+        let got = lent.make(call);
+        assert_eq!(got, told, "{call:?}, {what}: {self:?}");
+        let after = self.after_refusal(call, told[0]);
+        assert_eq!(lent, after, "{call:?}, {what}, left changed: {self:?}");
+    }
+
+    /// Tests 1 to 5 and 8 pass; a step may still leave a bound.
+    fn assert_accepted(&self, call: Call, what: &str) {
+        let mut lent = self.clone();
+        let got = lent.make(call);
+        let fine = got[0] == 0 || (matches!(call, Step | Run) && got[0] == 6);
+        assert!(fine, "{call:?}, {what}: {got:?} {self:?}");
+    }
+}
+
+/// A cause of refusal, put into a good call.
+struct Fault {
+    /// The quantity that it changes.
+    what: String,
+    told: Vec<i128>,
+    calls: &'static [Call],
+    apply: Box<dyn Fn(&mut Lent)>,
+}
+
+fn fault(
+    what: &str,
+    told: &[i128],
+    calls: &'static [Call],
+    apply: impl Fn(&mut Lent) + 'static,
+) -> Fault {
+    Fault {
+        what: what.to_string(),
+        told: told.to_vec(),
+        calls,
+        apply: Box::new(apply),
+    }
+}
+
+type Pick = fn(&mut Lent) -> &mut Vec<i64>;
+/// Name, number, bounds, the calls that take it.
+type FieldRow = (&'static str, i128, i64, i64, &'static [Call], Pick);
+
+const FIELDS: [FieldRow; 6] = [
+    ("h", 0, 1_000, 100_000, ALL, |l| &mut l.h),
+    ("b", 1, 0, 100_000, ALL, |l| &mut l.b),
+    ("u", 2, -5_000, 5_000, ALL, |l| &mut l.u),
+    ("v", 3, -5_000, 5_000, ALL, |l| &mut l.v),
+    ("q", 4, -2_000_000, 2_000_000, &[Tendencies], |l| &mut l.q),
+    ("s", 5, -1_000, 1_000, &[Step, Run], |l| &mut l.inflow),
+];
+
+/// Every cause that a call on the basin of 3 by 2 cells can meet.
+fn faults() -> Vec<Fault> {
+    let mut faults = Vec::new();
+    for bad in [0, 65, usize::MAX] {
+        faults.push(fault("w", &[1], ALL, move |l| l.p.w = bad));
+        faults.push(fault("n", &[1], ALL, move |l| l.p.n = bad));
+    }
+    for bad in [3, 255] {
+        faults.push(fault("kind", &[1], ALL, move |l| l.p.kind = bad));
+    }
+    for bad in [10_001, u64::MAX] {
+        faults.push(fault("run length", &[1], &[Run], move |l| l.steps = bad));
+    }
+
+    for (name, _, low, _, calls, pick) in FIELDS {
+        let what = format!("length of {name}");
+        for length in [0, 5, 7, 12] {
+            faults.push(fault(&what, &[2], calls, move |l| {
+                pick(l).resize(length, low)
+            }));
+        }
+    }
+    for length in [0, 1, 47] {
+        faults.push(fault("work space", &[2], &[Step, Run], move |l| {
+            l.work.truncate(length)
+        }));
+    }
+
+    for bad in [0, 10_001, -1, i64::MIN, i64::MAX] {
+        faults.push(fault("G", &[3], ALL, move |l| l.p.g = bad));
+    }
+    for bad in [-10_001, 10_001, i64::MIN, i64::MAX] {
+        faults.push(fault("c", &[3], ALL, move |l| l.p.c = bad));
+    }
+    for bad in [999, 1_000_001, -1_000, i64::MIN, i64::MAX] {
+        faults.push(fault("R", &[3], ALL, move |l| l.p.r = bad));
+    }
+
+    for (name, field, low, high, calls, pick) in FIELDS {
+        for cell in [1, 4, 5] {
+            for bad in [low - 1, high + 1, i64::MIN, i64::MAX] {
+                let what = format!("{name}[{cell}]");
+                faults.push(fault(&what, &[4, field, cell], calls, move |l| {
+                    // A fault of the length may have taken the cell away.
+                    if let Some(value) = pick(l).get_mut(cell as usize) {
+                        *value = bad;
+                    }
+                }));
+            }
+        }
+    }
+
+    let closed: [(&str, i128, &[i128], Pick); 2] = [
+        ("u", 2, &[0, 3], |l| &mut l.u),
+        ("v", 3, &[0, 1, 2], |l| &mut l.v),
+    ];
+    for (name, field, cells, pick) in closed {
+        for &cell in cells {
+            for velocity in [-5_000, -1, 1, 5_000] {
+                let what = format!("{name}[{cell}]");
+                faults.push(fault(&what, &[5, field, cell], ALL, move |l| {
+                    if let Some(value) = pick(l).get_mut(cell as usize) {
+                        *value = velocity;
+                    }
+                }));
+            }
+        }
+    }
+
+    let destinations: [(&str, &[Call], Pick); 4] = [
+        ("destination of q", &[Vorticity], |l| &mut l.vorticity),
+        ("destination of -D", &[Tendencies], |l| &mut l.dh),
+        ("destination of Tu", &[Tendencies], |l| &mut l.du),
+        ("destination of Tv", &[Tendencies], |l| &mut l.dv),
+    ];
+    for (name, calls, pick) in destinations {
+        for length in [0, 5] {
+            faults.push(fault(name, &[8], calls, move |l| pick(l).truncate(length)));
+        }
+    }
+    for length in [0, 44 + 12 * 6 - 1] {
+        faults.push(fault(
+            "destination of the record",
+            &[8],
+            &[Write],
+            move |l| l.out.truncate(length),
+        ));
+    }
+    faults
+}
+
+#[test]
+fn the_good_call_is_accepted() {
+    for &call in ALL {
+        assert_eq!(Lent::basin().make(call)[0], 0, "{call:?}");
+    }
+}
+
+#[test]
+fn each_cause_is_refused_with_its_number_and_leaves_all_as_it_was() {
+    let mut met = vec![[false; 9]; ALL.len()];
+    for fault in faults() {
+        let mut lent = Lent::basin();
+        (fault.apply)(&mut lent);
+        assert_ne!(lent, Lent::basin(), "{}", fault.what);
+        for (k, call) in ALL.iter().enumerate() {
+            if fault.calls.contains(call) {
+                lent.assert_refused(*call, &fault.told, &fault.what);
+                met[k][fault.told[0] as usize] = true;
+            } else {
+                // What a call does not take cannot stop it.
+                lent.assert_accepted(*call, &fault.what);
+            }
+        }
+    }
+    for (call, met) in ALL.iter().zip(met) {
+        let fills = matches!(call, Vorticity | Tendencies | Write);
+        let expected = [false, true, true, true, true, true, false, false, fills];
+        assert_eq!(met, expected, "{call:?}");
+    }
+}
+
+#[test]
+fn of_two_causes_the_first_in_the_table_is_told() {
+    let faults = faults();
+    for (k, first) in faults.iter().enumerate() {
+        for second in &faults[k + 1..] {
+            if first.what == second.what {
+                continue;
+            }
+            let mut lent = Lent::basin();
+            (first.apply)(&mut lent);
+            (second.apply)(&mut lent);
+            // Number, then field, then cell.
+            let told = first.told.clone().min(second.told.clone());
+            let what = format!("{} and {}", first.what, second.what);
+            for call in ALL {
+                if first.calls.contains(call) && second.calls.contains(call) {
+                    lent.assert_refused(*call, &told, &what);
+                }
+            }
+        }
+    }
+}
+
+#[test]
+fn every_bound_itself_is_accepted() {
+    let accepted = |calls: &[Call], what: &str, lent: &Lent| {
+        for &call in calls {
+            lent.assert_accepted(call, what);
+        }
+    };
+    for (w, n) in [(1, 1), (1, 64), (64, 1), (64, 64)] {
+        for kind in 0..3 {
+            let mut random = Random::new(1);
+            let lent = Lent::beside(random_state(&mut random, Spread::Calm, (w, n), kind));
+            accepted(ALL, "sizes and kinds", &lent);
+        }
+    }
+    for (w, n) in [(65, 1), (1, 65), (0, 1), (1, 0)] {
+        for kind in 0..3 {
+            let mut random = Random::new(1);
+            let mut state = random_state(&mut random, Spread::Calm, (1, 1), 0);
+            state.parameters = Parameters {
+                w,
+                n,
+                kind,
+                ..state.parameters
+            };
+            for field in [&mut state.h, &mut state.b, &mut state.u, &mut state.v] {
+                field.resize(w * n, 1_000);
+            }
+            let lent = Lent::beside(state);
+            for &call in ALL {
+                lent.assert_refused(call, &[1], "sizes");
+            }
+        }
+    }
+
+    let constants: [fn(&mut Lent); 6] = [
+        |l| l.p.g = 1,
+        |l| l.p.g = 10_000,
+        |l| l.p.c = -10_000,
+        |l| l.p.c = 10_000,
+        |l| l.p.r = 1_000,
+        |l| l.p.r = 1_000_000,
+    ];
+    for set in constants {
+        let mut lent = Lent::basin();
+        set(&mut lent);
+        accepted(ALL, "constant at its bound", &lent);
+    }
+    for (name, _, low, high, calls, pick) in FIELDS {
+        // Cells 4 and 5 have open edges.
+        for (cell, value) in [(4, low), (4, high), (5, low), (5, high)] {
+            let mut lent = Lent::basin();
+            pick(&mut lent)[cell] = value;
+            accepted(calls, name, &lent);
+        }
+    }
+    for steps in [0, 10_000] {
+        let mut lent = Lent::basin();
+        lent.steps = steps;
+        accepted(&[Run], "run length", &lent);
+    }
+    let mut exact = Lent::basin();
+    exact.work.truncate(48);
+    for destination in [
+        &mut exact.vorticity,
+        &mut exact.dh,
+        &mut exact.du,
+        &mut exact.dv,
+    ] {
+        destination.truncate(6);
+    }
+    exact.out.truncate(44 + 12 * 6);
+    accepted(ALL, "exact lengths", &exact);
+}
+
+#[test]
+fn the_boundary_says_which_edges_are_closed() {
+    for kind in 0..3 {
+        for cell in 0..9 {
+            let (i, j) = (cell % 3, cell / 3);
+            for (field, closed) in [(2, kind == 2 && i == 0), (3, kind != 0 && j == 0)] {
+                let mut state = random_state(&mut Random::new(2), Spread::Calm, (3, 3), kind);
+                (state.u, state.v) = (vec![0; 9], vec![0; 9]);
+                let edges = if field == 2 {
+                    &mut state.u
+                } else {
+                    &mut state.v
+                };
+                edges[cell] = -1;
+                let lent = Lent::beside(state);
+                for &call in ALL {
+                    if closed {
+                        lent.assert_refused(call, &[5, field, cell as i128], "closed edge");
+                    } else {
+                        lent.assert_accepted(call, "open edge");
+                    }
+                }
+            }
+        }
+    }
+}
+
+/// The table of refusals 1 to 5 and 8 over again, by whole scans.
+fn expected_refusal(call: Call, l: &Lent) -> Option<Vec<i128>> {
+    let p = l.p;
+    let small = |size: usize| size.wrapping_sub(1) < 64;
+    if !small(p.w) || !small(p.n) || p.kind > 2 || (call == Run && l.steps > 10_000) {
+        return Some(vec![1]);
+    }
+    let cells = p.w * p.n;
+    let fields: Vec<_> = FIELDS
+        .iter()
+        .filter(|(_, _, _, _, calls, _)| calls.contains(&call))
+        .map(|&(_, field, low, high, _, pick)| (field, low, high, pick(&mut l.clone()).clone()))
+        .collect();
+    let steps = matches!(call, Step | Run);
+    if fields.iter().any(|(_, _, _, values)| values.len() != cells)
+        || (steps && l.work.len() < 8 * cells)
+    {
+        return Some(vec![2]);
+    }
+    if p.g < 1 || p.g > 10_000 || p.c < -10_000 || p.c > 10_000 || p.r < 1_000 || p.r > 1_000_000 {
+        return Some(vec![3]);
+    }
+    for (field, low, high, values) in fields {
+        for (cell, value) in values.into_iter().enumerate() {
+            if value < low || value > high {
+                return Some(vec![4, field, cell as i128]);
+            }
+        }
+    }
+    for cell in 0..cells {
+        if p.kind == 2 && cell % p.w == 0 && l.u[cell] != 0 {
+            return Some(vec![5, 2, cell as i128]);
+        }
+    }
+    for cell in 0..p.w {
+        if p.kind != 0 && l.v[cell] != 0 {
+            return Some(vec![5, 3, cell as i128]);
+        }
+    }
+    let short = match call {
+        Vorticity => l.vorticity.len() < cells,
+        Tendencies => [&l.dh, &l.du, &l.dv].iter().any(|d| d.len() < cells),
+        Write => l.out.len() < 44 + 12 * cells,
+        Step | Run | TotalDepth | TotalEnergy => false,
+    };
+    short.then(|| vec![8])
+}
+
+/// A random call with up to a few numbers or lengths made bad.
+fn random_lent(random: &mut Random) -> Lent {
+    let state = any_state(random);
+    let cells = state.h.len();
+    let mut lent = Lent::beside(state);
+    lent.q = numbers(random, Spread::Mixed, cells, -2_000_000, 2_000_000);
+    lent.inflow = numbers(random, Spread::Mixed, cells, -1_000, 1_000);
+    for _ in 0..random.below(4) {
+        let wild = match random.below(4) {
+            0 => random.pick(&[i64::MIN, i64::MAX, 0, -1]),
+            1 => random.between(-3, 3),
+            2 => random.between(-6_000, 110_000),
+            _ => random.next() as i64,
+        };
+        match random.below(16) {
+            0 if random.once_in(4) => lent.p.w = wild as usize,
+            1 if random.once_in(4) => lent.p.n = wild as usize,
+            2 if random.once_in(4) => lent.p.kind = wild as u8,
+            3 => lent.steps = wild as u64,
+            4 => lent.p.g = wild,
+            5 => lent.p.c = wild,
+            6 => lent.p.r = wild,
+            7 => lent.work.truncate(random.below(9 * cells)),
+            8 => lent.out.truncate(random.below(60 + 12 * cells)),
+            9 => {
+                let destination = match random.below(4) {
+                    0 => &mut lent.vorticity,
+                    1 => &mut lent.dh,
+                    2 => &mut lent.du,
+                    _ => &mut lent.dv,
+                };
+                destination.truncate(random.below(cells + 2));
+            }
+            10 => {
+                let (_, _, low, _, _, pick) = random.pick(&FIELDS);
+                pick(&mut lent).resize(random.below(2 * cells + 1), low);
+            }
+            _ => {
+                // Several bad cells in one field.
+                let (_, _, _, _, _, pick) = random.pick(&FIELDS);
+                for _ in 0..1 + random.below(3) {
+                    let field = pick(&mut lent);
+                    if !field.is_empty() {
+                        let cell = random.below(field.len());
+                        field[cell] = wild;
+                    }
+                }
+            }
+        }
+    }
+    if lent.steps <= 10_000 {
+        lent.steps %= 5;
+    }
+    lent
+}
+
+#[test]
+fn any_numbers_and_lengths_are_answered_by_the_table() {
+    let mut random = Random::new(300);
+    let mut met = [0; 9];
+    for _ in 0..20_000 {
+        let lent = random_lent(&mut random);
+        for &call in ALL {
+            match expected_refusal(call, &lent) {
+                Some(told) => {
+                    met[told[0] as usize] += 1;
+                    lent.assert_refused(call, &told, "at random");
+                }
+                None => met[accepted_call(call, &lent) as usize] += 1,
+            }
+        }
+    }
+    println!("{met:?}");
+    let told = [0, 1, 2, 3, 4, 5, 6, 8];
+    assert!(told.iter().all(|&k| met[k] > 100), "{met:?}");
+}
+
+/// Makes a call that tests 1 to 5 and 8 pass, checks that it changes only
+/// what it is to fill, and gives the number it tells.
+fn accepted_call(call: Call, before: &Lent) -> i128 {
+    let mut after = before.clone();
+    let told = after.make(call);
+    let cells = before.p.w * before.p.n;
+    let size = 44 + 12 * cells;
+    // What was filled is put back; then nothing else may differ.
+    let filled = after.clone();
+    match call {
+        Vorticity => after.vorticity[..cells].copy_from_slice(&before.vorticity[..cells]),
+        Tendencies => {
+            after.dh[..cells].copy_from_slice(&before.dh[..cells]);
+            after.du[..cells].copy_from_slice(&before.du[..cells]);
+            after.dv[..cells].copy_from_slice(&before.dv[..cells]);
+        }
+        Step | Run => {
+            let used = 8 * cells;
+            assert!(after.work[..used].iter().all(|&x| x == 0), "{before:?}");
+            after.work[..used].copy_from_slice(&before.work[..used]);
+            if call == Run || told[0] == 0 {
+                after.h.clone_from(&before.h);
+                after.u.clone_from(&before.u);
+                after.v.clone_from(&before.v);
+            }
+        }
+        TotalDepth | TotalEnergy => {}
+        Write => after.out[..size].copy_from_slice(&before.out[..size]),
+    }
+    assert_eq!(&after, before, "{call:?}");
+    let state = State {
+        parameters: filled.p,
+        h: filled.h,
+        b: filled.b,
+        u: filled.u,
+        v: filled.v,
+    };
+    assert!(within_limits(&state), "{call:?}: {before:?}");
+    match (call, &told[..]) {
+        (Vorticity | Tendencies | Step, [0]) => {}
+        (Run, [0, steps]) => assert_eq!(*steps, before.steps.into()),
+        (Run, [6, 1..=2, 0 | 2 | 3, _, steps]) => assert!(*steps < before.steps.into()),
+        (Step, [6, 1..=2, 0 | 2 | 3, _]) => {}
+        (TotalDepth | TotalEnergy, [0, _]) => {}
+        (Write, [0, bytes]) => assert_eq!(*bytes, size as i128),
+        _ => panic!("{call:?}: {told:?} for {before:?}"),
+    }
+    told[0]
+}
+
+#[test]
+fn huge_numbers_are_answered() {
+    let sizes = [0, 1, 64, 65, 1 << 32, usize::MAX / 8 + 1, usize::MAX];
+    let wild = [i64::MIN, -1, 0, 1, i64::MAX];
+    for w in sizes {
+        for n in sizes {
+            for kind in [0, 2, 255] {
+                for steps in [0, 10_000, u64::MAX] {
+                    for g in wild {
+                        let mut lent = Lent::beside(State {
+                            parameters: Parameters {
+                                w,
+                                n,
+                                kind,
+                                g,
+                                c: g,
+                                r: g,
+                            },
+                            h: wild.to_vec(),
+                            b: vec![],
+                            u: wild.to_vec(),
+                            v: vec![g],
+                        });
+                        lent.steps = steps;
+                        lent.timestamp = steps;
+                        for &call in ALL {
+                            let told = expected_refusal(call, &lent).expect("lengths are bad");
+                            lent.assert_refused(call, &told, "huge");
+                        }
+                    }
+                }
+            }
+        }
+    }
+}
+
+#[test]
+fn a_step_that_leaves_a_bound_is_refused_with_6_and_changes_nothing() {
+    let mut random = Random::new(301);
+    // By pass and field.
+    let mut met = [[0; 4]; 3];
+    for _ in 0..30_000 {
+        let spread = random.pick(&common::SPREADS);
+        let size = (1 + random.below(4), 1 + random.below(4));
+        let kind = random.below(3) as u8;
+        let mut state = random_state(&mut random, spread, size, kind);
+        let cells = state.h.len();
+        let mut inflow = numbers(&mut random, Spread::Mixed, cells, -1_000, 1_000);
+        if spread == Spread::Calm {
+            // Waves too high for the time step, so that the second pass goes
+            // further than the first.
+            let most = random.between(1_500, 20_000);
+            state.h = numbers(&mut random, Spread::Even, cells, 1_500, most);
+            state.parameters.r = random.between(3_000, 20_000);
+            inflow = vec![0; cells];
+        }
+        let before = state.clone();
+        let mut work = vec![9; 8 * cells + 1];
+        let told = step_state(&mut state, &inflow, &mut work).told();
+        if let Err((pass, field, cell)) = PAPER.step(&before, &inflow) {
+            met[pass as usize][field as usize] += 1;
+            assert_eq!(told, [6, pass, field, cell], "{before:?} {inflow:?}");
+            assert_eq!(state, before, "{inflow:?}");
+        } else {
+            assert_eq!(told, [0], "{before:?} {inflow:?}");
+        }
+        assert!(work[..8 * cells].iter().all(|&x| x == 0), "{before:?}");
+        assert_eq!(work[8 * cells], 9);
+    }
+    println!("{met:?}");
+    for pass in 1..=2 {
+        for field in [0, 2, 3] {
+            assert!(met[pass][field] > 10, "{met:?}");
+        }
+    }
+}
+
+#[test]
+fn refusal_6_goes_by_h_then_u_then_v_then_cell() {
+    // Level water of 2 by 2 cells at rest, over a bottom that is steep along
+    // one way or both.
+    let start = |h: i64, b: [i64; 4]| State {
+        parameters: Parameters {
+            w: 2,
+            n: 2,
+            kind: 0,
+            g: 10_000,
+            c: 0,
+            r: 1_000,
+        },
+        h: vec![h; 4],
+        b: b.to_vec(),
+        u: vec![0; 4],
+        v: vec![0; 4],
+    };
+    let told = |mut state: State, inflow: [i64; 4]| {
+        let before = state.clone();
+        let told = step_state(&mut state, &inflow, &mut [0; 32]).told();
+        assert_eq!(state, before);
+        told
+    };
+    let slope_both = [0, 50_000, 60_000, 70_000];
+    let none = [0; 4];
+    assert_eq!(
+        told(start(99_500, slope_both), [0, 0, 0, 1_000]),
+        [6, 1, 0, 3]
+    );
+    assert_eq!(
+        told(start(99_500, slope_both), [0, 600, 0, 600]),
+        [6, 1, 0, 1]
+    );
+    assert_eq!(told(start(99_500, slope_both), none), [6, 1, 2, 0]);
+    assert_eq!(
+        told(start(99_500, [0, 0, 60_000, 60_000]), none),
+        [6, 1, 3, 0]
+    );
+    assert_eq!(told(start(99_500, [9, 9, 9, 60_000]), none), [6, 1, 2, 2]);
+}
+
+#[test]
+fn the_bounds_of_a_pass_are_exact() {
+    let one_cell = |h: i64| State {
+        parameters: Parameters {
+            w: 1,
+            n: 1,
+            kind: 0,
+            g: 9_810,
+            c: 0,
+            r: 1_000,
+        },
+        h: vec![h],
+        b: vec![0],
+        u: vec![0],
+        v: vec![0],
+    };
+    let stepped = |h: i64, inflow: i64| {
+        let mut state = one_cell(h);
+        let told = step_state(&mut state, &[inflow], &mut [0; 8]).told();
+        (told, state.h[0])
+    };
+    assert_eq!(stepped(99_000, 1_000), (vec![0], 100_000));
+    assert_eq!(stepped(99_001, 1_000), (vec![6, 1, 0, 0], 99_001));
+    assert_eq!(stepped(2_000, -1_000), (vec![0], 1_000));
+    assert_eq!(stepped(1_999, -1_000), (vec![6, 1, 0, 0], 1_999));
+
+    // Velocities near their bound in turning water.
+    let mut random = Random::new(302);
+    let (mut at_bound, mut past) = ([0; 2], [0; 3]);
+    for _ in 0..20_000 {
+        let mut state = one_cell(random.between(1_000, 100_000));
+        state.parameters.c = random.between(-10_000, 10_000);
+        state.parameters.r = random.between(100_000, 1_000_000);
+        state.u[0] = random.pick(&[-1, 1]) * random.between(4_990, 5_000);
+        state.v[0] = random.between(-100, 100);
+        if random.once_in(2) {
+            (state.u, state.v) = (state.v, state.u);
+        }
+        let before = state.clone();
+        let told = step_state(&mut state, &[0], &mut [0; 8]).told();
+        match PAPER.step(&before, &[0]) {
+            Ok(after) => {
+                assert_eq!((told, &state), (vec![0], &after), "{before:?}");
+                at_bound[0] += usize::from(after.u[0].abs() == 5_000);
+                at_bound[1] += usize::from(after.v[0].abs() == 5_000);
+            }
+            Err((pass, field, cell)) => {
+                assert_eq!(told, [6, pass, field, cell], "{before:?}");
+                past[pass as usize] += 1;
+            }
+        }
+    }
+    println!("{at_bound:?} {past:?}");
+    assert!(at_bound.iter().all(|&times| times > 50), "{at_bound:?}");
+    assert!(past[1] > 50, "{past:?}");
+}
+
+#[test]
+fn a_run_stops_before_the_step_that_leaves_a_bound() {
+    // 1,000 mm enter at each step: 95 steps lead from 5,000 to 100,000.
+    let mut state = State {
+        parameters: Parameters {
+            w: 1,
+            n: 1,
+            kind: 0,
+            g: 9_810,
+            c: 0,
+            r: 1_000,
+        },
+        h: vec![5_000],
+        b: vec![0],
+        u: vec![0],
+        v: vec![0],
+    };
+    let mut work = [5; 9];
+    let told = run_state(&mut state, &[1_000], 95, &mut work).told();
+    assert_eq!((told, state.h[0]), (vec![0, 95], 100_000));
+    state.h[0] = 5_000;
+    work = [5; 9];
+    let told = run_state(&mut state, &[1_000], 96, &mut work).told();
+    assert_eq!((told, state.h[0]), (vec![6, 1, 0, 0, 95], 100_000));
+    assert_eq!(work, [0, 0, 0, 0, 0, 0, 0, 0, 5]);
+    let told = run_state(&mut state, &[1_000], 10_000, &mut work).told();
+    assert_eq!((told, state.h[0]), (vec![6, 1, 0, 0, 0], 100_000));
+    let told = run_state(&mut state, &[-1_000], 10_000, &mut work).told();
+    assert_eq!((told, state.h[0]), (vec![6, 1, 0, 0, 99], 1_000));
+}
+
+#[test]
+fn a_run_of_no_steps_still_tests_and_clears() {
+    let mut lent = Lent::basin();
+    lent.steps = 0;
+    let mut after = lent.clone();
+    after.work[..48].fill(0);
+    let mut made = lent.clone();
+    assert_eq!(made.make(Run), [0, 0]);
+    assert_eq!(made, after);
+    for fault in faults() {
+        if fault.calls.contains(&Run) {
+            let mut bad = lent.clone();
+            (fault.apply)(&mut bad);
+            bad.assert_refused(Run, &fault.told, &fault.what);
+        }
+    }
+}
