@@ -1,17 +1,25 @@
+-- Document 01 as definitions, in the order in which it is best read.
+
+-- rounding, bounds and tests; the grid and its wrap; the state, its boundary and its limits
 pub mod Numbers
 pub mod Grid
 pub mod State
+-- 01's number and values of each answer; the table of refusals
 pub mod Answers
 pub mod Refusals
+-- the scheme: weights, potential vorticity, tendencies; the rates that the theorems speak of; totals
 pub mod Weights
 pub mod Scheme
 pub mod Rates
 pub mod Totals
+-- two-pass step, run and work space; record; step program
 pub mod Step
 pub mod Record
 pub mod Program
+-- what each call promises; lists of calls; the theorems as statements
 pub mod Promises
 pub mod Histories
+pub mod Claims
+-- the worked examples, computed
 pub mod Opened
 pub mod Examples
-pub mod Claims
