@@ -4,15 +4,15 @@
 -- The sum over the torus of a monomial does not change when the monomial is moved, so each is moved as far west and south as it goes
 -- (`canon`), and a sum is zero where the coefficients then are (`grid-law`). Assumes nothing.
 use mathlib.Core.Path.{_≡_, refl, sym, _∙_, ap, fun-ext}
-use mathlib.Core.Bool.{Bool, true, false, not}
+use mathlib.Core.Bool.{Bool, true, false}
 use mathlib.Core.List.{List, [], _∷_}
-use Prim.Native.Nat.{ℕ, zero, suc, _+_, _-_, _*_, _/_, _%_, _<_, _≤_, min}
+use Prim.Native.Nat.{ℕ, zero, suc, _+_, _-_, _*_, _/_, _%_, _<_, min}
 use native.Mathlib.Nat.{mod-add-mod, add-mod-right}
 use native.Mathlib.Omega.{arith}
 use lib.Dec.{T, ltb, eqb, eqb→eq}
 use lib.ListN.{getD}
-use lib.IntN.{ℤ, pos, negsuc, _+ℤ_, _-ℤ_, _*ℤ_, +ℤ-idl, +ℤ-idr}
-use Rattle.integers.specs.Ring.{Expr, var, _⊕_, _⊖_, _⊜_, Identity, ring, den, Mono, Terms, none, term, terms, pure, leaf, gather, zeros, _and_, and-l, and-r, dm, dt, dr, terms-den, gather-den, zeros-den}
+use lib.IntN.{ℤ, pos, _+ℤ_, _-ℤ_, _*ℤ_, +ℤ-idl, +ℤ-idr}
+use Rattle.integers.specs.Ring.{Expr, var, _⊕_, _⊖_, _⊜_, Identity, ring, den, Mono, Terms, none, term, terms, pure, leaf, gather, zeros, _and_, and-l, and-r, dm, dt, terms-den, gather-den, zeros-den}
 use Rattle.grid.specs.Sums.{grid, grid-cong, grid-zero, grid-add, grid-shift, east, west}
 
 abbrev pub scalar : ℕ → Expr

@@ -6,8 +6,8 @@ use mathlib.Core.List.{List, [], _∷_}
 use Prim.Native.Nat.{ℕ, zero, suc, _^_, compare, Ordering, Ordering·lt, Ordering·eq, Ordering·gt}
 use lib.Dec.{T, leb, isEq, eqb→eq}
 use lib.Signed.{quotZ, shrZ}
-use lib.IntN.{ℤ, pos, negsuc, negℤ, _+ℤ_, _-ℤ_, _*ℤ_, +ℤ-assoc, +ℤ-comm, +ℤ-idl, +ℤ-idr, zero-*ℤ, *ℤ-comm, negℤ-+ℤ}
-use Rattle.integers.specs.Laws.{+-swap, +-lswap, +-inner, distr, distl, neg-mul, eq-of-sub, *-assoc, one-*, *-swap, *-inner}
+use lib.IntN.{ℤ, pos, negsuc, negℤ, _+ℤ_, _-ℤ_, _*ℤ_, +ℤ-assoc, +ℤ-idl, +ℤ-idr, zero-*ℤ, *ℤ-comm, negℤ-+ℤ}
+use Rattle.integers.specs.Laws.{+-lswap, distr, distl, neg-mul, eq-of-sub, *-assoc, one-*, *-swap, *-inner}
 
 infixl 60 _⊕_ _⊖_
 infixl 70 _⊗_

@@ -43,6 +43,7 @@ fillAnswer (some r) = F.Refused r
 unfoldable pub vorticityTest : State → ℕ → Option Refusal
 vorticityTest s room = callTest s [] (cells s) (room ∷ [])
 
+-- It rules out, for instance: q of the neighbour's corner; a refusal that has filled a part of d.
 pub record VorticityPromise (s : State) (d : List ℤ) (answer : FillAnswer) (d′ : List ℤ) : Type 0 where
   pub answers : answer ≡ fillAnswer (vorticityTest s (length d))
   pub tells : toldFill answer ≡ toldFill (fillAnswer (vorticityTest s (length d)))
@@ -53,6 +54,7 @@ pub record VorticityPromise (s : State) (d : List ℤ) (answer : FillAnswer) (d�
 unfoldable pub tendenciesTest : State → List ℤ → ℕ → ℕ → ℕ → Option Refusal
 tendenciesTest s q a b c = callTest s (vorticityTaken q) (cells s) (a ∷ b ∷ c ∷ [])
 
+-- It rules out: tendencies of zeros; β's weights from the edge's own cell; 8 told before 4.
 pub record TendenciesPromise (s : State) (q dh du dv : List ℤ) (answer : FillAnswer) (dh′ du′ dv′ : List ℤ) : Type 0 where
   pub answers : answer ≡ fillAnswer (tendenciesTest s q (length dh) (length du) (length dv))
   pub tells : toldFill answer ≡ toldFill (fillAnswer (tendenciesTest s q (length dh) (length du) (length dv)))
@@ -62,12 +64,14 @@ pub record TendenciesPromise (s : State) (q dh du dv : List ℤ) (answer : FillA
 
 -- ---- step and run: 1 to 6. s is the state before, s′ the state after (its parameters and b are s's).
 
+-- It rules out: a step that returns its state; pass 1 returned; a refusal that leaves pass 1 behind or the work space uncleared.
 pub record StepPromise (s : State) (inflow work : List ℤ) (answer : StepAnswer) (s′ : State) (work′ : List ℤ) : Type 0 where
   pub answers : answer ≡ stepAnswer s inflow (length work)
   pub tells : toldStep answer ≡ toldStep (stepAnswer s inflow (length work))
   pub steps : s′ ≡ stepState s inflow (length work)
   pub clears : work′ ≡ workLeft (stepTest s inflow (length work)) s work
 
+-- It rules out: a run that reports steps it never took; one that stops before step one.
 pub record RunPromise (s : State) (inflow : List ℤ) (m : ℕ) (work : List ℤ) (answer : RunAnswer) (s′ : State) (work′ : List ℤ) : Type 0 where
   pub answers : answer ≡ runOf s inflow m (length work) .answer
   pub tells : toldRun answer ≡ toldRun (runOf s inflow m (length work) .answer)
@@ -83,6 +87,7 @@ abbrev pub totalAnswer : Option Refusal → ℤ → TotalAnswer
 totalAnswer none x = T.Total x
 totalAnswer (some r) x = T.Refused r
 
+-- They rule out: a total that leaves a cell out; the total of a state that is to be refused.
 pub record TotalDepthPromise (s : State) (answer : TotalAnswer) : Type 0 where
   pub answers : answer ≡ totalAnswer (totalTest s) (totalDepth s)
   pub tells : toldTotal answer ≡ toldTotal (totalAnswer (totalTest s) (totalDepth s))
@@ -100,6 +105,7 @@ abbrev pub writeAnswer : Option Refusal → ℕ → WriteAnswer
 writeAnswer none m = W.Written m
 writeAnswer (some r) m = W.Refused r
 
+-- It rules out: a field little-endian; a byte written past the record.
 pub record WritePromise (s : State) (timestamp : ℕ) (d : List ℕ) (answer : WriteAnswer) (d′ : List ℕ) : Type 0 where
   pub answers : answer ≡ writeAnswer (writeTest s (length d)) (recordLength s)
   pub tells : toldWrite answer ≡ toldWrite (writeAnswer (writeTest s (length d)) (recordLength s))
@@ -119,6 +125,7 @@ readInto f (refused r) d = d
 unfoldable pub readOf : List ℕ → List ℤ → List ℤ → List ℤ → List ℤ → Decoded
 readOf rec h b u v = decode rec (length h ∷ length b ∷ length u ∷ length v ∷ [])
 
+-- It rules out: fields filled before test 5; the sign of a velocity lost.
 pub record ReadPromise (rec : List ℕ) (h b u v : List ℤ) (answer : ReadAnswer) (h′ b′ u′ v′ : List ℤ) : Type 0 where
   pub answers : answer ≡ readAnswer (readOf rec h b u v)
   pub tells : toldRead answer ≡ toldRead (readAnswer (readOf rec h b u v))
@@ -129,6 +136,7 @@ pub record ReadPromise (rec : List ℕ) (h b u v : List ℤ) (answer : ReadAnswe
 
 -- ---- comparison: 7, 1, 2, 3, 4, 5 of the first record, then of the second
 
+-- It rules out: an answer by timestamp before the second record is tested; same where only the states are the same.
 pub record ComparePromise (first second : List ℕ) (answer : CompareAnswer) : Type 0 where
   pub answers : answer ≡ compareAnswer first second
   pub tells : toldCompare answer ≡ toldCompare (compareAnswer first second)

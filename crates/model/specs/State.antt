@@ -9,7 +9,6 @@ use lib.ListN.{length, getD}
 use Rattle.model.specs.Numbers.{Limits, Within, depthLimits, bottomLimits, velocityLimits, gravityLimits, coriolisLimits, ratioLimits, longestSide}
 use Rattle.model.specs.Grid.{at}
 use Rattle.model.specs.declared.Parameters.{Parameters}
-use Rattle.model.specs.declared.Boundary.{Boundary}
 use Rattle.model.specs.declared.Boundary.the-variants.{Periodic, Channel, Basin}
 use Rattle.model.specs.declared.BoundaryByte.{BoundaryByte}
 use Rattle.model.specs.declared.BoundaryByte.the-variants.{Known, Unknown}

@@ -1,8 +1,8 @@
 -- Numbers as bytes, and fields of numbers, there and back: once for every count of bytes. Assumes nothing.
 use mathlib.Core.Path.{_≡_, refl, sym, ap, ap₂, subst, _∙_, fun-ext}
 use mathlib.Core.List.{List, [], _∷_, _++_}
-use Prim.Native.Nat.{ℕ, zero, suc, _+_, _-_, _*_, min, _/_, _%_, _^_, _≤_, _<_, zero-le, suc-le-suc}
-use native.Mathlib.Nat.{pow-succ', mod-eq-of-lt, mul-zero, zero-mul, suc-mul, mul-suc, zero-add, add-comm, add-assoc, add-mul, mul-assoc, mod-one, not-suc-le-zero}
+use Prim.Native.Nat.{ℕ, zero, suc, _+_, _-_, _*_, min, _/_, _%_, _^_, _<_, zero-le, suc-le-suc}
+use native.Mathlib.Nat.{pow-succ', mod-eq-of-lt, mul-zero, zero-mul, suc-mul, mul-suc, zero-add, add-comm, add-assoc, add-mul, mul-assoc, mod-one}
 use native.Mathlib.Omega.{arith}
 use lib.Arith.{mod-mul, digits-lt, digits-div, digits-mod}
 use lib.Dec.{lit<}
@@ -10,7 +10,7 @@ use lib.IntN.{ℤ, pos}
 use lib.ListN.{length, take, drop, getD, length-append, length-take, length-drop, take-append-drop}
 use lib.Seq.{take-at, drop-at, drop-drop}
 use mir.Syntax.{Width}
-use mir.Val.{toZ, ofZ, Fits, SFits, bits}
+use mir.Val.{toZ, ofZ, SFits, bits}
 use mir.Facts.{toZ-ofZ, ofZ-toZ, fits-ofZ}
 use Rattle.model.specs.Grid.{tabulate}
 use Rattle.model.specs.Record.{bytes, unsignedFrom, unsigned, eachBy, numbers}

@@ -1,9 +1,8 @@
 -- Comparison of two records: same exactly where state and timestamp are, and swapped with the records. Assumes nothing.
 use mathlib.Core.Path.{_≡_, refl, sym, ap, ap₂, subst, _∙_}
-use mathlib.Core.Logic.{_↔_}
 use mathlib.Core.Bool.{Bool, true, false, cond, _&&_}
-use mathlib.Core.List.{List, [], _∷_}
-use Prim.Native.Nat.{ℕ, _≤_, _<_}
+use mathlib.Core.List.{List, []}
+use Prim.Native.Nat.{ℕ}
 use native.Mathlib.Nat.{le-antisymm, le-refl}
 use native.Mathlib.Omega.{arith}
 use lib.Dec.{T, eqb, ltb, eqb→eq, eqb-refl}
@@ -11,8 +10,7 @@ use lib.IntN.{ℤ, pos, negsuc}
 use borrow.Author.Tests.{ltb-true, ltb-false, le-ltb}
 use Rattle.model.specs.Numbers.{eqℤ, sameBy}
 use Rattle.model.specs.State.{State}
-use Rattle.model.specs.Record.{Decoded, accepted, refused, decode, sameState, compared, compareSecond, compareBy, compareAnswer}
-use Rattle.model.specs.Promises.{ComparePromise}
+use Rattle.model.specs.Record.{Decoded, accepted, refused, decode, sameState, compared, compareBy, compareAnswer}
 use Rattle.model.specs.Claims.{CompareClaim, BothAre, swapped}
 use Rattle.model.specs.declared.CompareAnswer.{CompareAnswer}
 use Rattle.model.specs.declared.CompareAnswer.the-variants.{Same, FirstNewer, SecondNewer, Conflict}

@@ -3,18 +3,16 @@ use mathlib.Core.Path.{_≡_, refl, sym, ap, _∙_}
 use mathlib.Core.Logic.{_↔_}
 use mathlib.Core.List.{List, [], _∷_}
 use mathlib.Core.Option.{Option, none, some}
-use Prim.Native.Nat.{ℕ, _*_, _≤_, _<_}
+use Prim.Native.Nat.{ℕ, _*_, _<_}
 use lib.IntN.{ℤ, negℤ}
 use lib.ListN.{length, take, drop}
-use Rattle.model.specs.Numbers.{vorticityLimits}
 use Rattle.model.specs.Grid.{at, filled, byCell}
-use Rattle.model.specs.State.{State, cells, WithinLimits, FieldWithin}
+use Rattle.model.specs.State.{State, cells, WithinLimits}
 use Rattle.model.specs.Refusals.{vorticityTaken}
 use Rattle.model.specs.Scheme.{D, tendencyU, tendencyV, hTendencies, uTendencies, vTendencies, vorticityAt, vorticity}
-use Rattle.model.specs.Promises.{leftBy, fillAnswer, vorticityTest, VorticityPromise, tendenciesTest, TendenciesPromise}
+use Rattle.model.specs.Promises.{leftBy, fillAnswer, vorticityTest, VorticityPromise, tendenciesTest}
 use Rattle.model.specs.Claims.{Holds, TendenciesAcceptedClaim, TendenciesClaim}
 use Rattle.model.specs.declared.Refusal.{Refusal}
-use Rattle.model.specs.declared.FillAnswer.{FillAnswer}
 use Rattle.model.specs.declared.FillAnswer.the-variants as F
 use Rattle.theorems.specs.Tests.{differ}
 use Rattle.theorems.specs.Limits.{call-iff}

@@ -1,9 +1,9 @@
 -- Any list of step and run calls keeps the limits, and total depth balances over it. Assumes nothing.
 use mathlib.Core.Path.{_≡_, refl, sym, ap, subst, _∙_}
 use mathlib.Core.Bool.{Bool, true}
-use mathlib.Core.List.{List, [], _∷_}
+use mathlib.Core.List.{List, _∷_}
 use mathlib.Core.Option.{Option, none, some}
-use Prim.Native.Nat.{ℕ, zero, suc, _*_}
+use Prim.Native.Nat.{ℕ, suc}
 use lib.IntN.{ℤ, pos, _+ℤ_, _*ℤ_, +ℤ-assoc, +ℤ-comm, +ℤ-idr, zero-*ℤ, sucℤ-*ℤ}
 use lib.ListN.{length}
 use Rattle.model.specs.Numbers.{total}
@@ -12,7 +12,7 @@ use Rattle.model.specs.Refusals.{inflowTaken, runAllowed, workEnough, stateTest
 use Rattle.model.specs.Step.{Outcome, moved, stuck, Ran, twoPass, stepTold, afterStep, stepTest, stepAnswerBy, stepStateBy, stepAnswer, stepState, runFrom, runTest, runBy, runOf}
 use Rattle.model.specs.Totals.{totalDepth}
 use Rattle.model.specs.Histories.{Call, step, run, inflowOf, stepCount, runCount, stepsDone, stateAfter, inflowDue, History, nothing, stepped, ran}
-use Rattle.model.specs.Promises.{totalTest, totalAnswer, StepPromise, RunPromise, TotalDepthPromise}
+use Rattle.model.specs.Promises.{totalTest, totalAnswer, TotalDepthPromise}
 use Rattle.model.specs.Claims.{Steps, start, onward, raised, BalanceClaim, TotalDepthClaim, KeptClaim}
 use Rattle.model.specs.declared.Refusal.{Refusal}
 use Rattle.model.specs.declared.TotalAnswer.{TotalAnswer}

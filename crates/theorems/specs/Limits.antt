@@ -6,16 +6,15 @@ use mathlib.Core.List.{List, [], _∷_, _++_}
 use mathlib.Core.Option.{none}
 use Prim.Native.Nat.{ℕ, _≤_, _<_}
 use lib.Dec.{T, leb}
-use lib.IntN.{ℤ, pos}
-use lib.ListN.{length}
+use lib.IntN.{pos}
 use Rattle.model.specs.Numbers.{within, Within, all, gravityLimits, coriolisLimits, ratioLimits, longestSide}
 use Rattle.model.specs.Grid.{firstFrom, at}
 use Rattle.model.specs.State.{State, cells, known, boundaryOf, closedWest, closedSouth, Side, WithinLimits}
-use Rattle.model.specs.Refusals.{_then_, must, placed, refusedAt, Taken, fieldsOf, firstOutside, moving, gridKnown, lengthsRight, constantsWithin, valueTest, edgeTest, roomTest, contentTest, stateTest, callTest}
+use Rattle.model.specs.Refusals.{_then_, must, placed, Taken, fieldsOf, firstOutside, moving, gridKnown, lengthsRight, constantsWithin, valueTest, edgeTest, roomTest, contentTest, stateTest, callTest}
 use Rattle.model.specs.Claims.{LimitsClaim, EachWithin, AcceptedClaim}
 use Rattle.model.specs.declared.Field.the-variants.{VelocityU, VelocityV}
 use Rattle.model.specs.declared.Refusal.the-variants.{Grid, Lengths, Constants, Value, ClosedEdge, Destination}
-use Rattle.theorems.specs.Tests.{_⟫_, and-iff, le-iff, then-iff, must-iff, placed-iff, refused-iff, within-iff, longEach, each-iff, edge-iff}
+use Rattle.theorems.specs.Tests.{_⟫_, and-iff, le-iff, then-iff, must-iff, placed-iff, refused-iff, within-iff, each-iff, edge-iff}
 
 -- ---- test by test
 

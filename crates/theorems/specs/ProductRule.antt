@@ -1,10 +1,10 @@
 -- The scaled energy rate is what the product rule gives for four times total energy. Assumes nothing.
-use mathlib.Core.Path.{_≡_, refl, sym, ap, ap₂, _∙_}
+use mathlib.Core.Path.{_≡_, ap, ap₂, _∙_}
 use mathlib.Core.List.{List, [], _∷_}
-use Prim.Native.Nat.{ℕ, _+_, _-_, _<_}
+use Prim.Native.Nat.{ℕ, _<_}
 use native.Mathlib.Omega.{arith}
 use lib.IntN.{ℤ, pos, negℤ, _+ℤ_, _-ℤ_, _*ℤ_, +ℤ-idl}
-use Rattle.model.specs.Grid.{at, byCell}
+use Rattle.model.specs.Grid.{at}
 use Rattle.model.specs.State.{State}
 use Rattle.model.specs.Scheme.{west, south, fluxU, fluxV, B}
 use Rattle.model.specs.Totals.{energyAt, energy4}

@@ -1,13 +1,12 @@
 -- What the tendency call fills in has scaled energy rate zero, and scaled enstrophy rate zero where no edge is closed. Assumes nothing.
-use mathlib.Core.Path.{_≡_, refl, sym, ap, ap₂, _∙_}
-use mathlib.Core.Bool.{true, false, cond}
+use mathlib.Core.Path.{_≡_, refl, sym, ap, _∙_}
+use mathlib.Core.Bool.{cond}
 use mathlib.Core.List.{List}
-use Prim.Native.Nat.{ℕ, _+_, _-_, _%_, _<_}
-use native.Mathlib.Nat.{mod-lt, mod-add-mod, add-mod-right, mod-eq-of-lt}
+use Prim.Native.Nat.{ℕ, _<_}
 use native.Mathlib.Omega.{arith}
 use lib.Dec.{T}
 use lib.IntN.{ℤ, pos, negℤ, _+ℤ_, _-ℤ_, _*ℤ_, +ℤ-idl, zero-*ℤ, negℤ-negℤ}
-use Rattle.model.specs.Grid.{next, previous, at}
+use Rattle.model.specs.Grid.{at}
 use Rattle.model.specs.State.{State, boundaryOf, closedWest, closedSouth, WithinLimits, OpenEverywhere}
 use Rattle.model.specs.Weights.{weights, weightAt, weighted}
 use Rattle.model.specs.Scheme.{east, west, north, south, fluxU, fluxV, D, B, corners, Tu, Tv, tendencyU, tendencyV}

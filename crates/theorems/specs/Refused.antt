@@ -1,22 +1,20 @@
 -- What a refused call leaves, and what every step and run leaves in its work space. Assumes nothing.
 use mathlib.Core.Path.{_≡_, refl, sym, ap, subst, _∙_}
-use mathlib.Core.Bool.{Bool, true, false, cond}
+use mathlib.Core.Bool.{cond}
 use mathlib.Core.List.{List}
 use mathlib.Core.Option.{Option, none, some}
 use Prim.Native.Nat.{ℕ, zero, suc, _≤_, _<_}
-use lib.Dec.{leb}
 use lib.IntN.{ℤ}
 use lib.ListN.{length}
 use borrow.Author.Tests.{le-leb, lt-leb}
 use Rattle.model.specs.State.{State}
 use Rattle.model.specs.Answers.{number}
-use Rattle.model.specs.Step.{Outcome, moved, stuck, twoPass, stepTold, afterStep, stepTest, stepAnswerBy, stepStateBy, stepAnswer, stepState, Ran, runOn, runFrom, runTest, runBy, runOf, untouched, workLeft}
+use Rattle.model.specs.Step.{Outcome, moved, stuck, twoPass, stepTest, stepAnswerBy, stepStateBy, stepAnswer, stepState, Ran, runOn, runFrom, runTest, runBy, runOf, workLeft}
 use Rattle.model.specs.Record.{Decoded, accepted, refused}
 use Rattle.model.specs.Promises.{leftBy, fillAnswer, vorticityTest, tendenciesTest, writeTest, writeAnswer, readAnswer, readInto, readOf}
 use Rattle.model.specs.Claims.{RefusedClaim, WorkClaim, StepWork, RunWork, cleared}
 use Rattle.model.specs.declared.Field.{Field}
 use Rattle.model.specs.declared.Refusal.{Refusal}
-use Rattle.model.specs.declared.StepAnswer.{StepAnswer}
 use Rattle.model.specs.declared.RunAnswer.{RunAnswer}
 use Rattle.model.specs.declared.FillAnswer.the-variants as F
 use Rattle.model.specs.declared.StepAnswer.the-variants as S

@@ -1,19 +1,19 @@
 -- An accepted record whose tags rise, read and written again, is the same bytes. Assumes nothing.
 use mathlib.Core.Path.{_≡_, refl, sym, ap, ap₂, subst, _∙_}
-use mathlib.Core.Bool.{Bool, true, false, _&&_}
-use mathlib.Core.List.{List, [], _∷_, _++_, map}
+use mathlib.Core.Bool.{Bool, true, _&&_}
+use mathlib.Core.List.{List, [], _∷_, map}
 use mathlib.Core.Option.{Option, none, some}
-use Prim.Native.Nat.{ℕ, zero, suc, _+_, _*_, _≤_, _<_}
+use Prim.Native.Nat.{ℕ, suc, _+_, _*_, _≤_, _<_}
 use native.Mathlib.Omega.{arith}
 use lib.Dec.{T, eqb, eqb→eq}
-use lib.IntN.{ℤ, pos}
+use lib.IntN.{ℤ}
 use lib.ListN.{length, take, drop, getD}
 use mir.Syntax.{w16, w32}
 use borrow.Author.Tests.{eqb-true}
 use Rattle.model.specs.Numbers.{sameBy}
 use Rattle.model.specs.State.{State, stateOf, parametersOf, cells, WithinLimits}
 use Rattle.model.specs.Refusals.{_then_, must, gridKnown, lengthsRight, contentTest, roomTest}
-use Rattle.model.specs.Record.{signed2, signed4, numbers, Part, joined, partsOf, encode, recordLength, tags, valueOf, rightSize, Walked, damaged, whole, walk, walked, risingBy, rising, stateIn, timestampIn, bytesRight, recordTest, Decoded, accepted, judged, readBy, decode}
+use Rattle.model.specs.Record.{signed2, signed4, numbers, Part, joined, partsOf, encode, recordLength, tags, valueOf, Walked, damaged, whole, walked, risingBy, rising, stateIn, timestampIn, bytesRight, recordTest, Decoded, accepted, judged, readBy, decode}
 use Rattle.model.specs.Promises.{WritePromise, readAnswer, readInto, readOf}
 use Rattle.model.specs.Claims.{RewriteClaim}
 use Rattle.model.specs.declared.Parameters.{Parameters}

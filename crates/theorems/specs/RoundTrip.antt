@@ -1,15 +1,15 @@
 -- A state within the limits that is written and read again is the same state with the same timestamp. Assumes nothing.
 use mathlib.Core.Path.{_≡_, refl, sym, ap, ap₂, subst, _∙_}
-use mathlib.Core.Bool.{true, _&&_}
-use mathlib.Core.List.{List, [], _∷_, _++_}
-use mathlib.Core.Option.{Option, none}
-use Prim.Native.Nat.{ℕ, suc, _+_, _*_, _^_, _≤_, _<_}
+use mathlib.Core.Bool.{true}
+use mathlib.Core.List.{List, [], _∷_}
+use mathlib.Core.Option.{none}
+use Prim.Native.Nat.{ℕ, suc, _*_, _^_, _≤_, _<_}
 use native.Mathlib.Nat.{le-trans, lt-of-le-of-lt, mul-le-mul}
 use native.Mathlib.Omega.{arith}
-use lib.Dec.{leb→le, lit<, lit≤}
+use lib.Dec.{leb→le, lit<}
 use lib.IntN.{ℤ, pos, negsuc, negℤ}
 use lib.Signed.{_≤ℤ_}
-use lib.ListN.{length, take, drop, getD, length-append}
+use lib.ListN.{length, take, getD, length-append}
 use mir.Syntax.{Width, w16, w32}
 use mir.Val.{SFits, hbits}
 use borrow.Author.Tests.{eq-eqb}
@@ -18,7 +18,7 @@ use Rattle.model.specs.Grid.{filled}
 use Rattle.model.specs.State.{State, stateOf, parametersOf, cells, FieldWithin, WithinLimits}
 use Rattle.model.specs.Refusals.{_then_, must, gridKnown, contentTest, roomTest}
 use Rattle.model.specs.Record.{bytes4, bytes2, signed4, signed2, eachBy, numbers, partsOf, encode, recordLength, missingTest, walked, whole, stateIn, timestampIn, bytesRight, recordTest, accepted, judged, readBy, decode}
-use Rattle.model.specs.Promises.{leftBy, writeTest, writeAnswer, WritePromise, readAnswer, readInto, readOf, ReadPromise}
+use Rattle.model.specs.Promises.{leftBy, writeTest, writeAnswer, WritePromise, readAnswer, readInto, readOf}
 use Rattle.model.specs.Claims.{RoundTripClaim}
 use Rattle.model.specs.declared.WriteAnswer.{WriteAnswer}
 use Rattle.model.specs.declared.Refusal.the-variants.{Grid, Lengths}
@@ -26,7 +26,7 @@ use Rattle.theorems.specs.Tests.{then-iff, must-iff}
 use Rattle.theorems.specs.Limits.{call-iff, room-iff, grid-passes, content-passes}
 use Rattle.theorems.specs.Fields.{take-filled}
 use Rattle.theorems.specs.Bytes.{EachFits, there-back, get-put, numbers-put, length-each}
-use Rattle.theorems.specs.Walks.{Fine, AllFine, walks}
+use Rattle.theorems.specs.Walks.{AllFine, walks}
 
 -- ---- a number within its limits fits its bytes
 

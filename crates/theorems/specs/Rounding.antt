@@ -1,5 +1,5 @@
 -- Rounding: rnd gives the nearest whole number, halves away from zero; and its laws, which is all that other proofs use of it. Assumes nothing.
-use mathlib.Core.Path.{_≡_, refl, sym, ap, ap₂, subst, _∙_}
+use mathlib.Core.Path.{_≡_, refl, sym, ap, subst, _∙_}
 use Prim.Native.Nat.{ℕ, zero, suc, _+_, _-_, _*_, _/_, _%_, _≤_, _<_}
 use native.Mathlib.Nat.{mod-lt, div-add-mod', div-eq-of-lt, div-lt-iff-lt-mul, mul-comm, mul-assoc, suc-mul, mul-left-comm}
 use native.Mathlib.Omega.{arith}

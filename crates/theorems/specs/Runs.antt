@@ -1,5 +1,5 @@
 -- The number that a run answers is the number of definition steps that lead to the state left. Assumes nothing.
-use mathlib.Core.Path.{_≡_, refl, sym, ap, subst, _∙_}
+use mathlib.Core.Path.{_≡_, refl, sym, subst, _∙_}
 use mathlib.Core.List.{List}
 use mathlib.Core.Option.{Option, none, some}
 use Prim.Native.Nat.{ℕ, zero, suc, _+_, _<_}
@@ -8,7 +8,6 @@ use lib.IntN.{ℤ}
 use lib.ListN.{length}
 use Rattle.model.specs.State.{State}
 use Rattle.model.specs.Step.{Outcome, moved, stuck, Ran, twoPass, runOn, runFrom, runTest, runBy, runOf}
-use Rattle.model.specs.Promises.{RunPromise}
 use Rattle.model.specs.Histories.{runCount}
 use Rattle.model.specs.Claims.{Steps, start, onward, Ended, RunClaim}
 use Rattle.model.specs.declared.Refusal.{Refusal}

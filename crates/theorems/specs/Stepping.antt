@@ -11,7 +11,7 @@ use lib.ListN.{length, take}
 use Rattle.model.specs.Numbers.{rnd, total}
 use Rattle.model.specs.Grid.{at, byCell}
 use Rattle.model.specs.State.{State, cells, closedWest, closedSouth, WithinLimits}
-use Rattle.model.specs.Refusals.{Place, Taken, depthOf, uOf, vOf, firstOutside}
+use Rattle.model.specs.Refusals.{Place, Taken, depthOf, uOf, vOf}
 use Rattle.model.specs.Scheme.{vorticity, Tu, Tv, tendencyU, tendencyV}
 use Rattle.model.specs.Step.{X, Y, newDepth, newU, newV, pass, leaves, Outcome, moved, stuck, passed, second, twoPass}
 use Rattle.model.specs.Claims.{EachWithin, Given, PassClaim, StepClaim}

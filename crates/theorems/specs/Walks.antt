@@ -1,6 +1,6 @@
 -- A record made of fields is read back as those fields, and a record that is read as fields is those fields joined. Assumes nothing.
-use mathlib.Core.Path.{_≡_, refl, sym, ap, ap₂, subst, _∙_}
-use mathlib.Core.Bool.{Bool, true, false, not, cond, _&&_}
+use mathlib.Core.Path.{_≡_, refl, sym, ap, ap₂, _∙_}
+use mathlib.Core.Bool.{Bool, true, false, not, cond}
 use mathlib.Core.List.{List, [], _∷_, _++_, append-assoc, append-nil}
 use mathlib.Core.Option.{Option, none, some}
 use Prim.Native.Nat.{ℕ, zero, suc, _+_, _-_, _≤_, _<_, min}
@@ -10,10 +10,9 @@ use native.Mathlib.Omega.{arith}
 use lib.Dec.{T, leb}
 use lib.ListN.{length, take, drop, getD, length-append, length-take, length-drop, take-append-drop, drop-of-length-le}
 use lib.Seq.{getD-append-add, drop-drop, drop-at, take-at, drop-cons}
-use borrow.Author.Tests.{le-leb, lt-leb, leb-true, leb-false}
-use Rattle.model.specs.Numbers.{all}
+use borrow.Author.Tests.{le-leb, lt-leb, leb-true}
 use Rattle.model.specs.Refusals.{_then_, must}
-use Rattle.model.specs.Record.{bytes, unsigned, Part, joined, tags, has, tagAt, sizeAt, partAt, knownTag, rightSize, tagTest, missingTest, Walked, damaged, whole, unless, walk}
+use Rattle.model.specs.Record.{bytes, unsigned, Part, joined, has, tagAt, sizeAt, partAt, knownTag, rightSize, tagTest, missingTest, Walked, damaged, whole, unless, walk}
 use Rattle.model.specs.declared.Refusal.{Refusal}
 use Rattle.model.specs.declared.Refusal.the-variants.{Record}
 use Rattle.theorems.specs.Tests.{le-iff, then-iff, must-iff, T-true, differ}

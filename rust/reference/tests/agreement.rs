@@ -1,0 +1,190 @@
+//! The numbers that the model is held to are those of this version: the rows
+//! of `crates/agreement/specs/Agreement.antt`, which the checker computes from
+//! the model's definitions, are worked out here anew and compared as text.
+
+use reference::{
+    potential_vorticity, run, step, tendencies, total_energy, FillAnswer, Parameters, RunAnswer,
+    StepAnswer, TotalAnswer,
+};
+
+/// A list of numbers as antt writes it.
+fn list(numbers: &[i64]) -> String {
+    let mut text = String::from("(");
+    for &x in numbers {
+        let sign = if x < 0 { "minus" } else { "pos" };
+        text += &format!("{sign} {} ∷ ", x.unsigned_abs());
+    }
+    text + "[])"
+}
+
+/// The state `nine kind west south` of Agreement.antt, its inflow `rain` and
+/// its vorticity `lent`.
+struct Nine {
+    name: &'static str,
+    p: Parameters,
+    h: [i64; 9],
+    b: [i64; 9],
+    u: [i64; 9],
+    v: [i64; 9],
+}
+
+const RAIN: [i64; 9] = [1, -2, 3, -4, 5, -6, 7, -8, 9];
+const LENT: [i64; 9] = [1000, -2000, 3000, -4000, 5000, -6000, 7000, -8000, 9000];
+
+impl Nine {
+    fn new(kind: u8) -> Self {
+        let mut u = [10, -20, 30, -40, 50, -60, 70, -80, 90];
+        let mut v = [7, -14, 21, -28, 35, -42, 49, -56, 63];
+        if kind == 2 {
+            u.iter_mut().step_by(3).for_each(|x| *x = 0);
+        }
+        if kind != 0 {
+            v[..3].fill(0);
+        }
+        Nine {
+            name: [
+                "(nine 0 false false)",
+                "(nine 1 false true)",
+                "(nine 2 true true)",
+            ][usize::from(kind)],
+            p: Parameters {
+                w: 3,
+                n: 3,
+                kind,
+                g: 9810,
+                c: 100,
+                r: 200_000,
+            },
+            h: [2000, 2500, 3000, 1500, 1200, 4000, 3500, 1800, 2200],
+            b: [10, 20, 30, 40, 50, 60, 70, 80, 90],
+            u,
+            v,
+        }
+    }
+
+    fn vorticities(&self) -> String {
+        let mut q = [0; 9];
+        let answer = potential_vorticity(&self.p, &self.h, &self.b, &self.u, &self.v, &mut q);
+        assert_eq!(answer, FillAnswer::Done);
+        format!("vorticities {} (zeros 9) accepted {}", self.name, list(&q))
+    }
+
+    fn tends(&self) -> String {
+        let [mut dh, mut du, mut dv] = [[0; 9]; 3];
+        let Nine {
+            name,
+            p,
+            h,
+            b,
+            u,
+            v,
+        } = self;
+        let answer = tendencies(p, h, b, u, v, &LENT, &mut dh, &mut du, &mut dv);
+        assert_eq!(answer, FillAnswer::Done);
+        format!(
+            "tends {name} lent (zeros 9) (zeros 9) (zeros 9) accepted {} {} {}",
+            list(&dh),
+            list(&du),
+            list(&dv)
+        )
+    }
+
+    fn energy(&self) -> String {
+        let answer = total_energy(&self.p, &self.h, &self.b, &self.u, &self.v);
+        let TotalAnswer::Total(total) = answer else {
+            panic!("{answer:?}");
+        };
+        format!("energy {} {}", self.name, list(&[0, total]))
+    }
+
+    fn steps(&self) -> String {
+        let Nine {
+            name,
+            p,
+            mut h,
+            b,
+            mut u,
+            mut v,
+        } = *self;
+        let answer = step(&p, &mut h, &b, &mut u, &mut v, &RAIN, &mut [7; 73]);
+        assert_eq!(answer, StepAnswer::Done);
+        format!(
+            "steps {name} rain (sevens 73) accepted {} {} {} (zeros 72 ++ sevens 1)",
+            list(&h),
+            list(&u),
+            list(&v)
+        )
+    }
+
+    fn runs(&self, length: u64) -> String {
+        let Nine {
+            name,
+            p,
+            mut h,
+            b,
+            mut u,
+            mut v,
+        } = *self;
+        let answer = run(&p, &mut h, &b, &mut u, &mut v, &RAIN, length, &mut [7; 72]);
+        assert_eq!(answer, RunAnswer::Finished { steps: length });
+        format!(
+            "runs {name} rain {length} (sevens 72) (pos 0 ∷ pos {length} ∷ []) {} {} {} (zeros 72)",
+            list(&h),
+            list(&u),
+            list(&v)
+        )
+    }
+}
+
+/// `steep (pos 2000)`: a step that pass 2 stops.
+fn steep() -> String {
+    let p = Parameters {
+        w: 2,
+        n: 1,
+        kind: 0,
+        g: 9810,
+        c: 0,
+        r: 2000,
+    };
+    let (mut h, mut u, mut v) = ([1000, 2000], [0; 2], [0; 2]);
+    let answer = step(&p, &mut h, &[0; 2], &mut u, &mut v, &[0; 2], &mut [7; 16]);
+    let told: Vec<i64> = answer.told().iter().map(|&x| x as i64).collect();
+    assert_eq!(told[..2], [6, 2]);
+    assert_eq!((h, u, v), ([1000, 2000], [0; 2], [0; 2]));
+    format!(
+        "steps (steep (pos 2000)) none2 (sevens 16) {} {} none2 none2 (zeros 16)",
+        list(&told),
+        list(&h)
+    )
+}
+
+#[test]
+fn the_model_is_held_to_these_numbers() {
+    let mut rows = Vec::new();
+    for kind in 0..3 {
+        let nine = Nine::new(kind);
+        rows.extend([
+            nine.vorticities(),
+            nine.tends(),
+            nine.energy(),
+            nine.steps(),
+        ]);
+    }
+    rows.push(Nine::new(2).runs(12));
+    rows.push(steep());
+
+    let path = concat!(
+        env!("CARGO_MANIFEST_DIR"),
+        "/../../crates/agreement/specs/Agreement.antt"
+    );
+    let file = std::fs::read_to_string(path).expect("the agreement crate");
+    let words = |text: &str| text.split_whitespace().collect::<Vec<_>>().join(" ");
+    let table = words(file.split("agreed =").nth(1).expect("the table"));
+    for row in &rows {
+        assert!(table.contains(&words(row)), "not in the table: {row}");
+    }
+    // The table has no other rows.
+    let calls = ["vorticities", "tends", "energy", "steps", "runs"];
+    let named = table.split(' ').filter(|word| calls.contains(word)).count();
+    assert_eq!(named, rows.len());
+}
