@@ -73,8 +73,28 @@ holds (reads rec h b u v a h′ b′ u′ v′) = readIs (readOf rec h b u v) h 
 holds (compares x y a) = toldCompare (compareAnswer x y) is a
 holds (prints input output) = sameBy eqb (programOutput input) (text output)
 
+-- ---- answers and lists
+
 abbrev pub minus : ℕ → ℤ
 minus x = negℤ (pos x)
+
+abbrev pub accepted : List ℤ
+accepted = pos 0 ∷ []
+
+abbrev none : List ℤ
+none = pos 0 ∷ []
+
+abbrev pub none2 : List ℤ
+none2 = pos 0 ∷ pos 0 ∷ []
+
+abbrev just : ℤ → List ℤ
+just x = x ∷ []
+
+abbrev pub sevens : ℕ → List ℤ
+sevens m = replicate m (pos 7)
+
+abbrev pub zeros : ℕ → List ℤ
+zeros m = replicate m (pos 0)
 
 -- ---- states
 
@@ -116,26 +136,7 @@ four = record {
 abbrev faulty : (w : ℕ) (G : ℤ) (h b u v : List ℤ) → State
 faulty w G h b u v = record { w = w; n = 1; kind = 2; G = G; c = pos 0; R = pos 1000; h = h; b = b; u = u; v = v }
 
--- ---- answers and lists
-
-abbrev pub accepted : List ℤ
-accepted = pos 0 ∷ []
-
-abbrev none : List ℤ
-none = pos 0 ∷ []
-
-abbrev pub none2 : List ℤ
-none2 = pos 0 ∷ pos 0 ∷ []
-
-abbrev just : ℤ → List ℤ
-just x = x ∷ []
-
-abbrev pub sevens : ℕ → List ℤ
-sevens m = replicate m (pos 7)
-
-abbrev pub zeros : ℕ → List ℤ
-zeros m = replicate m (pos 0)
-
+-- one cell of a channel
 abbrev channel : List ℤ → List ℤ → State
 channel u v = record { w = 1; n = 1; kind = 1; G = pos 1; c = pos 0; R = pos 1000; h = just (pos 1000); b = none; u = u; v = v }
 
@@ -160,10 +161,10 @@ stamped t h = take 24 dock ++ bytes 8 t ++ (4 ∷ 0 ∷ 4 ∷ []) ++ bytes 4 h +
 abbrev damaged : List ℕ → ℕ → Example
 damaged rec k = reads rec none none none none (pos 7 ∷ pos k ∷ []) none none none none
 
--- ---- 01's cases 1 to 10; 6 and 7 of every call that they speak to
+-- ---- 01's cases 1 to 10
 
-abbrev pub soundings : List Example
-soundings =
+abbrev pub workedExamples : List Example
+workedExamples =
     -- 1
     rounds (pos 5) (pos 2) (pos 3)
     ∷ rounds (minus 5) (pos 2) (minus 3)
@@ -254,6 +255,6 @@ orders =
     ∷ prints (stamped 0 999) "refused 4\n"
     ∷ []
 
-pub all-hold : T (all holds (soundings ++ orders))
+pub all-hold : T (all holds (workedExamples ++ orders))
 unfolding everything
 all-hold = tt
