@@ -1,4 +1,5 @@
 -- What each answer means: 01's number, then the values returned with it in 01's order, as one list. 0 stands for no refusal.
+-- 01 leaves open how a field, a comparison's answer and the refused record are numbered: the numbers here are ours.
 use mathlib.Core.List.{List, [], _∷_, map}
 use Prim.Native.Nat.{ℕ}
 use lib.IntN.{ℤ, pos}

@@ -1,26 +1,26 @@
--- The theorems, as statements over the promises of the public calls. Each is proved in the crate `theorems`.
+-- The theorems, as statements: of the promises of the public calls, and of the definitions behind them. The crate `theorems` proves each.
 use mathlib.Core.Path.{_≡_}
-use mathlib.Core.Bool.{Bool, true}
+use mathlib.Core.Bool.{Bool, false}
 use mathlib.Core.Logic.{_↔_}
 use mathlib.Core.List.{List, [], _∷_}
-use mathlib.Core.Option.{none}
+use mathlib.Core.Option.{Option, none, some}
 use Prim.Native.Nat.{ℕ, zero, suc, _*_, _^_, _≤_, _<_}
 use lib.Dec.{T}
 use lib.IntN.{ℤ, pos, negℤ, natAbs, _+ℤ_, _-ℤ_, _*ℤ_}
 use lib.ListN.{length, getD, take, drop, replicate}
 use lib.Signed.{_≤ℤ_}
 use Rattle.model.specs.Numbers.{rnd, vorticityLimits}
-use Rattle.model.specs.Grid.{at, byCell, filled}
-use Rattle.model.specs.State.{State, stateOf, parametersOf, cells, WithinLimits, FieldWithin, OpenEverywhere}
+use Rattle.model.specs.Grid.{at, byCell, firstFrom}
+use Rattle.model.specs.State.{State, stateOf, parametersOf, withFlow, cells, WithinLimits, FieldWithin, OpenEverywhere}
 use Rattle.model.specs.Answers.{number}
-use Rattle.model.specs.Refusals.{Taken, workLength, stateTest}
-use Rattle.model.specs.Scheme.{vorticityAt, D, tendencyU, tendencyV}
+use Rattle.model.specs.Refusals.{Place, Taken, workLength, stateTest, callTest}
+use Rattle.model.specs.Scheme.{vorticityAt, vorticity, D, tendencyU, tendencyV}
 use Rattle.model.specs.Rates.{energyRate, enstrophyRate}
 use Rattle.model.specs.Totals.{totalDepth, energy4}
-use Rattle.model.specs.Step.{moved, stuck, pass, twoPass}
-use Rattle.model.specs.Record.{recordLength, rising, decode, accepted}
+use Rattle.model.specs.Step.{pass, leaves, moved, stuck, twoPass, stepAnswer, cleared}
+use Rattle.model.specs.Record.{recordLength, rising, decode, accepted, refused}
 use Rattle.model.specs.Promises.{VorticityPromise, TendenciesPromise, StepPromise, RunPromise, TotalDepthPromise, WritePromise, ReadPromise, ComparePromise}
-use Rattle.model.specs.Histories.{Call, History, inflowDue, runCount}
+use Rattle.model.specs.Histories.{Call, step, History, inflowDue, runCount}
 use Rattle.model.specs.declared.Parameters.{Parameters}
 use Rattle.model.specs.declared.Field.{Field}
 use Rattle.model.specs.declared.Refusal.{Refusal}
@@ -43,16 +43,26 @@ use Rattle.model.specs.declared.CompareAnswer.the-variants.{Same, FirstN
 
 -- tests 1 to 5 pass exactly the states within the limits
 abbrev pub LimitsClaim : Type 0
-LimitsClaim = (s : State) → (stateTest s [] true true ≡ none) ↔ WithinLimits s
+LimitsClaim = (s : State) → (stateTest s [] none none ≡ none) ↔ WithinLimits s
 
--- the same with what else a call takes: further fields, a run length and a work space
-abbrev pub EachWithin : ℕ → List Taken → Type 0
-EachWithin m [] = Unit
-EachWithin m (f ∷ l) = FieldWithin (f .limits) m (f .numbers) × EachWithin m l
+-- the same with what else a call takes: further fields, a run length, a work space and destinations
+abbrev pub EachWithin : List Taken → Type 0
+EachWithin [] = Unit
+EachWithin (f ∷ l) = FieldWithin (f .limits) (f .count) (f .numbers) × EachWithin l
 
-abbrev pub AcceptedClaim : Type 0
-AcceptedClaim = (s : State) (extra : List Taken) (run work : Bool)
-    → (stateTest s extra run work ≡ none) ↔ (WithinLimits s × EachWithin (cells s) extra × T run × T work)
+abbrev pub EachRoom : ℕ → List ℕ → Type 0
+EachRoom m [] = Unit
+EachRoom m (room ∷ l) = (m ≤ room) × EachRoom m l
+
+pub record AcceptedClaim : Type 0 where
+  pub state : (s : State) (extra : List Taken) (run work : Option Refusal)
+      → (stateTest s extra run work ≡ none) ↔ (WithinLimits s × EachWithin extra × (run ≡ none) × (work ≡ none))
+  pub call : (s : State) (extra : List Taken) (m : ℕ) (rooms : List ℕ)
+      → (callTest s extra m rooms ≡ none) ↔ (WithinLimits s × EachWithin extra × EachRoom m rooms)
+
+-- a scan finds the lowest index at which its test holds
+abbrev pub ScanClaim : Type 0
+ScanClaim = (bad : ℕ → Bool) (m k : ℕ) → (firstFrom bad m 0 ≡ some k) ↔ ((k < m) × T (bad k) × ((i : ℕ) → i < k → bad i ≡ false))
 
 -- a refused call leaves everything but its work space as it was
 pub record RefusedClaim : Type 0 where
@@ -66,18 +76,19 @@ pub record RefusedClaim : Type 0 where
   pub read : (rec : List ℕ) (h b u v h′ b′ u′ v′ : List ℤ) (r : Refusal) → ReadPromise rec h b u v (G.Refused r) h′ b′ u′ v′
       → (h′ ≡ h) × (b′ ≡ b) × (u′ ≡ u) × (v′ ≡ v)
 
--- the work space is untouched after 1 and 2; in every other outcome its first 8w·n numbers are zero, and the rest is as it was
-abbrev pub cleared : State → List ℤ → List ℤ
-cleared s work = filled (workLength s) (replicate (workLength s) (pos 0)) work
+-- step and run refuse with 1 to 6 alone. After 1 and 2 the work space is untouched; in every other outcome its first 8w·n numbers are
+-- zero, and the rest is as it was
+abbrev pub RefusedWork : Refusal → State → List ℤ → List ℤ → Type 0
+RefusedWork r s work work′ = (number r ≤ 5) × (number r ≤ 2 → work′ ≡ work) × (2 < number r → work′ ≡ cleared s work)
 
 abbrev pub StepWork : StepAnswer → State → List ℤ → List ℤ → Type 0
 StepWork S.Done s work work′ = work′ ≡ cleared s work
-StepWork (S.Refused r) s work work′ = (number r ≤ 2 → work′ ≡ work) × (2 < number r → work′ ≡ cleared s work)
+StepWork (S.Refused r) s work work′ = RefusedWork r s work work′
 StepWork (S.OutOfBounds p f k) s work work′ = work′ ≡ cleared s work
 
 abbrev pub RunWork : RunAnswer → State → List ℤ → List ℤ → Type 0
 RunWork (R.Finished m) s work work′ = work′ ≡ cleared s work
-RunWork (R.Refused r) s work work′ = (number r ≤ 2 → work′ ≡ work) × (2 < number r → work′ ≡ cleared s work)
+RunWork (R.Refused r) s work work′ = RefusedWork r s work work′
 RunWork (R.Stopped m p f k) s work work′ = work′ ≡ cleared s work
 
 pub record WorkClaim : Type 0 where
@@ -95,7 +106,11 @@ RoundingClaim = (a b : ℤ) → pos 1 ≤ℤ b → let away = 2 * natAbs (a -ℤ
 abbrev pub Holds : State → List ℤ → (ℕ → ℕ → ℤ) → Type 0
 Holds s d f = (i j : ℕ) → i < s .w → j < s .n → at (s .w) d i j ≡ f i j
 
--- an accepted potential vorticity call fills in q, which may then be lent to the tendency call
+-- the potential vorticity of a state within the limits is within its own limits
+abbrev pub OwnVorticityClaim : Type 0
+OwnVorticityClaim = (s : State) → WithinLimits s → FieldWithin vorticityLimits (cells s) (vorticity s)
+
+-- an accepted potential vorticity call fills it in, and it may then be lent to the tendency call
 abbrev pub VorticityClaim : Type 0
 VorticityClaim = (s : State) (d d′ : List ℤ) → VorticityPromise s d F.Done d′
     → Holds s d′ (vorticityAt s) × FieldWithin vorticityLimits (cells s) (take (cells s) d′) × (drop (cells s) d′ ≡ drop (cells s) d)
@@ -128,10 +143,14 @@ PassClaim = (base given : State) (inflow du dv : List ℤ) → given .w ≡ base
     → Holds base (pass base given inflow .u) (λ i j. at (base .w) (base .u) i j +ℤ rnd (at (base .w) du i j) (pos 3145728 *ℤ given .R))
     × Holds base (pass base given inflow .v) (λ i j. at (base .w) (base .v) i j +ℤ rnd (at (base .w) dv i j) (pos 3145728 *ℤ given .R))
 
--- a step leads within the limits, by a pass that led within them; so inside a run only refusal 6 can stop it
-abbrev pub StepClaim : Type 0
-StepClaim = (s t : State) (inflow : List ℤ) → WithinLimits s → twoPass s inflow ≡ moved t
-    → WithinLimits (pass s s inflow) × (t ≡ pass s (pass s s inflow) inflow) × WithinLimits t
+-- of a state within the limits: a step leads on exactly where both passes keep the limits, to pass 2's result; so inside a run only
+-- refusal 6 can stop it. It is stuck in pass 1, or else in pass 2, at the first place that this pass leaves
+pub record StepClaim : Type 0 where
+  pub moves : (s t : State) (inflow : List ℤ) → WithinLimits s
+      → (twoPass s inflow ≡ moved t) ↔ (WithinLimits (pass s s inflow) × WithinLimits t × (t ≡ pass s (pass s s inflow) inflow))
+  pub stuck-1 : (s : State) (inflow : List ℤ) (x : Place) → leaves (pass s s inflow) ≡ some x → twoPass s inflow ≡ stuck 1 x
+  pub stuck-2 : (s : State) (inflow : List ℤ) (x : Place) → leaves (pass s s inflow) ≡ none → leaves (pass s (pass s s inflow) inflow) ≡ some x
+      → twoPass s inflow ≡ stuck 2 x
 
 -- the state after m definition steps, each of which leads on
 pub data Steps (inflow : List ℤ) : ℕ → State → State → Type 0 where
@@ -149,6 +168,17 @@ abbrev pub RunClaim : Type 0
 RunClaim = (s s′ : State) (inflow work work′ : List ℤ) (m : ℕ) (answer : RunAnswer) → RunPromise s inflow m work answer s′ work′
     → Steps inflow (runCount answer) s s′ × Ended inflow m answer s′
 
+-- a run that is not refused leaves what as many public step calls leave; where it stopped, the next one answers the 6 that it tells
+abbrev pub NextStep : List ℤ → (room : ℕ) → RunAnswer → State → Type 0
+NextStep inflow room (R.Refused r) t = Unit
+NextStep inflow room (R.Finished k) t = Unit
+NextStep inflow room (R.Stopped k p f c) t = stepAnswer t inflow room ≡ S.OutOfBounds p f c
+
+abbrev pub RunStepsClaim : Type 0
+RunStepsClaim = (s s′ : State) (inflow work work′ lent : List ℤ) (m : ℕ) (answer : RunAnswer) → RunPromise s inflow m work answer s′ work′
+    → ((r : Refusal) → answer ≡ R.Refused r → ⊥) → workLength s ≤ length lent
+    → History s (replicate (runCount answer) (step inflow lent)) s′ × NextStep inflow (length lent) answer s′
+
 -- ---- the record
 
 -- written, then read into destinations that have room: the same state and timestamp
@@ -160,6 +190,11 @@ RoundTripClaim = (s : State) (t : ℕ) (d d′ : List ℕ) (written : WriteAnswe
     → ReadPromise (take (recordLength s) d′) h b u v answer h′ b′ u′ v′
     → (written ≡ W.Written (recordLength s)) × (answer ≡ G.Read (parametersOf s) t)
     × (stateOf (parametersOf s) (take (cells s) h′) (take (cells s) b′) (take (cells s) u′) (take (cells s) v′) ≡ s)
+
+-- what an accepted read fills in is a state within the limits
+abbrev pub ReadClaim : Type 0
+ReadClaim = (rec : List ℕ) (h b u v h′ b′ u′ v′ : List ℤ) (p : Parameters) (t : ℕ) → ReadPromise rec h b u v (G.Read p t) h′ b′ u′ v′
+    → let m = p .w * p .n in WithinLimits (stateOf p (take m h′) (take m b′) (take m u′) (take m v′))
 
 -- each number is a byte, as in any slice of bytes
 abbrev pub Bytes : List ℕ → Type 0
@@ -190,6 +225,15 @@ swapped (SecondRefused r) = FirstRefused r
 
 pub record CompareClaim : Type 0 where
   pub same : (first second : List ℕ) (answer : CompareAnswer) → ComparePromise first second answer → (answer ≡ Same) ↔ BothAre first second
+  -- two accepted records: the newer timestamp tells, and under one timestamp different states conflict
+  pub newer : (first second : List ℕ) (answer : CompareAnswer) (s t : State) (x y : ℕ) → decode first [] ≡ accepted s x → decode second [] ≡ accepted t y
+      → ComparePromise first second answer
+      → ((answer ≡ FirstNewer) ↔ (y < x)) × ((answer ≡ SecondNewer) ↔ (x < y)) × ((answer ≡ Conflict) ↔ ((x ≡ y) × (s ≡ t → ⊥)))
+  -- the first record is refused before the second is looked at
+  pub first-refused : (first second : List ℕ) (answer : CompareAnswer) (r : Refusal) → ComparePromise first second answer
+      → (answer ≡ FirstRefused r) ↔ (decode first [] ≡ refused r)
+  pub second-refused : (first second : List ℕ) (answer : CompareAnswer) (r : Refusal) (s : State) (x : ℕ) → decode first [] ≡ accepted s x
+      → ComparePromise first second answer → (answer ≡ SecondRefused r) ↔ (decode second [] ≡ refused r)
   pub swap : (first second : List ℕ) (answer back : CompareAnswer) (s t : State) (x y : ℕ) → decode first [] ≡ accepted s x → decode second [] ≡ accepted t y
       → ComparePromise first second answer → ComparePromise second first back → back ≡ swapped answer
 
@@ -198,18 +242,11 @@ pub record CompareClaim : Type 0 where
 -- the scaled energy rate is the product rule's: let h change by 1,572,864 times its tendency, u and v by theirs, all times e (this is
 -- the time of e times 3,145,728 spacings); then four times total energy changes by e times the rate, but for terms in e²
 abbrev pub changed : State → ℤ → (dh du dv : List ℤ) → State
-changed s e dh du dv = record {
-  w = s .w;
-  n = s .n;
-  kind = s .kind;
-  G = s .G;
-  c = s .c;
-  R = s .R;
-  h = byCell (s .w) (s .n) (λ i j. at (s .w) (s .h) i j +ℤ e *ℤ (pos 1572864 *ℤ at (s .w) dh i j));
-  b = s .b;
-  u = byCell (s .w) (s .n) (λ i j. at (s .w) (s .u) i j +ℤ e *ℤ at (s .w) du i j);
-  v = byCell (s .w) (s .n) (λ i j. at (s .w) (s .v) i j +ℤ e *ℤ at (s .w) dv i j);
-}
+changed s e dh du dv =
+    withFlow s
+    (byCell (s .w) (s .n) (λ i j. at (s .w) (s .h) i j +ℤ e *ℤ (pos 1572864 *ℤ at (s .w) dh i j)))
+    (byCell (s .w) (s .n) (λ i j. at (s .w) (s .u) i j +ℤ e *ℤ at (s .w) du i j))
+    (byCell (s .w) (s .n) (λ i j. at (s .w) (s .v) i j +ℤ e *ℤ at (s .w) dv i j))
 
 abbrev pub EnergyRateClaim : Type 0
 EnergyRateClaim = (s : State) (dh du dv : List ℤ) (e : ℤ)

@@ -8,12 +8,12 @@ use lib.IntN.{ℤ, pos, negℤ}
 use lib.ListN.{length, take, drop, replicate}
 use Rattle.model.specs.Numbers.{rnd, eqℤ, sameBy, all}
 use Rattle.model.specs.Grid.{filled}
-use Rattle.model.specs.State.{State, cells}
+use Rattle.model.specs.State.{State, withFlow, cells}
 use Rattle.model.specs.Answers.{toldFill, toldStep, toldRun, toldTotal, toldWrite, toldRead, toldCompare}
 use Rattle.model.specs.Scheme.{vorticity, hTendencies, uTendencies, vTendencies}
 use Rattle.model.specs.Totals.{totalDepth, energy4}
 use Rattle.model.specs.Step.{stepTest, stepAnswer, stepState, Ran, runTest, runOf, workLeft}
-use Rattle.model.specs.Record.{bytes, Decoded, encode, recordLength, compareAnswer}
+use Rattle.model.specs.Record.{bytes, Decoded, sameState, encode, recordLength, compareAnswer}
 use Rattle.model.specs.Program.{text, programOutput}
 use Rattle.model.specs.Promises.{fillAnswer, leftBy, totalTest, totalAnswer, writeAnswer, readAnswer, readInto, vorticityTest, tendenciesTest, writeTest, readOf}
 use Rattle.model.specs.Opened.{everything}
@@ -37,9 +37,9 @@ infix 40 _is_
 abbrev _is_ : List ℤ → List ℤ → Bool
 a is b = sameBy eqℤ a b
 
--- t has s's grid and bottom, and these depths and velocities
+-- t has s's parameters and bottom, and these depths and velocities
 abbrev stateIs : State → State → List ℤ → List ℤ → List ℤ → Bool
-stateIs s t h u v = eqb (t .w) (s .w) && eqb (t .n) (s .n) && t .h is h && t .b is s .b && t .u is u && t .v is v
+stateIs s t h u v = sameState t (withFlow s h u v)
 
 abbrev readIs : Decoded → (h b u v : List ℤ) → (answer h′ b′ u′ v′ : List ℤ) → Bool
 readIs x h b u v a h′ b′ u′ v′ =

@@ -1,5 +1,5 @@
 -- Whole numbers: rounding, 01's bounds, and tests that compute.
-use mathlib.Core.Bool.{Bool, true, false, _&&_}
+use mathlib.Core.Bool.{Bool, true, false, _&&_, _||_}
 use mathlib.Core.List.{List, [], _∷_}
 use Prim.Native.Nat.{ℕ, suc, _+_, _*_, _/_}
 use lib.Dec.{eqb}
@@ -48,7 +48,7 @@ coriolisLimits = negℤ (pos 10000) to pos 10000
 unfoldable pub ratioLimits : Limits
 ratioLimits = pos 1000 to pos 1000000
 
--- mm a step
+-- inflow (01: river entry s), mm a step
 unfoldable pub inflowLimits : Limits
 inflowLimits = negℤ (pos 1000) to pos 1000
 
@@ -83,6 +83,10 @@ eqℤ (negsuc a) (negsuc b) = eqb a b
 abbrev pub all : {A : Type 0} → (A → Bool) → List A → Bool
 all p [] = true
 all p (x ∷ l) = p x && all p l
+
+abbrev pub any : {A : Type 0} → (A → Bool) → List A → Bool
+any p [] = false
+any p (x ∷ l) = p x || any p l
 
 -- two lists have the same elements by a test
 abbrev pub sameBy : {A : Type 0} → (A → A → Bool) → List A → List A → Bool

@@ -2,7 +2,6 @@
 -- (`answers`), what that means in 01's numbers and values (`tells`), and what each lent slice holds afterwards, refused calls too.
 -- A dash marks what stands in a lent slice as the call returns. No call changes any other slice.
 use mathlib.Core.Path.{_≡_}
-use mathlib.Core.Bool.{true}
 use mathlib.Core.List.{List, [], _∷_}
 use mathlib.Core.Option.{Option, none, some}
 use Prim.Native.Nat.{ℕ}
@@ -15,7 +14,7 @@ use Rattle.model.specs.Refusals.{vorticityTaken, callTest, stateTest}
 use Rattle.model.specs.Scheme.{vorticity, hTendencies, uTendencies, vTendencies}
 use Rattle.model.specs.Totals.{totalDepth, energy4}
 use Rattle.model.specs.Step.{stepTest, stepAnswer, stepState, runTest, runOf, workLeft}
-use Rattle.model.specs.Record.{Decoded, accepted, refused, decode, encode, recordLength, compareAnswer}
+use Rattle.model.specs.Record.{Timestamp, Decoded, accepted, refused, decode, encode, recordLength, compareAnswer}
 use Rattle.model.specs.declared.Refusal.{Refusal}
 use Rattle.model.specs.declared.FillAnswer.{FillAnswer}
 use Rattle.model.specs.declared.StepAnswer.{StepAnswer}
@@ -52,7 +51,7 @@ pub record VorticityPromise (s : State) (d : List ℤ) (answer : FillAnswer) (d�
 -- ---- tendencies, from a lent q into dh (-D), du (Tu) and dv (Tv): 1, 2, 3, 4, 5, 8
 
 unfoldable pub tendenciesTest : State → List ℤ → ℕ → ℕ → ℕ → Option Refusal
-tendenciesTest s q a b c = callTest s (vorticityTaken q) (cells s) (a ∷ b ∷ c ∷ [])
+tendenciesTest s q a b c = callTest s (vorticityTaken s q) (cells s) (a ∷ b ∷ c ∷ [])
 
 -- It rules out: tendencies of zeros; β's weights from the edge's own cell; 8 told before 4.
 pub record TendenciesPromise (s : State) (q dh du dv : List ℤ) (answer : FillAnswer) (dh′ du′ dv′ : List ℤ) : Type 0 where
@@ -81,7 +80,7 @@ pub record RunPromise (s : State) (inflow : List ℤ) (m : ℕ) (work : List ℤ
 -- ---- totals: 1 to 5
 
 unfoldable pub totalTest : State → Option Refusal
-totalTest s = stateTest s [] true true
+totalTest s = stateTest s [] none none
 
 abbrev pub totalAnswer : Option Refusal → ℤ → TotalAnswer
 totalAnswer none x = T.Total x
@@ -106,7 +105,7 @@ writeAnswer none m = W.Written m
 writeAnswer (some r) m = W.Refused r
 
 -- It rules out: a field little-endian; a byte written past the record.
-pub record WritePromise (s : State) (timestamp : ℕ) (d : List ℕ) (answer : WriteAnswer) (d′ : List ℕ) : Type 0 where
+pub record WritePromise (s : State) (timestamp : Timestamp) (d : List ℕ) (answer : WriteAnswer) (d′ : List ℕ) : Type 0 where
   pub answers : answer ≡ writeAnswer (writeTest s (length d)) (recordLength s)
   pub tells : toldWrite answer ≡ toldWrite (writeAnswer (writeTest s (length d)) (recordLength s))
   pub fills : d′ ≡ leftBy (writeTest s (length d)) (filled (recordLength s) (encode s timestamp) d) d

@@ -1,5 +1,5 @@
 -- The record: fields of a one-byte tag, a two-byte length and the value; numbers big-endian, negative ones two's complement.
-use mathlib.Core.Bool.{Bool, true, false, not, cond, _&&_, _||_}
+use mathlib.Core.Bool.{Bool, true, false, not, cond, _&&_}
 use mathlib.Core.List.{List, [], _∷_, _++_, map}
 use mathlib.Core.Option.{Option, none, some}
 use Prim.Native.Nat.{ℕ, zero, suc, _+_, _*_, _/_, _%_, _^_}
@@ -8,12 +8,12 @@ use lib.IntN.{ℤ}
 use lib.ListN.{length, getD, take, drop}
 use mir.Syntax.{w16, w32}
 use mir.Val.{toZ, ofZ}
-use Rattle.model.specs.Numbers.{all, eqℤ, sameBy}
+use Rattle.model.specs.Numbers.{all, any, eqℤ, sameBy}
 use Rattle.model.specs.Grid.{tabulate}
 use Rattle.model.specs.State.{State, cells}
-use Rattle.model.specs.Refusals.{_then_, must, gridKnown, contentTest, roomTest}
+use Rattle.model.specs.Refusals.{_then_, must, fieldsOf, gridTest, contentTest, roomTest}
 use Rattle.model.specs.declared.Refusal.{Refusal}
-use Rattle.model.specs.declared.Refusal.the-variants.{Grid, Lengths, Record}
+use Rattle.model.specs.declared.Refusal.the-variants.{Lengths, Record}
 use Rattle.model.specs.declared.CompareAnswer.{CompareAnswer}
 use Rattle.model.specs.declared.CompareAnswer.the-variants.{Same, FirstNewer, SecondNewer, Conflict, FirstRefused, SecondRefused}
 
@@ -59,8 +59,14 @@ abbrev pub joined : List Part → List ℕ
 joined [] = []
 joined (p ∷ l) = p .tag ∷ (bytes 2 (length (p .value)) ++ (p .value ++ joined l))
 
--- the timestamp (01: stamp) is whole seconds since 2000-01-01 00:00
-unfoldable pub partsOf : State → ℕ → List Part
+-- the timestamp (01: stamp): whole seconds since 2000-01-01 00:00, below 2⁶⁴
+abbrev pub Timestamp : Type 0
+Timestamp = ℕ
+
+abbrev pub newer : Timestamp → Timestamp → Bool
+newer a b = ltb b a
+
+unfoldable pub partsOf : State → Timestamp → List Part
 partsOf s timestamp =
     record { tag = 1; value = s .w ∷ s .n ∷ s .kind ∷ [] }
     ∷ record { tag = 2; value = bytes4 (s .G) ++ (bytes4 (s .c) ++ bytes4 (s .R)) }
@@ -71,7 +77,7 @@ partsOf s timestamp =
     ∷ record { tag = 7; value = eachBy bytes2 (s .v) }
     ∷ []
 
-unfoldable pub encode : State → ℕ → List ℕ
+unfoldable pub encode : State → Timestamp → List ℕ
 encode s timestamp = joined (partsOf s timestamp)
 
 -- its length
@@ -84,8 +90,7 @@ abbrev pub tags : List ℕ
 tags = 1 ∷ 2 ∷ 3 ∷ 4 ∷ 5 ∷ 6 ∷ 7 ∷ []
 
 abbrev pub has : ℕ → List Part → Bool
-has t [] = false
-has t (p ∷ l) = eqb (p .tag) t || has t l
+has t parts = any (λ p. eqb (p .tag) t) parts
 
 -- the value of a tag
 abbrev pub valueOf : ℕ → List Part → List ℕ
@@ -103,7 +108,7 @@ abbrev pub partAt : List ℕ → ℕ → Part
 partAt rec k = record { tag = tagAt rec k; value = take (sizeAt rec k) (drop (k + 3) rec) }
 
 abbrev pub knownTag : ℕ → Bool
-knownTag t = leb 1 t && leb t 7
+knownTag t = any (eqb t) tags
 
 -- tags 1, 2 and 3 have one length
 abbrev pub rightSize : ℕ → ℕ → Bool
@@ -166,7 +171,7 @@ stateIn parts =
       v = numbers signed2 2 m (valueOf 7 parts);
     }
 
-unfoldable pub timestampIn : List Part → ℕ
+unfoldable pub timestampIn : List Part → Timestamp
 timestampIn parts = unsigned (valueOf 3 parts)
 
 -- 2, in a record: a field's length is not that of the bytes of w·n numbers
@@ -177,18 +182,21 @@ bytesRight s parts =
     && eqb (length (valueOf 6 parts)) (2 * cells s)
     && eqb (length (valueOf 7 parts)) (2 * cells s)
 
+unfoldable pub bytesTest : State → List Part → Option Refusal
+bytesTest s parts = must (bytesRight s parts) Lengths
+
 -- ---- a record read: 7, then 1, 2, 8, 3, 4, 5
 
 pub data Decoded : Type 0 where
-  accepted : State → (timestamp : ℕ) → Decoded
+  accepted : State → Timestamp → Decoded
   refused : Refusal → Decoded
 
-abbrev pub judged : Option Refusal → State → ℕ → Decoded
+abbrev pub judged : Option Refusal → State → Timestamp → Decoded
 judged none s t = accepted s t
 judged (some r) s t = refused r
 
 unfoldable pub recordTest : State → List Part → List ℕ → Option Refusal
-recordTest s parts rooms = must (gridKnown s) Grid then must (bytesRight s parts) Lengths then roomTest (cells s) rooms then contentTest s []
+recordTest s parts rooms = gridTest s then bytesTest s parts then roomTest (cells s) rooms then contentTest s (fieldsOf s)
 
 abbrev pub readBy : List ℕ → Walked → Decoded
 readBy rooms (damaged r) = refused r
@@ -216,11 +224,11 @@ sameState s t =
     && sameBy eqℤ (s .h) (t .h) && sameBy eqℤ (s .b) (t .b) && sameBy eqℤ (s .u) (t .u) && sameBy eqℤ (s .v) (t .v)
 
 -- the newer timestamp tells; under one timestamp the states do
-unfoldable pub compared : State → ℕ → State → ℕ → CompareAnswer
-compared s a t b = cond (ltb b a) FirstNewer (cond (ltb a b) SecondNewer (cond (sameState s t) Same Conflict))
+unfoldable pub compared : State → Timestamp → State → Timestamp → CompareAnswer
+compared s a t b = cond (newer a b) FirstNewer (cond (newer b a) SecondNewer (cond (sameState s t) Same Conflict))
 
 -- the first record wholly, then the second
-abbrev pub compareSecond : State → ℕ → Decoded → CompareAnswer
+abbrev pub compareSecond : State → Timestamp → Decoded → CompareAnswer
 compareSecond s a (accepted t b) = compared s a t b
 compareSecond s a (refused r) = SecondRefused r
 

@@ -45,70 +45,80 @@ refusedAt r (some p) = some (r (p .field) (p .cell))
 
 -- ---- fields that a call takes
 
--- a field: its name in a refusal, its limits and its numbers
+-- a field: its name in a refusal, how many numbers it must have, their limits, and the numbers
 pub record Taken : Type 0 where
   pub field : Field
+  pub count : ℕ
   pub limits : Limits
   pub numbers : List ℤ
 
 abbrev pub depthOf : State → Taken
-depthOf s = record { field = Depth; limits = depthLimits; numbers = s .h }
+depthOf s = record { field = Depth; count = cells s; limits = depthLimits; numbers = s .h }
 
 abbrev pub bottomOf : State → Taken
-bottomOf s = record { field = Bottom; limits = bottomLimits; numbers = s .b }
+bottomOf s = record { field = Bottom; count = cells s; limits = bottomLimits; numbers = s .b }
 
 abbrev pub uOf : State → Taken
-uOf s = record { field = VelocityU; limits = velocityLimits; numbers = s .u }
+uOf s = record { field = VelocityU; count = cells s; limits = velocityLimits; numbers = s .u }
 
 abbrev pub vOf : State → Taken
-vOf s = record { field = VelocityV; limits = velocityLimits; numbers = s .v }
+vOf s = record { field = VelocityV; count = cells s; limits = velocityLimits; numbers = s .v }
 
 abbrev pub fieldsOf : State → List Taken
 fieldsOf s = depthOf s ∷ bottomOf s ∷ uOf s ∷ vOf s ∷ []
 
--- beside the state: a potential vorticity q, or an inflow (01: entry s)
-abbrev pub vorticityTaken : List ℤ → List Taken
-vorticityTaken q = record { field = Vorticity; limits = vorticityLimits; numbers = q } ∷ []
+-- beside the state: a potential vorticity q, or an inflow (01: river entry s)
+abbrev pub vorticityTaken : State → List ℤ → List Taken
+vorticityTaken s q = record { field = Vorticity; count = cells s; limits = vorticityLimits; numbers = q } ∷ []
 
-abbrev pub inflowTaken : List ℤ → List Taken
-inflowTaken s = record { field = Inflow; limits = inflowLimits; numbers = s } ∷ []
+abbrev pub inflowTaken : State → List ℤ → List Taken
+inflowTaken s inflow = record { field = Inflow; count = cells s; limits = inflowLimits; numbers = inflow } ∷ []
 
 -- the first place outside: fields in their order, then lowest cell
 abbrev pub outside : Taken → ℕ → Bool
 outside f k = not (within (f .limits) (getD (f .numbers) k (pos 0)))
 
-abbrev pub firstOutside : ℕ → List Taken → Option Place
-firstOutside m [] = none
-firstOutside m (f ∷ l) = placed (f .field) (firstFrom (outside f) m 0) (firstOutside m l)
+abbrev pub firstOutside : List Taken → Option Place
+firstOutside [] = none
+firstOutside (f ∷ l) = placed (f .field) (firstFrom (outside f) (f .count) 0) (firstOutside l)
 
--- ---- the table's causes
+-- ---- the table's tests
 
 -- 1: w, n or kind unknown
 unfoldable pub gridKnown : State → Bool
 gridKnown s = leb 1 (s .w) && leb (s .w) longestSide && leb 1 (s .n) && leb (s .n) longestSide && known (boundaryOf (s .kind))
 
+unfoldable pub gridTest : State → Option Refusal
+gridTest s = must (gridKnown s) Grid
+
 -- 1: run too long
-unfoldable pub runAllowed : ℕ → Bool
-runAllowed m = leb m longestRun
+unfoldable pub runLengthTest : ℕ → Option Refusal
+runLengthTest m = must (leb m longestRun) Grid
 
 -- 2: a field's length is not w·n
-unfoldable pub lengthsRight : State → List Taken → Bool
-lengthsRight s extra = all (λ f. eqb (length (f .numbers)) (cells s)) (fieldsOf s ++ extra)
+abbrev pub long : Taken → Bool
+long f = eqb (length (f .numbers)) (f .count)
+
+unfoldable pub lengthTest : List Taken → Option Refusal
+lengthTest fields = must (all long fields) Lengths
 
 -- 2: work space short, of m numbers
 abbrev pub workLength : State → ℕ
 workLength s = 8 * cells s
 
-unfoldable pub workEnough : State → ℕ → Bool
-workEnough s m = leb (workLength s) m
+unfoldable pub workTest : State → ℕ → Option Refusal
+workTest s m = must (leb (workLength s) m) Lengths
 
 -- 3: G, c or R outside
 unfoldable pub constantsWithin : State → Bool
 constantsWithin s = within gravityLimits (s .G) && within coriolisLimits (s .c) && within ratioLimits (s .R)
 
+unfoldable pub constantsTest : State → Option Refusal
+constantsTest s = must (constantsWithin s) Constants
+
 -- 4: a value outside; fields in order h, b, u, v, then q or s; lowest cell
-unfoldable pub valueTest : State → List Taken → Option Refusal
-valueTest s extra = refusedAt Value (firstOutside (cells s) (fieldsOf s ++ extra))
+unfoldable pub valueTest : List Taken → Option Refusal
+valueTest fields = refusedAt Value (firstOutside fields)
 
 -- 5: velocity on a closed edge, u before v; lowest cell
 abbrev pub moving : State → (State → ℕ → ℕ → Bool) → List ℤ → ℕ → Bool
@@ -129,12 +139,15 @@ roomTest m rooms = must (all (λ room. leb m room) rooms) Destination
 
 -- tests 3 to 5
 unfoldable pub contentTest : State → List Taken → Option Refusal
-contentTest s extra = must (constantsWithin s) Constants then valueTest s extra then edgeTest s
+contentTest s fields = constantsTest s then valueTest fields then edgeTest s
 
--- tests 1 to 5; `run` and `work` are what else falls under 1 and 2
-unfoldable pub stateTest : State → List Taken → Bool → Bool → Option Refusal
-stateTest s extra run work = must (gridKnown s && run) Grid then must (lengthsRight s extra && work) Lengths then contentTest s extra
+-- tests 1 to 5 of a state and further fields; `run` and `work` are the tests of what else falls under 1 and 2
+unfoldable pub stateTest : State → List Taken → (run work : Option Refusal) → Option Refusal
+stateTest s extra run work =
+    gridTest s then run
+    then lengthTest (fieldsOf s ++ extra) then work
+    then contentTest s (fieldsOf s ++ extra)
 
 -- tests 1 to 5, then 8, of a call that fills destinations of m numbers
 unfoldable pub callTest : State → List Taken → ℕ → List ℕ → Option Refusal
-callTest s extra m rooms = stateTest s extra true true then roomTest m rooms
+callTest s extra m rooms = stateTest s extra none none then roomTest m rooms

@@ -37,6 +37,10 @@ parametersOf s = record { w = s .w; n = s .n; kind = s .kind; g = s .G; c = s .c
 abbrev pub cells : State → ℕ
 cells s = s .w * s .n
 
+-- the state with other depths and velocities
+abbrev pub withFlow : State → (h u v : List ℤ) → State
+withFlow s h u v = stateOf (parametersOf s) h (s .b) u v
+
 -- ---- the boundary (01: seam)
 
 -- the boundary that a kind's number stands for

@@ -3,16 +3,15 @@ use mathlib.Core.Bool.{Bool, true, false, cond}
 use mathlib.Core.List.{List, [], _∷_}
 use mathlib.Core.Option.{Option, none, some}
 use Prim.Native.Nat.{ℕ, zero, suc}
-use lib.Dec.{leb}
 use lib.IntN.{ℤ, pos, _+ℤ_, _-ℤ_, _*ℤ_}
 use lib.ListN.{replicate}
 use Rattle.model.specs.Numbers.{rnd}
 use Rattle.model.specs.Grid.{at, byCell, filled}
-use Rattle.model.specs.State.{State, cells}
-use Rattle.model.specs.Answers.{number}
-use Rattle.model.specs.Refusals.{Place, depthOf, uOf, vOf, firstOutside, inflowTaken, runAllowed, workLength, workEnough, stateTest}
-use Rattle.model.specs.Scheme.{fluxU, fluxV, east, north, vorticity, tendencyU, tendencyV}
+use Rattle.model.specs.State.{State, withFlow}
+use Rattle.model.specs.Refusals.{Place, depthOf, uOf, vOf, firstOutside, inflowTaken, runLengthTest, workLength, workTest, stateTest}
+use Rattle.model.specs.Scheme.{fluxU, fluxV, toEast, toNorth, vorticity, tendencyU, tendencyV}
 use Rattle.model.specs.declared.Refusal.{Refusal}
+use Rattle.model.specs.declared.Refusal.the-variants.{Grid, Lengths, Constants, Value, ClosedEdge, Record, Destination}
 use Rattle.model.specs.declared.StepAnswer.{StepAnswer}
 use Rattle.model.specs.declared.StepAnswer.the-variants as S
 use Rattle.model.specs.declared.RunAnswer.{RunAnswer}
@@ -32,7 +31,7 @@ module _ (given : State) where
     unfoldable pub newDepth : List ℤ → ℕ → ℕ → ℤ
     newDepth inflow i j =
         at (base .w) (base .h) i j
-        -ℤ (X (east given i) j -ℤ X i j +ℤ Y i (north given j) -ℤ Y i j)
+        -ℤ (X (toEast given i) j -ℤ X i j +ℤ Y i (toNorth given j) -ℤ Y i j)
         +ℤ at (base .w) inflow i j
 
     -- q is the given state's own potential vorticity
@@ -45,24 +44,16 @@ module _ (given : State) where
 unfoldable pub pass : State → State → List ℤ → State
 pass base given inflow =
     let q = vorticity given in
-    record {
-      w = base .w;
-      n = base .n;
-      kind = base .kind;
-      G = base .G;
-      c = base .c;
-      R = base .R;
-      h = byCell (base .w) (base .n) (newDepth given base inflow);
-      b = base .b;
-      u = byCell (base .w) (base .n) (newU given base q);
-      v = byCell (base .w) (base .n) (newV given base q);
-    }
+    withFlow base
+    (byCell (base .w) (base .n) (newDepth given base inflow))
+    (byCell (base .w) (base .n) (newU given base q))
+    (byCell (base .w) (base .n) (newV given base q))
 
 -- ---- the two-pass step, of a state and an inflow that passed the tests
 
 -- 6: where a pass leaves a bound: h, u, v, then lowest cell
 unfoldable pub leaves : State → Option Place
-leaves s = firstOutside (cells s) (depthOf s ∷ uOf s ∷ vOf s ∷ [])
+leaves s = firstOutside (depthOf s ∷ uOf s ∷ vOf s ∷ [])
 
 -- what a step comes to: the state that it leads to, or the pass and the place at which it leaves a bound
 pub data Outcome : Type 0 where
@@ -83,7 +74,7 @@ twoPass s inflow = let r = pass s s inflow in passed (leaves r) 1 (second s r in
 -- ---- the step call; `room` is the length of its work space
 
 unfoldable pub stepTest : State → List ℤ → ℕ → Option Refusal
-stepTest s inflow room = stateTest s (inflowTaken inflow) true (workEnough s room)
+stepTest s inflow room = stateTest s (inflowTaken s inflow) none (workTest s room)
 
 abbrev pub stepTold : Outcome → StepAnswer
 stepTold (moved t) = S.Done
@@ -126,7 +117,7 @@ runFrom zero done s inflow = record { answer = R.Finished done; state = s }
 runFrom (suc m) done s inflow = runOn (λ t. runFrom m (suc done) t inflow) done s (twoPass s inflow)
 
 unfoldable pub runTest : State → List ℤ → ℕ → ℕ → Option Refusal
-runTest s inflow m room = stateTest s (inflowTaken inflow) (runAllowed m) (workEnough s room)
+runTest s inflow m room = stateTest s (inflowTaken s inflow) (runLengthTest m) (workTest s room)
 
 abbrev pub runBy : Option Refusal → State → Ran → Ran
 runBy none s r = r
@@ -138,9 +129,22 @@ runOf s inflow m room = let r = runFrom m 0 s inflow in runBy (runTest s inflow 
 
 -- ---- the work space: once the length test has passed, its first 8w·n numbers are zero after the call, accepted or not
 
-abbrev pub untouched : Option Refusal → Bool
-untouched none = false
-untouched (some r) = leb (number r) 2
+-- the refusals that leave everything as it was, by the table's last column
+abbrev pub leavesAll : Refusal → Bool
+leavesAll Grid = true
+leavesAll Lengths = true
+leavesAll Constants = false
+leavesAll (Value f k) = false
+leavesAll (ClosedEdge f k) = false
+leavesAll (Record k) = true
+leavesAll Destination = true
+
+abbrev pub cleared : State → List ℤ → List ℤ
+cleared s work = filled (workLength s) (replicate (workLength s) (pos 0)) work
+
+abbrev pub workBy : Option Refusal → State → List ℤ → List ℤ
+workBy none s work = cleared s work
+workBy (some r) s work = cond (leavesAll r) work (cleared s work)
 
 unfoldable pub workLeft : Option Refusal → State → List ℤ → List ℤ
-workLeft t s work = cond (untouched t) work (filled (workLength s) (replicate (workLength s) (pos 0)) work)
+workLeft t s work = workBy t s work

@@ -35,7 +35,7 @@ pub enum Field {
     Inflow,
 }
 
-// What the tests of a call find before anything is worked out: 01's refusals 1, 2, 3, 4, 5, 7 and 8, in this order.
+// What the tests of a call find before anything is worked out: 01's refusals 1, 2, 3, 4, 5, 7 and 8, listed by number.
 pub enum Refusal {
     Grid,
     Lengths,

@@ -1,20 +1,22 @@
 -- Comparison of two records: same exactly where state and timestamp are, and swapped with the records. Assumes nothing.
 use mathlib.Core.Path.{_≡_, refl, sym, ap, ap₂, subst, _∙_}
+use mathlib.Core.Logic.{_↔_}
 use mathlib.Core.Bool.{Bool, true, false, cond, _&&_}
 use mathlib.Core.List.{List, []}
-use Prim.Native.Nat.{ℕ}
+use Prim.Native.Nat.{ℕ, _<_}
 use native.Mathlib.Nat.{le-antisymm, le-refl}
 use native.Mathlib.Omega.{arith}
 use lib.Dec.{T, eqb, ltb, eqb→eq, eqb-refl}
 use lib.IntN.{ℤ, pos, negsuc}
-use borrow.Author.Tests.{ltb-true, ltb-false, le-ltb}
+use borrow.Author.Tests.{ltb-true, ltb-false, lt-ltb, le-ltb}
 use Rattle.model.specs.Numbers.{eqℤ, sameBy}
 use Rattle.model.specs.State.{State}
-use Rattle.model.specs.Record.{Decoded, accepted, refused, decode, sameState, compared, compareBy, compareAnswer}
+use Rattle.model.specs.Record.{Decoded, accepted, refused, decode, sameState, compared, compareSecond, compareBy, compareAnswer}
 use Rattle.model.specs.Claims.{CompareClaim, BothAre, swapped}
+use Rattle.model.specs.declared.Refusal.{Refusal}
 use Rattle.model.specs.declared.CompareAnswer.{CompareAnswer}
-use Rattle.model.specs.declared.CompareAnswer.the-variants.{Same, FirstNewer, SecondNewer, Conflict}
-use Rattle.theorems.specs.Tests.{and-iff, T-true, same-by, by-same, differ}
+use Rattle.model.specs.declared.CompareAnswer.the-variants.{Same, FirstNewer, SecondNewer, Conflict, FirstRefused, SecondRefused}
+use Rattle.theorems.specs.Tests.{_⟫_, and-iff, true-T, T-true, same-by, by-same, differ}
 
 -- ---- the same state
 
@@ -132,6 +134,80 @@ by-decoded : (first second : List ℕ) (s t : State) (x y : ℕ) → decode firs
 unfolding compareAnswer
 by-decoded first second s t x y p q = rw (p, q)
 
+-- ---- newer, conflict
+
+-- three tests, of which the first two exclude each other
+picked-first : (p q r : Bool) → (pick p q r ≡ FirstNewer) ↔ T p
+picked-first true q r = (λ h. tt, λ t. refl)
+picked-first false true r = (λ h. differ (cc h), λ t. absurd t)
+picked-first false false true = (λ h. differ (cc h), λ t. absurd t)
+picked-first false false false = (λ h. differ (cc h), λ t. absurd t)
+
+picked-second : (p q r : Bool) → (T p → T q → ⊥) → (pick p q r ≡ SecondNewer) ↔ T q
+picked-second true q r n = (λ h. differ (cc h), λ t. absurd (n tt t))
+picked-second false true r n = (λ h. tt, λ t. refl)
+picked-second false false true n = (λ h. differ (cc h), λ t. absurd t)
+picked-second false false false n = (λ h. differ (cc h), λ t. absurd t)
+
+picked-conflict : (p q r : Bool) → (pick p q r ≡ Conflict) ↔ ((T p → ⊥) × (T q → ⊥) × (T r → ⊥))
+picked-conflict true q r = (λ h. differ (cc h), λ x. absurd (x .0 tt))
+picked-conflict false true r = (λ h. differ (cc h), λ x. absurd (x .1 tt))
+picked-conflict false false true = (λ h. differ (cc h), λ x. absurd (x .2 tt))
+picked-conflict false false false = (λ h. (λ t. t, λ t. t, λ t. t), λ x. refl)
+
+lt-iff : (a b : ℕ) → T (ltb a b) ↔ (a < b)
+lt-iff a b = (λ t. ltb-true a b (T-true (ltb a b) t), λ l. true-T (lt-ltb a b l))
+
+compared-tells : (s t : State) (a b : ℕ)
+    → ((compared s a t b ≡ FirstNewer) ↔ (b < a)) × ((compared s a t b ≡ SecondNewer) ↔ (a < b)) × ((compared s a t b ≡ Conflict) ↔ ((a ≡ b) × (s ≡ t → ⊥)))
+unfolding compared
+compared-tells s t a b =
+    let p = lt-iff b a in
+    let q = lt-iff a b in
+    let c = picked-conflict (ltb b a) (ltb a b) (sameState s t) in (
+      picked-first (ltb b a) (ltb a b) (sameState s t) ⟫ p,
+      picked-second (ltb b a) (ltb a b) (sameState s t) (λ x y. never (p .0 x) (q .0 y)) ⟫ q,
+      (
+        λ h. let x = c .0 h in (equal (λ l. x .0 (p .1 l)) (λ l. x .1 (q .1 l)), λ e. x .2 (subst (λ z. T (sameState s z)) e (same-self s))),
+        λ x. c .1 (λ l. never2 (x .0) (p .0 l), λ l. never2 (sym (x .0)) (q .0 l), λ l. x .1 (same-state s t l)),
+      ),
+    )
+  where
+    never : b < a → a < b → ⊥
+    never x y = omega arith
+
+    never2 : {a b : ℕ} → a ≡ b → b < a → ⊥
+    never2 e l = omega arith
+
+    equal : (b < a → ⊥) → (a < b → ⊥) → a ≡ b
+    equal x y = omega arith
+
+-- ---- refused
+
+accepted≢ : {A : Type 0} {s : State} {t : ℕ} {r : Refusal} → accepted s t ≡ refused r → A
+accepted≢ h = differ (cc h)
+
+compared-not : (p q r : Bool) (x : Refusal) → (pick p q r ≡ FirstRefused x → ⊥) × (pick p q r ≡ SecondRefused x → ⊥)
+compared-not true q r x = (λ h. differ (cc h), λ h. differ (cc h))
+compared-not false true r x = (λ h. differ (cc h), λ h. differ (cc h))
+compared-not false false true x = (λ h. differ (cc h), λ h. differ (cc h))
+compared-not false false false x = (λ h. differ (cc h), λ h. differ (cc h))
+
+first-by : (x y : Decoded) (r : Refusal) → (compareBy x y ≡ FirstRefused r) ↔ (x ≡ refused r)
+unfolding compared
+first-by (accepted s a) (accepted t b) r = (λ h. absurd (compared-not (ltb b a) (ltb a b) (sameState s t) r .0 h), λ h. accepted≢ h)
+first-by (accepted s a) (refused q) r = (λ h. differ (cc h), λ h. accepted≢ h)
+first-by (refused q) y r = (λ h. cc h, λ h. cc h)
+
+second-by : (s : State) (a : ℕ) (y : Decoded) (r : Refusal) → (compareSecond s a y ≡ SecondRefused r) ↔ (y ≡ refused r)
+unfolding compared
+second-by s a (accepted t b) r = (λ h. absurd (compared-not (ltb b a) (ltb a b) (sameState s t) r .1 h), λ h. accepted≢ h)
+second-by s a (refused q) r = (λ h. cc h, λ h. cc h)
+
+-- an equation of an answer, read as one of what it is
+as-is : {B : Type 0} {x y z : CompareAnswer} → x ≡ y → (y ≡ z) ↔ B → (x ≡ z) ↔ B
+as-is e i = (λ h. i .0 (sym e ∙ h), λ b. e ∙ i .1 b)
+
 pub comparison : CompareClaim
 unfolding compareAnswer
 comparison = record {
@@ -139,6 +215,12 @@ comparison = record {
     λ e. both-by first second (decode first []) (decode second []) refl refl (sym (f .answers) ∙ e),
     λ b. f .answers ∙ by-decoded first second (b .state) (b .state) (b .timestamp) (b .timestamp) (b .in-first) (b .in-second) ∙ same-there (b .state) (b .timestamp),
   );
+  newer = λ first second answer s t x y p q f.
+      let e = f .answers ∙ by-decoded first second s t x y p q in
+      let c = compared-tells s t x y in
+      (as-is e (c .0), as-is e (c .1), as-is e (c .2));
+  first-refused = λ first second answer r f. as-is (f .answers) (first-by (decode first []) (decode second []) r);
+  second-refused = λ first second answer r s x p f. as-is (f .answers ∙ ap (λ z. compareBy z (decode second [])) p) (second-by s x (decode second []) r);
   swap = λ first second answer back s t x y p q f g.
       g .answers ∙ by-decoded second first t s y x q p ∙ compared-swapped s t x y ∙ ap swapped (sym (by-decoded first second s t x y p q) ∙ sym (f .answers));
 }

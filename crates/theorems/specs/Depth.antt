@@ -7,6 +7,7 @@ use lib.IntN.{ℤ, pos, _+ℤ_, _-ℤ_, +ℤ-idr}
 use lib.ListN.{length, getD}
 use Rattle.model.specs.Numbers.{total}
 use Rattle.model.specs.Grid.{next, at, byCell, sumTo}
+use Rattle.model.specs.Scheme.{divergence}
 use Rattle.integers.specs.Ring.{Identity, ring, _⊕_, _⊖_, _⊜_}
 use Rattle.grid.specs.Sums.{grid, grid-cong, grid-add, sum-head, sum-rows}
 use Rattle.theorems.specs.Conservation.{mass-law}
@@ -28,6 +29,7 @@ regroup = ring tt
 
 pub depth-sum : (w n : ℕ) (h inflow : List ℤ) (X Y : ℕ → ℕ → ℤ) → length h ≡ w * n → length inflow ≡ w * n
     → total (byCell w n (λ i j. at w h i j -ℤ (X (next w i) j -ℤ X i j +ℤ Y i (next n j) -ℤ Y i j) +ℤ at w inflow i j)) ≡ total h +ℤ total inflow
+unfolding divergence
 depth-sum w n h inflow X Y lh li =
     let d : ℕ → ℕ → ℤ = λ i j. X (next w i) j -ℤ X i j +ℤ Y i (next n j) -ℤ Y i j in
     let f : ℕ → ℕ → ℤ = λ i j. at w h i j -ℤ d i j +ℤ at w inflow i j in

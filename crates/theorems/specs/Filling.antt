@@ -15,7 +15,7 @@ use Rattle.model.specs.Claims.{Holds, TendenciesAcceptedClaim, TendenciesClaim}
 use Rattle.model.specs.declared.Refusal.{Refusal}
 use Rattle.model.specs.declared.FillAnswer.the-variants as F
 use Rattle.theorems.specs.Tests.{differ}
-use Rattle.theorems.specs.Limits.{call-iff}
+use Rattle.theorems.specs.Limits.{accepted}
 use Rattle.theorems.specs.Fields.{length-byCell, at-byCell, at-filled, take-filled, drop-filled}
 
 -- ---- accepted is tested and passed
@@ -28,7 +28,7 @@ pub tendencies-accepted : TendenciesAcceptedClaim
 unfolding tendenciesTest
 tendencies-accepted s q dh du dv dh′ du′ dv′ answer p =
     let i = done-iff (tendenciesTest s q (length dh) (length du) (length dv)) in
-    let c = call-iff s (vorticityTaken q) (cells s) (length dh ∷ length du ∷ length dv ∷ []) in (
+    let c = accepted .call s (vorticityTaken s q) (cells s) (length dh ∷ length du ∷ length dv ∷ []) in (
       λ e. let x = c .0 (i .0 (sym (p .answers) ∙ e)) in (x .0, x .1 .0, x .2 .0, x .2 .1 .0, x .2 .1 .1 .0),
       λ x. p .answers ∙ i .1 (c .1 (x .0, (x .1, tt), (x .2, (x .3, (x .4, tt))))),
     )
@@ -74,4 +74,4 @@ unfolding vorticityTest vorticity
 vorticity-fill s d d′ p =
     let e = done-iff (vorticityTest s (length d)) .0 (sym (p .answers)) in
     let l = left (s .w) (s .n) (vorticityAt s) d d′ (vorticityTest s (length d)) e (p .fills) in
-    record { inside = call-iff s [] (cells s) (length d ∷ []) .0 e .0; cell = l .cell; first = l .first; rest = l .rest }
+    record { inside = accepted .call s [] (cells s) (length d ∷ []) .0 e .0; cell = l .cell; first = l .first; rest = l .rest }

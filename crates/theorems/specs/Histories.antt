@@ -1,6 +1,5 @@
 -- Any list of step and run calls keeps the limits, and total depth balances over it. Assumes nothing.
 use mathlib.Core.Path.{_≡_, refl, sym, ap, subst, _∙_}
-use mathlib.Core.Bool.{Bool, true}
 use mathlib.Core.List.{List, _∷_}
 use mathlib.Core.Option.{Option, none, some}
 use Prim.Native.Nat.{ℕ, suc}
@@ -8,7 +7,7 @@ use lib.IntN.{ℤ, pos, _+ℤ_, _*ℤ_, +ℤ-assoc, +ℤ-comm, +ℤ-idr, zero-*�
 use lib.ListN.{length}
 use Rattle.model.specs.Numbers.{total}
 use Rattle.model.specs.State.{State, cells, WithinLimits}
-use Rattle.model.specs.Refusals.{inflowTaken, runAllowed, workEnough, stateTest}
+use Rattle.model.specs.Refusals.{inflowTaken, runLengthTest, workTest, stateTest}
 use Rattle.model.specs.Step.{Outcome, moved, stuck, Ran, twoPass, stepTold, afterStep, stepTest, stepAnswerBy, stepStateBy, stepAnswer, stepState, runFrom, runTest, runBy, runOf}
 use Rattle.model.specs.Totals.{totalDepth}
 use Rattle.model.specs.Histories.{Call, step, run, inflowOf, stepCount, runCount, stepsDone, stateAfter, inflowDue, History, nothing, stepped, ran}
@@ -42,12 +41,12 @@ one-done m a b c x p q =
 steps-linked : (inflow : List ℤ) (k : ℕ) (s t : State) → length inflow ≡ cells s → WithinLimits s → Steps inflow k s t → Linked s t k inflow
 steps-linked inflow k s t e l (start {s = x}) = stays x inflow l
 steps-linked inflow k s t e l (onward {m = m} {s = x} {t = y} {e = z} h r) =
-    let d = steps-linked inflow m y z (e ∙ sym (step-cells x y inflow h)) (step-within x y inflow l h .2) r in
+    let d = steps-linked inflow m y z (e ∙ sym (step-cells x y inflow h)) (step-within .moves x y inflow l .0 h .1) r in
     record { inside = d .inside; balance = one-done m (total (x .h)) (total (y .h)) (total (z .h)) (total inflow) (step-total x y inflow l e h) (d .balance) }
 
 -- an accepted call's inflow has a number for each cell
-inflow-long : (s : State) (inflow : List ℤ) (a b : Bool) → stateTest s (inflowTaken inflow) a b ≡ none → length inflow ≡ cells s
-inflow-long s inflow a b h = accepted s (inflowTaken inflow) a b .0 h .1 .0 .long
+inflow-long : (s : State) (inflow : List ℤ) (a b : Option Refusal) → stateTest s (inflowTaken s inflow) a b ≡ none → length inflow ≡ cells s
+inflow-long s inflow a b h = accepted .state s (inflowTaken s inflow) a b .0 h .1 .0 .long
 
 step-by : (s : State) (inflow : List ℤ) → WithinLimits s → (length inflow ≡ cells s) → (o : Outcome) → twoPass s inflow ≡ o
     → Linked s (afterStep s o) (stepCount (stepTold o)) inflow
@@ -66,17 +65,17 @@ run-tested s inflow l (some x) e r h = stays s inflow l
 
 call-linked : (s : State) → WithinLimits s → (c : Call) → Linked s (stateAfter s c) (stepsDone s c) (inflowOf c)
 unfolding stepState stepAnswer stepTest runOf runTest
-call-linked s l (step inflow work) = step-tested s inflow l (stepTest s inflow (length work)) (inflow-long s inflow true (workEnough s (length work)))
+call-linked s l (step inflow work) = step-tested s inflow l (stepTest s inflow (length work)) (inflow-long s inflow none (workTest s (length work)))
 call-linked s l (run inflow m work) =
-    run-tested s inflow l (runTest s inflow m (length work)) (inflow-long s inflow (runAllowed m) (workEnough s (length work))) (runFrom m 0 s inflow) (run-told s inflow m (length work) .0)
+    run-tested s inflow l (runTest s inflow m (length work)) (inflow-long s inflow (runLengthTest m) (workTest s (length work))) (runFrom m 0 s inflow) (run-told s inflow m (length work) .0)
 
 -- ---- from a state that is refused: every call refuses it
 
 abbrev Refuses : State → Type 0
 Refuses s = WithinLimits s → ⊥
 
-refuses : (s : State) → Refuses s → (inflow : List ℤ) (a b : Bool) → stateTest s (inflowTaken inflow) a b ≡ none → ⊥
-refuses s n inflow a b h = n (accepted s (inflowTaken inflow) a b .0 h .0)
+refuses : (s : State) → Refuses s → (inflow : List ℤ) (a b : Option Refusal) → stateTest s (inflowTaken s inflow) a b ≡ none → ⊥
+refuses s n inflow a b h = n (accepted .state s (inflowTaken s inflow) a b .0 h .0)
 
 step-refused : (s : State) (o : Outcome) (x : Option Refusal) → (x ≡ none → ⊥) → stepStateBy x s o ≡ s
 step-refused s o none n = absurd (n refl)
@@ -88,8 +87,8 @@ run-refused s r (some x) n = refl
 
 call-refused : (s : State) → Refuses s → (c : Call) → stateAfter s c ≡ s
 unfolding stepState stepTest runOf runTest
-call-refused s n (step inflow work) = step-refused s (twoPass s inflow) (stepTest s inflow (length work)) (refuses s n inflow true (workEnough s (length work)))
-call-refused s n (run inflow m work) = run-refused s (runFrom m 0 s inflow) (runTest s inflow m (length work)) (refuses s n inflow (runAllowed m) (workEnough s (length work)))
+call-refused s n (step inflow work) = step-refused s (twoPass s inflow) (stepTest s inflow (length work)) (refuses s n inflow none (workTest s (length work)))
+call-refused s n (run inflow m work) = run-refused s (runFrom m 0 s inflow) (runTest s inflow m (length work)) (refuses s n inflow (runLengthTest m) (workTest s (length work)))
 
 -- ---- lists of calls
 

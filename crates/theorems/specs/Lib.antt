@@ -1,17 +1,26 @@
+-- The proofs of the model's claims; Theorems.antt lists them all.
+
+-- tests and refusals
 pub mod Tests
+pub mod Scans
 pub mod Limits
 pub mod Refused
+-- what the calls fill in
 pub mod Fields
 pub mod Filling
 pub mod Rounding
 pub mod Vorticity
+-- what is kept
 pub mod Conservation
 pub mod Rates
 pub mod ProductRule
+-- step, run and lists of calls
 pub mod Depth
 pub mod Stepping
 pub mod Runs
+pub mod RunSteps
 pub mod Histories
+-- the record
 pub mod Bytes
 pub mod Walks
 pub mod RoundTrip

@@ -1,31 +1,32 @@
 -- Tests 1 to 5 pass exactly the states within the limits, with what else a call takes. Assumes nothing.
 use mathlib.Core.Path.{_≡_, refl}
 use mathlib.Core.Logic.{_↔_}
-use mathlib.Core.Bool.{Bool, true, _&&_}
+use mathlib.Core.Bool.{_&&_}
 use mathlib.Core.List.{List, [], _∷_, _++_}
-use mathlib.Core.Option.{none}
+use mathlib.Core.Option.{Option, none}
 use Prim.Native.Nat.{ℕ, _≤_, _<_}
 use lib.Dec.{T, leb}
 use lib.IntN.{pos}
 use Rattle.model.specs.Numbers.{within, Within, all, gravityLimits, coriolisLimits, ratioLimits, longestSide}
 use Rattle.model.specs.Grid.{firstFrom, at}
 use Rattle.model.specs.State.{State, cells, known, boundaryOf, closedWest, closedSouth, Side, WithinLimits}
-use Rattle.model.specs.Refusals.{_then_, must, placed, Taken, fieldsOf, firstOutside, moving, gridKnown, lengthsRight, constantsWithin, valueTest, edgeTest, roomTest, contentTest, stateTest, callTest}
-use Rattle.model.specs.Claims.{LimitsClaim, EachWithin, AcceptedClaim}
+use Rattle.model.specs.Refusals.{_then_, placed, Taken, fieldsOf, firstOutside, long, moving, gridKnown, gridTest, lengthTest, workLength, workTest, constantsWithin, constantsTest, valueTest, edgeTest, roomTest, contentTest, stateTest, callTest}
+use Rattle.model.specs.Claims.{LimitsClaim, EachWithin, EachRoom, AcceptedClaim}
 use Rattle.model.specs.declared.Field.the-variants.{VelocityU, VelocityV}
+use Rattle.model.specs.declared.Refusal.{Refusal}
 use Rattle.model.specs.declared.Refusal.the-variants.{Grid, Lengths, Constants, Value, ClosedEdge, Destination}
 use Rattle.theorems.specs.Tests.{_⟫_, and-iff, le-iff, then-iff, must-iff, placed-iff, refused-iff, within-iff, each-iff, edge-iff}
 
 -- ---- test by test
 
-record Known (s : State) : Type 0 where
-  columns : Side (s .w)
-  rows : Side (s .n)
-  boundary : T (known (boundaryOf (s .kind)))
+pub record Known (s : State) : Type 0 where
+  pub columns : Side (s .w)
+  pub rows : Side (s .n)
+  pub boundary : T (known (boundaryOf (s .kind)))
 
-grid-iff : (s : State) → T (gridKnown s) ↔ Known s
+known-iff : (s : State) → T (gridKnown s) ↔ Known s
 unfolding gridKnown
-grid-iff s =
+known-iff s =
     let a = leb 1 (s .w) in
     let b = leb (s .w) longestSide in
     let c = leb 1 (s .n) in
@@ -89,113 +90,107 @@ still-iff s l =
 
 -- ---- tests 1 to 5
 
-module _ (s : State) (extra : List Taken) (run work : Bool) where
-  -- what the tests ask, in their order
-  record Asked : Type 0 where
-    known-grid : T (gridKnown s)
-    run-short : T run
-    lengths : T (lengthsRight s extra)
-    work-long : T work
-    constants : T (constantsWithin s)
-    inside : firstOutside (cells s) (fieldsOf s ++ extra) ≡ none
+module _ (s : State) (fields : List Taken) where
+  -- tests 3 to 5
+  record Content : Type 0 where
+    constants : Constant s
+    inside : firstOutside fields ≡ none
     still : edgeTest s ≡ none
 
-  asked : (stateTest s extra run work ≡ none) ↔ Asked
-  unfolding stateTest contentTest valueTest
-  asked =
-      let t1 = then-iff (must (gridKnown s && run) Grid) (must (lengthsRight s extra && work) Lengths then contentTest s extra) in
-      let t2 = then-iff (must (lengthsRight s extra && work) Lengths) (contentTest s extra) in
-      let t3 = then-iff (must (constantsWithin s) Constants) (valueTest s extra then edgeTest s) in
-      let t4 = then-iff (valueTest s extra) (edgeTest s) in
-      let m1 = must-iff (gridKnown s && run) Grid ⟫ and-iff (gridKnown s) run in
-      let m2 = must-iff (lengthsRight s extra && work) Lengths ⟫ and-iff (lengthsRight s extra) work in
-      let m3 = must-iff (constantsWithin s) Constants in
-      let m4 = refused-iff Value (firstOutside (cells s) (fieldsOf s ++ extra)) in (
-        λ h.
-            let p = t1 .0 h in
-            let q = t2 .0 (p .1) in
-            let r = t3 .0 (q .1) in
-            let o = t4 .0 (r .1) in
-            let a = m1 .0 (p .0) in
-            let b = m2 .0 (q .0) in
-            record { known-grid = a .0; run-short = a .1; lengths = b .0; work-long = b .1; constants = m3 .0 (r .0); inside = m4 .0 (o .0); still = o .1 },
-        λ a. t1 .1 (m1 .1 (a .known-grid, a .run-short), t2 .1 (m2 .1 (a .lengths, a .work-long), t3 .1 (m3 .1 (a .constants), t4 .1 (m4 .1 (a .inside), a .still)))),
+  content-iff : (contentTest s fields ≡ none) ↔ Content
+  unfolding contentTest constantsTest valueTest
+  content-iff =
+      let t = then-iff (constantsTest s) (valueTest fields then edgeTest s) in
+      let u = then-iff (valueTest fields) (edgeTest s) in
+      let c = must-iff (constantsWithin s) Constants ⟫ constant-iff s in
+      let v = refused-iff Value (firstOutside fields) in (
+        λ h. let p = t .0 h in let q = u .0 (p .1) in record { constants = c .0 (p .0); inside = v .0 (q .0); still = q .1 },
+        λ k. t .1 (c .1 (k .constants), u .1 (v .1 (k .inside), k .still)),
       )
 
-  pub accepted-iff : (stateTest s extra run work ≡ none) ↔ (WithinLimits s × EachWithin (cells s) extra × T run × T work)
-  unfolding lengthsRight
-  accepted-iff =
-      let e = each-iff (cells s) (fieldsOf s ++ extra) in (
-        λ h.
-            let a = asked .0 h in
-            let k = grid-iff s .0 (a .known-grid) in
-            let c = constant-iff s .0 (a .constants) in
-            let f = e .0 (a .lengths, a .inside) in
-            let x = still-iff s (k .columns .some) .0 (a .still) in (
-              record {
-                columns = k .columns;
-                rows = k .rows;
-                boundary = k .boundary;
-                gravity = c .gravity;
-                coriolis = c .coriolis;
-                ratio = c .ratio;
-                depths = f .0;
-                bottoms = f .1 .0;
-                us = f .1 .1 .0;
-                vs = f .1 .1 .1 .0;
-                still-west = x .west;
-                still-south = x .south;
-              },
-              f .1 .1 .1 .1,
-              a .run-short,
-              a .work-long,
-            ),
-        λ p.
-            let l = p .0 in
-            let f = e .1 (l .depths, (l .bottoms, (l .us, (l .vs, p .1)))) in
-            asked .1
-            (record {
-              known-grid = grid-iff s .1 (record { columns = l .columns; rows = l .rows; boundary = l .boundary });
-              run-short = p .2;
-              lengths = f .0;
-              work-long = p .3;
-              constants = constant-iff s .1 (record { gravity = l .gravity; coriolis = l .coriolis; ratio = l .ratio });
-              inside = f .1;
-              still = still-iff s (l .columns .some) .1 (record { west = l .still-west; south = l .still-south });
-            }),
-      )
+pub grid-iff : (s : State) → (gridTest s ≡ none) ↔ Known s
+unfolding gridTest
+grid-iff s = must-iff (gridKnown s) Grid ⟫ known-iff s
 
-pub accepted : AcceptedClaim
-accepted s extra run work = accepted-iff s extra run work
+pub length-iff : (fields : List Taken) → (lengthTest fields ≡ none) ↔ T (all long fields)
+unfolding lengthTest
+length-iff fields = must-iff (all long fields) Lengths
+
+-- the three parts that make a state within the limits, and its further fields
+parts-iff : (s : State) (extra : List Taken)
+    → (Known s × T (all long (fieldsOf s ++ extra)) × (contentTest s (fieldsOf s ++ extra) ≡ none)) ↔ (WithinLimits s × EachWithin extra)
+parts-iff s extra =
+    let e = each-iff (fieldsOf s ++ extra) in
+    let c = content-iff s (fieldsOf s ++ extra) in (
+      λ p.
+          let k = p .0 in
+          let o = c .0 (p .2) in
+          let f = e .0 (p .1, o .inside) in
+          let x = still-iff s (k .columns .some) .0 (o .still) in (
+            record {
+              columns = k .columns;
+              rows = k .rows;
+              boundary = k .boundary;
+              gravity = o .constants .gravity;
+              coriolis = o .constants .coriolis;
+              ratio = o .constants .ratio;
+              depths = f .0;
+              bottoms = f .1 .0;
+              us = f .1 .1 .0;
+              vs = f .1 .1 .1 .0;
+              still-west = x .west;
+              still-south = x .south;
+            },
+            f .1 .1 .1 .1,
+          ),
+      λ p.
+          let l = p .0 in
+          let f = e .1 (l .depths, (l .bottoms, (l .us, (l .vs, p .1)))) in (
+            record { columns = l .columns; rows = l .rows; boundary = l .boundary },
+            f .0,
+            c .1
+                (record {
+                  constants = record { gravity = l .gravity; coriolis = l .coriolis; ratio = l .ratio };
+                  inside = f .1;
+                  still = still-iff s (l .columns .some) .1 (record { west = l .still-west; south = l .still-south });
+                }),
+          ),
+    )
+
+accepted-iff : (s : State) (extra : List Taken) (run work : Option Refusal) → (stateTest s extra run work ≡ none) ↔ (WithinLimits s × EachWithin extra × (run ≡ none) × (work ≡ none))
+unfolding stateTest
+accepted-iff s extra run work =
+    let fields = fieldsOf s ++ extra in
+    let t1 = then-iff (gridTest s) (run then lengthTest fields then work then contentTest s fields) in
+    let t2 = then-iff run (lengthTest fields then work then contentTest s fields) in
+    let t3 = then-iff (lengthTest fields) (work then contentTest s fields) in
+    let t4 = then-iff work (contentTest s fields) in (
+      λ h.
+          let p = t1 .0 h in
+          let q = t2 .0 (p .1) in
+          let r = t3 .0 (q .1) in
+          let o = t4 .0 (r .1) in
+          let x = parts-iff s extra .0 (grid-iff s .0 (p .0), length-iff fields .0 (r .0), o .1) in
+          (x .0, x .1, q .0, o .0),
+      λ p.
+          let x = parts-iff s extra .1 (p .0, p .1) in
+          t1 .1 (grid-iff s .1 (x .0), t2 .1 (p .2, t3 .1 (length-iff fields .1 (x .1), t4 .1 (p .3, x .2)))),
+    )
 
 pub limits-tested : LimitsClaim
-limits-tested s = (λ h. accepted-iff s [] true true .0 h .0, λ l. accepted-iff s [] true true .1 (l, tt, tt, tt))
+limits-tested s = (λ h. accepted-iff s [] none none .0 h .0, λ l. accepted-iff s [] none none .1 (l, tt, refl, refl))
 
--- the tests 1, and 3 to 5, of a state within the limits, by themselves
-pub grid-passes : (s : State) → WithinLimits s → T (gridKnown s)
-grid-passes s l = asked s [] true true .0 (limits-tested s .1 l) .known-grid
+-- a record's tests are these in another order
+pub grid-passes : (s : State) → WithinLimits s → gridTest s ≡ none
+grid-passes s l = grid-iff s .1 (parts-iff s [] .1 (l, tt) .0)
 
-pub content-passes : (s : State) → WithinLimits s → contentTest s [] ≡ none
-unfolding stateTest
-content-passes s l =
-    then-iff (must (lengthsRight s [] && true) Lengths) (contentTest s []) .0
-    (then-iff (must (gridKnown s && true) Grid) (must (lengthsRight s [] && true) Lengths then contentTest s []) .0 (limits-tested s .1 l) .1) .1
+pub content-passes : (s : State) → WithinLimits s → contentTest s (fieldsOf s) ≡ none
+content-passes s l = parts-iff s [] .1 (l, tt) .2
 
--- and put together again
-pub passes : (s : State) → T (gridKnown s) → T (lengthsRight s []) → contentTest s [] ≡ none → WithinLimits s
-unfolding stateTest
-passes s g n c =
-    limits-tested s .0
-    (then-iff (must (gridKnown s && true) Grid) (must (lengthsRight s [] && true) Lengths then contentTest s []) .1 (
-      must-iff (gridKnown s && true) Grid .1 (and-iff (gridKnown s) true .1 (g, tt)),
-      then-iff (must (lengthsRight s [] && true) Lengths) (contentTest s []) .1 (must-iff (lengthsRight s [] && true) Lengths .1 (and-iff (lengthsRight s []) true .1 (n, tt)), c),
-    ))
+pub within-of : (s : State) → gridTest s ≡ none → T (all long (fieldsOf s)) → contentTest s (fieldsOf s) ≡ none → WithinLimits s
+within-of s g n c = parts-iff s [] .0 (grid-iff s .0 g, n, c) .0
 
 -- ---- destinations
-
-abbrev pub EachRoom : ℕ → List ℕ → Type 0
-EachRoom m [] = Unit
-EachRoom m (a ∷ l) = (m ≤ a) × EachRoom m l
 
 rooms-iff : (m : ℕ) (l : List ℕ) → T (all (λ room. leb m room) l) ↔ EachRoom m l
 rooms-iff m [] = (λ t. tt, λ t. tt)
@@ -207,12 +202,19 @@ pub room-iff : (m : ℕ) (l : List ℕ) → (roomTest m l ≡ none) ↔ EachRoom
 unfolding roomTest
 room-iff m l = must-iff (all (λ room. leb m room) l) Destination ⟫ rooms-iff m l
 
--- tests 1 to 5 and 8
-pub call-iff : (s : State) (extra : List Taken) (m : ℕ) (l : List ℕ) → (callTest s extra m l ≡ none) ↔ (WithinLimits s × EachWithin (cells s) extra × EachRoom m l)
+call-iff : (s : State) (extra : List Taken) (m : ℕ) (l : List ℕ) → (callTest s extra m l ≡ none) ↔ (WithinLimits s × EachWithin extra × EachRoom m l)
 unfolding callTest
 call-iff s extra m l =
-    let t = then-iff (stateTest s extra true true) (roomTest m l) in
-    let a = accepted-iff s extra true true in (
+    let t = then-iff (stateTest s extra none none) (roomTest m l) in
+    let a = accepted-iff s extra none none in (
       λ h. let p = t .0 h in let b = a .0 (p .0) in (b .0, b .1, room-iff m l .0 (p .1)),
-      λ p. t .1 (a .1 (p .0, p .1, tt, tt), room-iff m l .1 (p .2)),
+      λ p. t .1 (a .1 (p .0, p .1, refl, refl), room-iff m l .1 (p .2)),
     )
+
+pub accepted : AcceptedClaim
+accepted = record { state = accepted-iff; call = call-iff }
+
+-- the same test by test, for a step or run
+pub work-iff : (s : State) (m : ℕ) → (workTest s m ≡ none) ↔ (workLength s ≤ m)
+unfolding workTest
+work-iff s m = must-iff (leb (workLength s) m) Lengths ⟫ le-iff (workLength s) m

@@ -6,7 +6,7 @@ use native.Mathlib.Omega.{arith}
 use lib.IntN.{ℤ, pos, negℤ, _+ℤ_, _-ℤ_, _*ℤ_, +ℤ-idl}
 use Rattle.model.specs.Grid.{at}
 use Rattle.model.specs.State.{State}
-use Rattle.model.specs.Scheme.{west, south, fluxU, fluxV, B}
+use Rattle.model.specs.Scheme.{toWest, toSouth, fluxU, fluxV, B}
 use Rattle.model.specs.Totals.{energyAt, energy4}
 use Rattle.model.specs.Rates.{energyRate}
 use Rattle.model.specs.Claims.{changed, EnergyRateClaim}
@@ -90,8 +90,8 @@ module _ (s : State) (dh du dv : List ℤ) (e : ℤ) where
     changed-at =
         let H : ℕ → ℕ → ℤ = λ i j. fld (s .h) i j +ℤ e *ℤ (pos 1572864 *ℤ fld dh i j) in
         let here = at-byCell (s .w) (s .n) H i j p r in
-        let to-west = at-byCell (s .w) (s .n) H (west s i) j (west-lt (s .w) i (some i (s .w) p)) r in
-        let to-south = at-byCell (s .w) (s .n) H i (south s j) p (west-lt (s .n) j (some j (s .n) r)) in
+        let to-west = at-byCell (s .w) (s .n) H (toWest s i) j (west-lt (s .w) i (some i (s .w) p)) r in
+        let to-south = at-byCell (s .w) (s .n) H i (toSouth s j) p (west-lt (s .n) j (some j (s .n) r)) in
         let u = at-byCell (s .w) (s .n) (λ i j. fld (s .u) i j +ℤ e *ℤ fld du i j) i j p r in
         let v = at-byCell (s .w) (s .n) (λ i j. fld (s .v) i j +ℤ e *ℤ fld dv i j) i j p r in
         λ k.

@@ -10,19 +10,19 @@ use lib.IntN.{ℤ}
 use lib.ListN.{length, take, drop, getD}
 use mir.Syntax.{w16, w32}
 use borrow.Author.Tests.{eqb-true}
-use Rattle.model.specs.Numbers.{sameBy}
+use Rattle.model.specs.Numbers.{all, sameBy}
 use Rattle.model.specs.State.{State, stateOf, parametersOf, cells, WithinLimits}
-use Rattle.model.specs.Refusals.{_then_, must, gridKnown, lengthsRight, contentTest, roomTest}
-use Rattle.model.specs.Record.{signed2, signed4, numbers, Part, joined, partsOf, encode, recordLength, tags, valueOf, Walked, damaged, whole, walked, risingBy, rising, stateIn, timestampIn, bytesRight, recordTest, Decoded, accepted, judged, readBy, decode}
-use Rattle.model.specs.Promises.{WritePromise, readAnswer, readInto, readOf}
-use Rattle.model.specs.Claims.{RewriteClaim}
+use Rattle.model.specs.Refusals.{_then_, fieldsOf, long, gridTest, contentTest, roomTest}
+use Rattle.model.specs.Record.{signed2, signed4, numbers, Part, joined, partsOf, encode, recordLength, tags, valueOf, Walked, damaged, whole, walked, risingBy, rising, stateIn, timestampIn, bytesRight, bytesTest, recordTest, Decoded, accepted, judged, readBy, decode}
+use Rattle.model.specs.Promises.{WritePromise, readAnswer, readInto, readOf, ReadPromise}
+use Rattle.model.specs.Claims.{ReadClaim, RewriteClaim}
 use Rattle.model.specs.declared.Parameters.{Parameters}
 use Rattle.model.specs.declared.Refusal.{Refusal}
-use Rattle.model.specs.declared.Refusal.the-variants.{Grid, Lengths}
+use Rattle.model.specs.declared.Refusal.the-variants.{Lengths}
 use Rattle.model.specs.declared.ReadAnswer.the-variants.{Read, Refused}
 use Rattle.model.specs.declared.WriteAnswer.the-variants.{Written}
 use Rattle.theorems.specs.Tests.{and-iff, eq-iff, then-iff, must-iff, same-by, differ}
-use Rattle.theorems.specs.Limits.{passes}
+use Rattle.theorems.specs.Limits.{within-of}
 use Rattle.theorems.specs.Fields.{length-tabulate}
 use Rattle.theorems.specs.Bytes.{AllBytes, back-bytes, put-numbers}
 use Rattle.theorems.specs.Walks.{AllRead, unwalk}
@@ -135,20 +135,20 @@ record Accepted (parts : List Part) : Type 0 where
 right : (f : List ℕ → ℤ) (z m : ℕ) (v : List ℕ) (l : Bool) → T l → T (eqb (length (numbers f z m v)) m && l)
 right f z m v l t = and-iff (eqb (length (numbers f z m v)) m) l .1 (eq-iff (length (numbers f z m v)) m .1 (length-tabulate m (λ k. f (take z (drop (k * z) v)))), t)
 
-lengths-in : (parts : List Part) → T (lengthsRight (stateIn parts) [])
-unfolding lengthsRight stateIn
+lengths-in : (parts : List Part) → T (all long (fieldsOf (stateIn parts)))
+unfolding stateIn
 lengths-in parts =
     let m = getD (valueOf 1 parts) 0 0 * getD (valueOf 1 parts) 1 0 in
     right signed4 4 m (valueOf 4 parts) _ (right signed4 4 m (valueOf 5 parts) _ (right signed2 2 m (valueOf 6 parts) _ (right signed2 2 m (valueOf 7 parts) true tt)))
 
 tests : (parts : List Part) (rooms : List ℕ) → recordTest (stateIn parts) parts rooms ≡ none → Accepted parts
-unfolding recordTest
+unfolding recordTest bytesTest
 tests parts rooms h =
     let s = stateIn parts in
-    let p = then-iff (must (gridKnown s) Grid) (must (bytesRight s parts) Lengths then roomTest (cells s) rooms then contentTest s []) .0 h in
-    let q = then-iff (must (bytesRight s parts) Lengths) (roomTest (cells s) rooms then contentTest s []) .0 (p .1) in
-    let r = then-iff (roomTest (cells s) rooms) (contentTest s []) .0 (q .1) in
-    record { lengths = must-iff (bytesRight s parts) Lengths .0 (q .0); inside = passes s (must-iff (gridKnown s) Grid .0 (p .0)) (lengths-in parts) (r .1) }
+    let p = then-iff (gridTest s) (bytesTest s parts then roomTest (cells s) rooms then contentTest s (fieldsOf s)) .0 h in
+    let q = then-iff (bytesTest s parts) (roomTest (cells s) rooms then contentTest s (fieldsOf s)) .0 (p .1) in
+    let r = then-iff (roomTest (cells s) rooms) (contentTest s (fieldsOf s)) .0 (q .1) in
+    record { lengths = must-iff (bytesRight s parts) Lengths .0 (q .0); inside = within-of s (p .0) (lengths-in parts) (r .1) }
 
 -- what a read that answers p and u found
 record Found (x : Option Refusal) (s : State) (t : ℕ) (p : Parameters) (u : ℕ) : Type 0 where
@@ -166,6 +166,59 @@ found : (x : Option Refusal) (s : State) (t : ℕ) (p : Parameters) (u : ℕ) �
 found none s t p u h = let e = read-same (parametersOf s) p t u h in record { passes = refl; parameters = e .0; timestamp = e .1 }
 found (some r) s t p u h = refused≢ h
 
+-- what the reader found in a record that it accepts
+record Accepts (p : Parameters) (t : ℕ) (w : Walked) (x : Decoded) : Type 0 where
+  parts : List Part
+  walks : w ≡ whole parts
+  inside : WithinLimits (stateIn parts)
+  lengths : T (bytesRight (stateIn parts) parts)
+  read : x ≡ accepted (stateIn parts) t
+  parameters : p ≡ parametersOf (stateIn parts)
+  timestamp : t ≡ timestampIn parts
+
+accepts : (rooms : List ℕ) (p : Parameters) (t : ℕ) (w : Walked) → readAnswer (readBy rooms w) ≡ Read p t → Accepts p t w (readBy rooms w)
+accepts rooms p t (damaged r) h = refused≢ h
+accepts rooms p t (whole parts) h =
+    let s = stateIn parts in
+    let f = found (recordTest s parts rooms) s (timestampIn parts) p t h in
+    let a = tests parts rooms (f .passes) in
+    record {
+      parts = parts;
+      walks = refl;
+      inside = a .inside;
+      lengths = a .lengths;
+      read = ap₂ (λ x y. judged x s y) (f .passes) (sym (f .timestamp));
+      parameters = f .parameters;
+      timestamp = f .timestamp;
+    }
+
+accepts-of : (rec : List ℕ) (h b u v : List ℤ) (p : Parameters) (t : ℕ) → readAnswer (readOf rec h b u v) ≡ Read p t → Accepts p t (walked rec) (readOf rec h b u v)
+unfolding readOf decode
+accepts-of rec h b u v p t e = accepts (length h ∷ length b ∷ length u ∷ length v ∷ []) p t (walked rec) e
+
+-- and what it left in the four fields
+module _ (rec : List ℕ) (h b u v h′ b′ u′ v′ : List ℤ) (p : Parameters) (t : ℕ) (rp : ReadPromise rec h b u v (Read p t) h′ b′ u′ v′) where
+  read-of : Accepts p t (walked rec) (readOf rec h b u v)
+  read-of = accepts-of rec h b u v p t (sym (rp .answers))
+
+  abbrev left : State
+  left = stateOf p (take (p .w * p .n) h′) (take (p .w * p .n) b′) (take (p .w * p .n) u′) (take (p .w * p .n) v′)
+
+  left-is : left ≡ stateIn (read-of .parts)
+  left-is =
+      let s = stateIn (read-of .parts) in
+      let l = read-of .inside in
+      let ph = read-part (cells s) (s .h) h h′ (l .depths .long) (rp .fills-h ∙ ap (λ x. readInto (λ s. s .h) x h) (read-of .read)) in
+      let pb = read-part (cells s) (s .b) b b′ (l .bottoms .long) (rp .fills-b ∙ ap (λ x. readInto (λ s. s .b) x b) (read-of .read)) in
+      let pu = read-part (cells s) (s .u) u u′ (l .us .long) (rp .fills-u ∙ ap (λ x. readInto (λ s. s .u) x u) (read-of .read)) in
+      let pv = read-part (cells s) (s .v) v v′ (l .vs .long) (rp .fills-v ∙ ap (λ x. readInto (λ s. s .v) x v) (read-of .read)) in
+      ap (λ (p : Parameters). stateOf p (take (p .w * p .n) h′) (take (p .w * p .n) b′) (take (p .w * p .n) u′) (take (p .w * p .n) v′)) (read-of .parameters)
+      ∙ (λ i. stateOf (parametersOf s) (ph i) (pb i) (pu i) (pv i))
+
+pub read-within : ReadClaim
+read-within rec h b u v h′ b′ u′ v′ p t rp =
+    subst WithinLimits (sym (left-is rec h b u v h′ b′ u′ v′ p t rp)) (read-of rec h b u v h′ b′ u′ v′ p t rp .inside)
+
 -- ---- a record whose tags rise
 
 all-bytes : (l : List ℕ) → ((k : ℕ) → getD l k 0 < 256) → AllBytes l
@@ -182,46 +235,17 @@ whole-record rec plain parts e =
     start : (n : ℕ) → n ≤ 0 + n
     start n = omega arith
 
--- what the reader found in a record that it accepts, and what the writer makes of it
-record Back (rec : List ℕ) (p : Parameters) (t : ℕ) (x : Decoded) : Type 0 where
-  s : State
-  inside : WithinLimits s
-  read : x ≡ accepted s t
-  parameters : p ≡ parametersOf s
-  written : encode s t ≡ rec
-
-back : (rec : List ℕ) (rooms : List ℕ) (p : Parameters) (t : ℕ) → AllBytes rec → (w : Walked) → walked rec ≡ w → T (risingBy w) → readAnswer (readBy rooms w) ≡ Read p t → Back rec p t (readBy rooms w)
-unfolding encode
-back rec rooms p t plain (damaged k) e r h = absurd r
-back rec rooms p t plain (whole parts) e r h =
-    let s = stateIn parts in
-    let f = found (recordTest s parts rooms) s (timestampIn parts) p t h in
-    let a = tests parts rooms (f .passes) in
-    let w = whole-record rec plain parts e in
-    record {
-      s = s;
-      inside = a .inside;
-      read = ap₂ (λ x y. judged x s y) (f .passes) (sym (f .timestamp));
-      parameters = f .parameters;
-      written = ap (λ y. joined (partsOf s y)) (f .timestamp) ∙ ap joined (fields-back parts r (w .1) (a .lengths)) ∙ w .0;
-    }
-
-back-of : (rec : List ℕ) (h b u v : List ℤ) (p : Parameters) (t : ℕ) → AllBytes rec → T (rising rec) → readAnswer (readOf rec h b u v) ≡ Read p t → Back rec p t (readOf rec h b u v)
-unfolding readOf decode rising
-back-of rec h b u v p t plain r e = back rec (length h ∷ length b ∷ length u ∷ length v ∷ []) p t plain (walked rec) refl r e
+-- and what the writer makes of them
+encoded : (rec : List ℕ) → AllBytes rec → (parts : List Part) → walked rec ≡ whole parts → T (rising rec) → T (bytesRight (stateIn parts) parts) → encode (stateIn parts) (timestampIn parts) ≡ rec
+unfolding encode rising
+encoded rec plain parts e r b = let w = whole-record rec plain parts e in ap joined (fields-back parts (subst (λ w. T (risingBy w)) e r) (w .1) b) ∙ w .0
 
 pub rewritten : RewriteClaim
 rewritten rec d d′ h b u v h′ b′ u′ v′ p t written′ plain r rp wp room =
-    let o = back-of rec h b u v p t (all-bytes rec plain) r (sym (rp .answers)) in
-    let s = o .s in
+    let o = read-of rec h b u v h′ b′ u′ v′ p t rp in
+    let s = stateIn (o .parts) in
     let l = o .inside in
-    let ph = read-part (cells s) (s .h) h h′ (l .depths .long) (rp .fills-h ∙ ap (λ x. readInto (λ s. s .h) x h) (o .read)) in
-    let pb = read-part (cells s) (s .b) b b′ (l .bottoms .long) (rp .fills-b ∙ ap (λ x. readInto (λ s. s .b) x b) (o .read)) in
-    let pu = read-part (cells s) (s .u) u u′ (l .us .long) (rp .fills-u ∙ ap (λ x. readInto (λ s. s .u) x u) (o .read)) in
-    let pv = read-part (cells s) (s .v) v v′ (l .vs .long) (rp .fills-v ∙ ap (λ x. readInto (λ s. s .v) x v) (o .read)) in
-    let same : stateOf p (take (p .w * p .n) h′) (take (p .w * p .n) b′) (take (p .w * p .n) u′) (take (p .w * p .n) v′) ≡ s =
-    ap (λ (p : Parameters). stateOf p (take (p .w * p .n) h′) (take (p .w * p .n) b′) (take (p .w * p .n) u′) (take (p .w * p .n) v′)) (o .parameters)
-    ∙ (λ i. stateOf (parametersOf s) (ph i) (pb i) (pu i) (pv i)) in
-    let n : length rec ≡ recordLength s = ap length (sym (o .written)) ∙ length-encode s l t in
-    let w = written s l t d d′ written′ (subst (λ m. m ≤ length d) n room) (subst (λ x. WritePromise x t d written′ d′) same wp) in
-    (w .0 ∙ ap Written (sym n), ap (λ m. take m d′) n ∙ w .1 ∙ o .written)
+    let e : encode s t ≡ rec = ap (encode s) (o .timestamp) ∙ encoded rec (all-bytes rec plain) (o .parts) (o .walks) r (o .lengths) in
+    let n : length rec ≡ recordLength s = ap length (sym e) ∙ length-encode s l t in
+    let w = written s l t d d′ written′ (subst (λ m. m ≤ length d) n room) (subst (λ x. WritePromise x t d written′ d′) (left-is rec h b u v h′ b′ u′ v′ p t rp) wp) in
+    (w .0 ∙ ap Written (sym n), ap (λ m. take m d′) n ∙ w .1 ∙ e)

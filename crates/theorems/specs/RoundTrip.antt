@@ -16,14 +16,14 @@ use borrow.Author.Tests.{eq-eqb}
 use Rattle.model.specs.Numbers.{Limits, Within, depthLimits, bottomLimits, velocityLimits, gravityLimits, coriolisLimits, ratioLimits}
 use Rattle.model.specs.Grid.{filled}
 use Rattle.model.specs.State.{State, stateOf, parametersOf, cells, FieldWithin, WithinLimits}
-use Rattle.model.specs.Refusals.{_then_, must, gridKnown, contentTest, roomTest}
-use Rattle.model.specs.Record.{bytes4, bytes2, signed4, signed2, eachBy, numbers, partsOf, encode, recordLength, missingTest, walked, whole, stateIn, timestampIn, bytesRight, recordTest, accepted, judged, readBy, decode}
+use Rattle.model.specs.Refusals.{_then_, must, fieldsOf, gridTest, contentTest, roomTest}
+use Rattle.model.specs.Record.{bytes4, bytes2, signed4, signed2, eachBy, numbers, partsOf, encode, recordLength, missingTest, walked, whole, stateIn, timestampIn, bytesRight, bytesTest, recordTest, accepted, judged, readBy, decode}
 use Rattle.model.specs.Promises.{leftBy, writeTest, writeAnswer, WritePromise, readAnswer, readInto, readOf}
 use Rattle.model.specs.Claims.{RoundTripClaim}
 use Rattle.model.specs.declared.WriteAnswer.{WriteAnswer}
-use Rattle.model.specs.declared.Refusal.the-variants.{Grid, Lengths}
-use Rattle.theorems.specs.Tests.{then-iff, must-iff}
-use Rattle.theorems.specs.Limits.{call-iff, room-iff, grid-passes, content-passes}
+use Rattle.model.specs.declared.Refusal.the-variants.{Lengths}
+use Rattle.theorems.specs.Tests.{then-iff}
+use Rattle.theorems.specs.Limits.{accepted as accepts, room-iff, grid-passes, content-passes}
 use Rattle.theorems.specs.Fields.{take-filled}
 use Rattle.theorems.specs.Bytes.{EachFits, there-back, get-put, numbers-put, length-each}
 use Rattle.theorems.specs.Walks.{AllFine, walks}
@@ -149,12 +149,12 @@ module _ (s : State) (l : WithinLimits s) where
   bytes-right t = rw (eq-eqb _ _ (long4 (s .h) (l .depths)), eq-eqb _ _ (long4 (s .b) (l .bottoms)), eq-eqb _ _ (long2 (s .u) (l .us)), eq-eqb _ _ (long2 (s .v) (l .vs)))
 
   passes : (t : ℕ) (rooms : List ℕ) → roomTest (cells s) rooms ≡ none → recordTest s (partsOf s t) rooms ≡ none
-  unfolding recordTest
+  unfolding recordTest bytesTest
   passes t rooms h =
-      then-iff (must (gridKnown s) Grid) (must (bytesRight s (partsOf s t)) Lengths then roomTest (cells s) rooms then contentTest s []) .1 (
-        must-iff (gridKnown s) Grid .1 (grid-passes s l),
-        then-iff (must (bytesRight s (partsOf s t)) Lengths) (roomTest (cells s) rooms then contentTest s []) .1
-            (ap (λ b. must b Lengths) (bytes-right t), then-iff (roomTest (cells s) rooms) (contentTest s []) .1 (h, content-passes s l)),
+      then-iff (gridTest s) (bytesTest s (partsOf s t) then roomTest (cells s) rooms then contentTest s (fieldsOf s)) .1 (
+        grid-passes s l,
+        then-iff (bytesTest s (partsOf s t)) (roomTest (cells s) rooms then contentTest s (fieldsOf s)) .1
+            (ap (λ b. must b Lengths) (bytes-right t), then-iff (roomTest (cells s) rooms) (contentTest s (fieldsOf s)) .1 (h, content-passes s l)),
       )
 
   -- what the writer writes is read back
@@ -171,7 +171,7 @@ module _ (s : State) (l : WithinLimits s) where
       → (a ≡ writeAnswer none (recordLength s)) × (take (recordLength s) d′ ≡ encode s t)
   unfolding writeTest
   written t d d′ a h p =
-      let e : writeTest s (length d) ≡ none = call-iff s [] (recordLength s) (length d ∷ []) .1 (l, tt, (h, tt)) in (
+      let e : writeTest s (length d) ≡ none = accepts .call s [] (recordLength s) (length d ∷ []) .1 (l, tt, (h, tt)) in (
         p .answers ∙ ap (λ o. writeAnswer o (recordLength s)) e,
         ap (take (recordLength s)) (p .fills ∙ ap (λ o. leftBy o (filled (recordLength s) (encode s t) d) d) e) ∙ take-filled (recordLength s) (encode s t) d (length-encode t),
       )

@@ -8,14 +8,14 @@ use Prim.Native.Nat.{ℕ, _*_, _<_}
 use lib.Dec.{T, eqb}
 use lib.IntN.{ℤ, pos, _+ℤ_, _*ℤ_}
 use lib.ListN.{length, take}
-use Rattle.model.specs.Numbers.{rnd, total}
+use Rattle.model.specs.Numbers.{rnd, total, all}
 use Rattle.model.specs.Grid.{at, byCell}
 use Rattle.model.specs.State.{State, cells, closedWest, closedSouth, WithinLimits}
-use Rattle.model.specs.Refusals.{Place, Taken, depthOf, uOf, vOf}
+use Rattle.model.specs.Refusals.{Place, Taken, depthOf, uOf, vOf, long}
 use Rattle.model.specs.Scheme.{vorticity, Tu, Tv, tendencyU, tendencyV}
 use Rattle.model.specs.Step.{X, Y, newDepth, newU, newV, pass, leaves, Outcome, moved, stuck, passed, second, twoPass}
-use Rattle.model.specs.Claims.{EachWithin, Given, PassClaim, StepClaim}
-use Rattle.theorems.specs.Tests.{and-iff, eq-iff, longEach, each-iff, differ}
+use Rattle.model.specs.Claims.{Given, PassClaim, StepClaim}
+use Rattle.theorems.specs.Tests.{and-iff, eq-iff, each-iff, differ}
 use Rattle.theorems.specs.Fields.{length-byCell, at-byCell}
 use Rattle.theorems.specs.Filling.{tendencies-fill, vorticity-fill}
 use Rattle.theorems.specs.Rounding.{rnd-zero}
@@ -102,19 +102,23 @@ module _ (s g : State) (q : List ℤ) (same : SameWalls g s) (l : WithinLimits s
   unfolding newV tendencyV
   rests-south t = closed-rest (at (s .w) (s .v) i j) (Tv g q i j) (pos 3145728 *ℤ g .R) (closedSouth g i j) (l .still-south i j p r t) (subst T (sym (same .south i j)) t)
 
--- a field by cell has a number for each cell
+-- what a pass gives has a number for each cell
 long-by : (w n : ℕ) (f : ℕ → ℕ → ℤ) (l : Bool) → T l → T (eqb (length (byCell w n f)) (w * n) && l)
 long-by w n f l t = and-iff (eqb (length (byCell w n f)) (w * n)) l .1 (eq-iff (length (byCell w n f)) (w * n) .1 (length-byCell w n f), t)
 
--- a pass from a state within the limits, with the tendencies of a state that has the same walls, that leaves no bound
+abbrev stepped : State → List Taken
+stepped r = depthOf r ∷ uOf r ∷ vOf r ∷ []
+
+pass-long : (s g : State) (inflow : List ℤ) → T (all long (stepped (pass s g inflow)))
+unfolding pass
+pass-long s g inflow = long-by (s .w) (s .n) (newDepth g s inflow) _ (long-by (s .w) (s .n) (newU g s (vorticity g)) _ (long-by (s .w) (s .n) (newV g s (vorticity g)) true tt))
+
+-- a pass from a state within the limits, with the tendencies of a state that has the same walls, keeps the limits where it leaves no bound
 pass-within : (s g : State) (inflow : List ℤ) → SameWalls g s → WithinLimits s → leaves (pass s g inflow) ≡ none → WithinLimits (pass s g inflow)
 unfolding pass leaves
 pass-within s g inflow same l h =
-    let r = pass s g inflow in
     let q = vorticity g in
-    let fs : List Taken = depthOf r ∷ uOf r ∷ vOf r ∷ [] in
-    let long : T (longEach (cells r) fs) = long-by (s .w) (s .n) (newDepth g s inflow) _ (long-by (s .w) (s .n) (newU g s q) _ (long-by (s .w) (s .n) (newV g s q) true tt)) in
-    let e : EachWithin (cells r) fs = each-iff (cells r) fs .0 (long, h) in
+    let e = each-iff (stepped (pass s g inflow)) .0 (pass-long s g inflow, h) in
     record {
       columns = l .columns;
       rows = l .rows;
@@ -130,14 +134,31 @@ pass-within s g inflow same l h =
       still-south = λ i j a b t. at-byCell (s .w) (s .n) (newV g s q) i j a b ∙ rests-south s g q same l i j a b (subst T (pass-walls s g inflow .south i j) t);
     }
 
+-- and leaves no bound where it keeps them
+none-left : (r : State) → WithinLimits r → leaves r ≡ none
+unfolding leaves
+none-left r l = each-iff (stepped r) .1 (l .depths, (l .us, (l .vs, tt))) .1
+
+by-passes : (s : State) (inflow : List ℤ) (a b : Option Place) → leaves (pass s s inflow) ≡ a → leaves (pass s (pass s s inflow) inflow) ≡ b
+    → twoPass s inflow ≡ passed a 1 (passed b 2 (moved (pass s (pass s s inflow) inflow)))
+unfolding twoPass second
+by-passes s inflow a b p q = ap₂ (λ x y. passed x 1 (passed y 2 (moved (pass s (pass s s inflow) inflow)))) p q
+
 pub step-within : StepClaim
-step-within s t inflow l h =
-    let m = moves s t inflow h in
-    let same : SameWalls s s = record { west = λ i j. refl; south = λ i j. refl } in (
-      pass-within s s inflow same l (m .first),
-      sym (m .result),
-      subst WithinLimits (m .result) (pass-within s (pass s s inflow) inflow (pass-walls s s inflow) l (m .second)),
-    )
+step-within = record {
+  moves = λ s t inflow l. (
+    λ h.
+        let m = moves s t inflow h in
+        let same : SameWalls s s = record { west = λ i j. refl; south = λ i j. refl } in (
+          pass-within s s inflow same l (m .first),
+          subst WithinLimits (m .result) (pass-within s (pass s s inflow) inflow (pass-walls s s inflow) l (m .second)),
+          sym (m .result),
+        ),
+    λ p. by-passes s inflow none none (none-left (pass s s inflow) (p .0)) (ap leaves (sym (p .2)) ∙ none-left t (p .1)) ∙ ap moved (sym (p .2)),
+  );
+  stuck-1 = λ s inflow x p. by-passes s inflow (some x) (leaves (pass s (pass s s inflow) inflow)) p refl;
+  stuck-2 = λ s inflow x p q. by-passes s inflow none (some x) p q;
+}
 
 -- ---- total depth
 

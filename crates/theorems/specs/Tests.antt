@@ -16,7 +16,7 @@ use borrow.Author.Tests.{eq-eqb}
 use Rattle.model.specs.Numbers.{Limits, within, Within, all, sameBy, eqℤ}
 use Rattle.model.specs.Grid.{firstFrom, at}
 use Rattle.model.specs.State.{State, cells}
-use Rattle.model.specs.Refusals.{_then_, must, Place, placed, refusedAt, Taken, outside, firstOutside, moving}
+use Rattle.model.specs.Refusals.{_then_, must, Place, placed, refusedAt, Taken, outside, firstOutside, long, moving}
 use Rattle.model.specs.Claims.{EachWithin}
 use Rattle.model.specs.declared.Field.{Field}
 use Rattle.model.specs.declared.Refusal.{Refusal}
@@ -121,31 +121,26 @@ within-iff l x = (
   λ w. and-iff (leZ (l .least) x) (leZ x (l .most)) .1 (w .low .le, w .high .le),
 )
 
-abbrev Inside : ℕ → Taken → Type 0
-Inside m f = (k : ℕ) → k < m → Within (f .limits) (getD (f .numbers) k (pos 0))
-
-inside-iff : (m : ℕ) (f : Taken) → (firstFrom (outside f) m 0 ≡ none) ↔ Inside m f
-inside-iff m f =
+inside-iff : (f : Taken) → (firstFrom (outside f) (f .count) 0 ≡ none) ↔ ((k : ℕ) → k < f .count → Within (f .limits) (getD (f .numbers) k (pos 0)))
+inside-iff f =
     let x : ℕ → ℤ = λ k. getD (f .numbers) k (pos 0) in
     let i : (k : ℕ) → (outside f k ≡ false) ↔ Within (f .limits) (x k) = λ k. not-iff (within (f .limits) (x k)) ⟫ within-iff (f .limits) (x k) in
-    (λ h k l. i k .0 (first-iff (outside f) m .0 h k l), λ h. first-iff (outside f) m .1 (λ k l. i k .1 (h k l)))
+    (λ h k l. i k .0 (first-iff (outside f) (f .count) .0 h k l), λ h. first-iff (outside f) (f .count) .1 (λ k l. i k .1 (h k l)))
 
--- the fields of a list have m numbers each, and a scan of them finds none outside
-abbrev pub longEach : ℕ → List Taken → Bool
-longEach m l = all (λ f. eqb (length (f .numbers)) m) l
-
-pub each-iff : (m : ℕ) (l : List Taken) → (T (longEach m l) × (firstOutside m l ≡ none)) ↔ EachWithin m l
-each-iff m [] = (λ p. tt, λ p. (tt, refl))
-each-iff m (f ∷ l) =
-    let i = placed-iff (f .field) (firstFrom (outside f) m 0) (firstOutside m l) in
-    let a = and-iff (eqb (length (f .numbers)) m) (longEach m l) in (
+-- each field of a list is as long as it must be, and a scan of them finds none outside
+pub each-iff : (l : List Taken) → (T (all long l) × (firstOutside l ≡ none)) ↔ EachWithin l
+each-iff [] = (λ p. tt, λ p. (tt, refl))
+each-iff (f ∷ l) =
+    let i = placed-iff (f .field) (firstFrom (outside f) (f .count) 0) (firstOutside l) in
+    let a = and-iff (long f) (all long l) in
+    let n = eq-iff (length (f .numbers)) (f .count) in (
       λ p.
           let b = a .0 (p .0) in
           let o = i .0 (p .1) in
-          (record { long = eq-iff (length (f .numbers)) m .0 (b .0); each = inside-iff m f .0 (o .0) }, each-iff m l .0 (b .1, o .1)),
+          (record { long = n .0 (b .0); each = inside-iff f .0 (o .0) }, each-iff l .0 (b .1, o .1)),
       λ e.
-          let r = each-iff m l .1 (e .1) in
-          (a .1 (eq-iff (length (f .numbers)) m .1 (e .0 .long), r .0), i .1 (inside-iff m f .1 (e .0 .each), r .1)),
+          let r = each-iff l .1 (e .1) in
+          (a .1 (n .1 (e .0 .long), r .0), i .1 (inside-iff f .1 (e .0 .each), r .1)),
     )
 
 -- ---- closed edges

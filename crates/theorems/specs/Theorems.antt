@@ -1,34 +1,45 @@
--- Every theorem: each claim of the model, proved over the promises of the public calls. Assumes nothing.
-use Rattle.model.specs.Claims.{LimitsClaim, AcceptedClaim, RefusedClaim, WorkClaim, RoundingClaim, VorticityClaim, TendenciesAcceptedClaim, TendenciesClaim, PassClaim, StepClaim, RunClaim, RoundTripClaim, RewriteClaim, CompareClaim, EnergyRateClaim, EnergyClaim, EnstrophyClaim, PeriodicEnstrophyClaim, BalanceClaim, TotalDepthClaim, KeptClaim}
+-- Every theorem. `theorems` has each claim of the model, proved. Assumes nothing.
+use Rattle.model.specs.Claims.{LimitsClaim, AcceptedClaim, ScanClaim, RefusedClaim, WorkClaim, RoundingClaim, OwnVorticityClaim, VorticityClaim, TendenciesAcceptedClaim, TendenciesClaim, PassClaim, StepClaim, RunClaim, RunStepsClaim, RoundTripClaim, ReadClaim, RewriteClaim, CompareClaim, EnergyRateClaim, EnergyClaim, EnstrophyClaim, PeriodicEnstrophyClaim, BalanceClaim, TotalDepthClaim, KeptClaim}
 use Rattle.theorems.specs.Limits.{limits-tested, accepted}
+use Rattle.theorems.specs.Scans.{scan}
 use Rattle.theorems.specs.Refused.{refused-leaves, work-left}
 use Rattle.theorems.specs.Rounding.{rounding}
-use Rattle.theorems.specs.Vorticity.{vorticity-within}
+use Rattle.theorems.specs.Vorticity.{within-limit, vorticity-within}
 use Rattle.theorems.specs.Filling.{tendencies-accepted, tendencies-fill}
 use Rattle.theorems.specs.Stepping.{pass-given, step-within}
 use Rattle.theorems.specs.Runs.{run-counts}
+use Rattle.theorems.specs.RunSteps.{run-steps}
 use Rattle.theorems.specs.RoundTrip.{round-trip}
-use Rattle.theorems.specs.Rewrite.{rewritten}
+use Rattle.theorems.specs.Rewrite.{read-within, rewritten}
 use Rattle.theorems.specs.Comparing.{comparison}
 use Rattle.theorems.specs.ProductRule.{energy-rate}
 use Rattle.theorems.specs.Rates.{energy-zero, enstrophy-zero, periodic-enstrophy}
 use Rattle.theorems.specs.Histories.{answered, balance, kept}
+-- The laws behind energy, enstrophy and total depth, for any fluxes, Bernoulli function, weights of each cell and closed edges
+pub use Rattle.theorems.specs.Conservation.{mass-law, energy-law, enstrophy-law}
+-- What the checker computes: the worked examples, and the paper's conditions on the weight table
+pub use Rattle.model.specs.Examples.{all-hold}
+pub use Rattle.model.specs.Weights.{conditions-hold}
 
 pub record Theorems : Type 0 where
   -- demand 1: the full result, or a refusal where its cause holds and only there
   pub limits : LimitsClaim
   pub accepted : AcceptedClaim
+  pub scan : ScanClaim
   pub refused : RefusedClaim
   pub work : WorkClaim
   -- demand 2: the published scheme and 01's rules, at every cell
   pub rounding : RoundingClaim
+  pub own-vorticity : OwnVorticityClaim
   pub vorticity : VorticityClaim
   pub tendencies-accepted : TendenciesAcceptedClaim
   pub tendencies : TendenciesClaim
   pub pass : PassClaim
   pub step : StepClaim
   pub run : RunClaim
+  pub run-steps : RunStepsClaim
   pub write-then-read : RoundTripClaim
+  pub read : ReadClaim
   pub read-then-write : RewriteClaim
   pub compare : CompareClaim
   -- demand 3: what is kept
@@ -45,16 +56,20 @@ theorems =
     record {
       limits = limits-tested;
       accepted = accepted;
+      scan = scan;
       refused = refused-leaves;
       work = work-left;
       rounding = rounding;
+      own-vorticity = within-limit;
       vorticity = vorticity-within;
       tendencies-accepted = tendencies-accepted;
       tendencies = tendencies-fill;
       pass = pass-given;
       step = step-within;
       run = run-counts;
+      run-steps = run-steps;
       write-then-read = round-trip;
+      read = read-within;
       read-then-write = rewritten;
       compare = comparison;
       energy-rate = energy-rate;

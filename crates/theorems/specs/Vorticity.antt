@@ -9,8 +9,8 @@ use lib.Signed.{_≤ℤ_}
 use Rattle.model.specs.Numbers.{Within, depthLimits, velocityLimits, coriolisLimits, vorticityLimits}
 use Rattle.model.specs.Grid.{at}
 use Rattle.model.specs.State.{State, cells, FieldWithin, WithinLimits}
-use Rattle.model.specs.Scheme.{west, south, Z, H, vorticityAt, vorticity}
-use Rattle.model.specs.Claims.{VorticityClaim}
+use Rattle.model.specs.Scheme.{toWest, toSouth, Z, H, vorticityAt, vorticity}
+use Rattle.model.specs.Claims.{OwnVorticityClaim, VorticityClaim}
 use Rattle.integers.specs.Laws.{abs-neg, abs-add, abs-mul}
 use Rattle.grid.specs.Sums.{west-lt}
 use Rattle.theorems.specs.Fields.{cell-lt, length-byCell, getD-byCell}
@@ -72,11 +72,11 @@ module _ (s : State) (l : WithinLimits s) (i j : ℕ) (p : i < s .w) (r : j < s 
       let u : (i j : ℕ) → i < s .w → j < s .n → natAbs (at (s .w) (s .u) i j) ≤ 5000 = λ i j a b. speed (at (s .w) (s .u) i j) (l .us .each (j * s .w + i) (cell-lt a b)) in
       let v : (i j : ℕ) → i < s .w → j < s .n → natAbs (at (s .w) (s .v) i j) ≤ 5000 = λ i j a b. speed (at (s .w) (s .v) i j) (l .vs .each (j * s .w + i) (cell-lt a b)) in
       let h : (i j : ℕ) → i < s .w → j < s .n → Deep (at (s .w) (s .h) i j) = λ i j a b. deep-of (at (s .w) (s .h) i j) (l .depths .each (j * s .w + i) (cell-lt a b)) in
-      let z : natAbs (Z s i j) ≤ 30000 = sum5 (s .c) (at (s .w) (s .v) i j) (at (s .w) (s .v) (west s i) j) (at (s .w) (s .u) i (south s j)) (at (s .w) (s .u) i j) (turning (s .c) (l .coriolis)) (v i j p r) (v (west s i) j p′ r) (u i (south s j) p r′) (u i j p r) in
-      let d : 4000 ≤ natAbs (H s i j) = depth4 (at (s .w) (s .h) i j) (at (s .w) (s .h) (west s i) j) (at (s .w) (s .h) i (south s j)) (at (s .w) (s .h) (west s i) (south s j)) (h i j p r) (h (west s i) j p′ r) (h i (south s j) p r′) (h (west s i) (south s j) p′ r′) in
+      let z : natAbs (Z s i j) ≤ 30000 = sum5 (s .c) (at (s .w) (s .v) i j) (at (s .w) (s .v) (toWest s i) j) (at (s .w) (s .u) i (toSouth s j)) (at (s .w) (s .u) i j) (turning (s .c) (l .coriolis)) (v i j p r) (v (toWest s i) j p′ r) (u i (toSouth s j) p r′) (u i j p r) in
+      let d : 4000 ≤ natAbs (H s i j) = depth4 (at (s .w) (s .h) i j) (at (s .w) (s .h) (toWest s i) j) (at (s .w) (s .h) i (toSouth s j)) (at (s .w) (s .h) (toWest s i) (toSouth s j)) (h i j p r) (h (toWest s i) j p′ r) (h i (toSouth s j) p r′) (h (toWest s i) (toSouth s j) p′ r′) in
       rnd-size 1966080 (pos 262144 *ℤ Z s i j) (H s i j) (le-trans (lit≤ tt) d) (quotient (natAbs (Z s i j)) (natAbs (pos 262144 *ℤ Z s i j)) (natAbs (H s i j)) z d (abs-mul (pos 262144) (Z s i j)))
 
-within-limit : (s : State) → WithinLimits s → FieldWithin vorticityLimits (cells s) (vorticity s)
+pub within-limit : OwnVorticityClaim
 unfolding vorticity vorticityLimits
 within-limit s l = record {
   long = length-byCell (s .w) (s .n) (vorticityAt s);
