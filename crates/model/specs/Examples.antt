@@ -1,7 +1,7 @@
 -- Worked examples (01: soundings), as one table that the checker computes from the definitions.
 use mathlib.Core.Bool.{Bool, _&&_}
 use mathlib.Core.List.{List, [], _∷_, _++_}
-use Prim.Native.Nat.{ℕ}
+use Prim.Native.Nat.{ℕ, _*_}
 use Prim.Native.String.{String}
 use lib.Dec.{T, eqb}
 use lib.IntN.{ℤ, pos, negℤ}
@@ -136,9 +136,16 @@ four = record {
 abbrev faulty : (w : ℕ) (G : ℤ) (h b u v : List ℤ) → State
 faulty w G h b u v = record { w = w; n = 1; kind = 2; G = G; c = pos 0; R = pos 1000; h = h; b = b; u = u; v = v }
 
--- one cell of a channel
-abbrev channel : List ℤ → List ℤ → State
-channel u v = record { w = 1; n = 1; kind = 1; G = pos 1; c = pos 0; R = pos 1000; h = just (pos 1000); b = none; u = u; v = v }
+-- one cell
+abbrev cell : (kind : ℕ) (G c R h b u v : ℤ) → State
+cell kind G c R h b u v = record { w = 1; n = 1; kind = kind; G = G; c = c; R = R; h = just h; b = just b; u = just u; v = just v }
+
+-- a grid without fields, and one that is too shallow everywhere
+abbrev sides : ℕ → ℕ → State
+sides w n = record { w = w; n = n; kind = 0; G = pos 1; c = pos 0; R = pos 1000; h = []; b = []; u = []; v = [] }
+
+abbrev shallow : ℕ → ℕ → State
+shallow w n = record { w = w; n = n; kind = 0; G = pos 1; c = pos 0; R = pos 1000; h = replicate (w * n) (pos 999); b = zeros (w * n); u = zeros (w * n); v = zeros (w * n) }
 
 -- ---- records
 
@@ -160,6 +167,10 @@ stamped t h = take 24 dock ++ bytes 8 t ++ (4 ∷ 0 ∷ 4 ∷ []) ++ bytes 4 h +
 -- read into four fields of one number, a record is refused with 7 and this offset
 abbrev damaged : List ℕ → ℕ → Example
 damaged rec k = reads rec none none none none (pos 7 ∷ pos k ∷ []) none none none none
+
+-- case 10's record with m bytes for its depth, 52 + m in all
+abbrev lengthened : ℕ → List ℕ
+lengthened m = take 32 dock ++ (4 ∷ []) ++ bytes 2 m ++ replicate m 0 ++ drop 39 dock
 
 -- ---- 01's cases 1 to 10
 
@@ -218,14 +229,28 @@ orders =
     ∷ tends (faulty 2 (pos 1) (replicate 2 (pos 1000)) none2 (pos 0 ∷ pos 5001 ∷ []) (pos 5001 ∷ pos 0 ∷ [])) none2 none2 none2 none2 (pos 4 ∷ pos 2 ∷ pos 1 ∷ []) none2 none2 none2
     ∷ tends (faulty 2 (pos 1) (replicate 2 (pos 1000)) none2 none2 none2) (replicate 2 (pos 2000001)) none2 none2 none2 (pos 4 ∷ pos 4 ∷ pos 0 ∷ []) none2 none2 none2
     ∷ tends (faulty 2 (pos 1) (replicate 2 (pos 1000)) none2 (pos 0 ∷ pos 1 ∷ []) (pos 0 ∷ pos 1 ∷ [])) none2 none2 none2 none2 (pos 5 ∷ pos 3 ∷ pos 1 ∷ []) none2 none2 none2
+    -- 4 and 5 by field, whatever the cell
+    ∷ tends (faulty 2 (pos 1) (replicate 2 (pos 1000)) (pos 0 ∷ minus 1 ∷ []) (pos 5001 ∷ pos 0 ∷ []) none2) none2 none2 none2 none2 (pos 4 ∷ pos 1 ∷ pos 1 ∷ []) none2 none2 none2
+    ∷ tends (faulty 2 (pos 1) (replicate 2 (pos 1000)) none2 none2 (pos 0 ∷ pos 5001 ∷ [])) (replicate 2 (pos 2000001)) none2 none2 none2 (pos 4 ∷ pos 3 ∷ pos 1 ∷ []) none2 none2 none2
+    ∷ tends (faulty 1 (pos 1) (just (pos 1000)) none (just (pos 1)) none) (just (pos 2000001)) none none none (pos 4 ∷ pos 4 ∷ pos 0 ∷ []) none none none
+    ∷ depth (faulty 1 (pos 1) (just (pos 1000)) none (just (pos 1)) (just (pos 1))) (pos 5 ∷ pos 2 ∷ pos 0 ∷ [])
+    -- 8 of each destination
+    ∷ tends (faulty 1 (pos 1) (just (pos 1000)) none none none) none [] none none (just (pos 8)) [] none none
+    ∷ tends (faulty 1 (pos 1) (just (pos 1000)) none none none) none none [] none (just (pos 8)) none [] none
+    ∷ tends (faulty 1 (pos 1) (just (pos 1000)) none none none) none none none [] (just (pos 8)) none none []
+    ∷ writes (one (pos 2000)) 0 (replicate 55 7) (just (pos 8)) (replicate 55 7)
     -- a channel has a wall in the south and none in the west
-    ∷ depth (channel (just (pos 1)) none) (pos 0 ∷ pos 1000 ∷ [])
-    ∷ depth (channel none (just (pos 1))) (pos 5 ∷ pos 3 ∷ pos 0 ∷ [])
-    ∷ depth (channel none none) (pos 0 ∷ pos 1000 ∷ [])
+    ∷ depth (cell 1 (pos 1) (pos 0) (pos 1000) (pos 1000) (pos 0) (pos 1) (pos 0)) (pos 0 ∷ pos 1000 ∷ [])
+    ∷ depth (cell 1 (pos 1) (pos 0) (pos 1000) (pos 1000) (pos 0) (pos 0) (pos 1)) (pos 5 ∷ pos 3 ∷ pos 0 ∷ [])
+    ∷ depth (cell 1 (pos 1) (pos 0) (pos 1000) (pos 1000) (pos 0) (pos 0) (pos 0)) (pos 0 ∷ pos 1000 ∷ [])
     -- 3, 4 and 6 clear the work space; 6 keeps the state
     ∷ steps (faulty 1 (pos 0) (just (pos 1000)) none none none) none (sevens 9) (just (pos 3)) (just (pos 1000)) none none (zeros 8 ++ sevens 1)
     ∷ steps (faulty 1 (pos 1) (just (pos 1000)) none none none) (just (pos 1001)) (sevens 8) (pos 4 ∷ pos 5 ∷ pos 0 ∷ []) (just (pos 1000)) none none (zeros 8)
     ∷ steps (faulty 1 (pos 1) (just (pos 1000)) none none none) (just (minus 1)) (sevens 8) (pos 6 ∷ pos 1 ∷ pos 0 ∷ pos 0 ∷ []) (just (pos 1000)) none none (zeros 8)
+    -- 6 by h, u, v: a pass that all three leave, one that u and v leave, one that v alone leaves
+    ∷ steps (cell 0 (pos 1) (pos 10000) (pos 1000) (pos 1000) (pos 0) (pos 5000) (pos 5000)) (just (minus 1)) (sevens 8) (pos 6 ∷ pos 1 ∷ pos 0 ∷ pos 0 ∷ []) (just (pos 1000)) (just (pos 5000)) (just (pos 5000)) (zeros 8)
+    ∷ steps (cell 0 (pos 1) (pos 10000) (pos 1000) (pos 1000) (pos 0) (pos 5000) (pos 5000)) none (sevens 8) (pos 6 ∷ pos 1 ∷ pos 2 ∷ pos 0 ∷ []) (just (pos 1000)) (just (pos 5000)) (just (pos 5000)) (zeros 8)
+    ∷ steps (cell 0 (pos 1) (pos 10000) (pos 1000) (pos 1000) (pos 0) (pos 5000) (pos 0)) none (sevens 8) (pos 6 ∷ pos 1 ∷ pos 3 ∷ pos 0 ∷ []) (just (pos 1000)) (just (pos 5000)) none (zeros 8)
     -- a run that its third step stops
     ∷ runs (faulty 1 (pos 1) (just (pos 1500)) none none none) (just (minus 200)) 5 (sevens 8) (pos 6 ∷ pos 1 ∷ pos 0 ∷ pos 0 ∷ pos 2 ∷ []) (just (pos 1100)) none none (zeros 8)
     -- 7 at a tag: 1 or 2 bytes left; unknown tag; repeated tag; value past the end; wrong length; then a tag missing
@@ -240,6 +265,7 @@ orders =
     ∷ damaged [] 0
     -- reading: 7 before 1 before 2 before 8 before 3
     ∷ reads (drop 51 dock ++ take 51 (1 ∷ 0 ∷ 3 ∷ 1 ∷ 1 ∷ 3 ∷ drop 6 dock)) [] [] [] [] (just (pos 1)) [] [] [] []
+    ∷ reads (take 3 dock ++ (1 ∷ 1 ∷ 3 ∷ []) ++ take 45 (drop 6 dock) ++ (7 ∷ 0 ∷ 1 ∷ 0 ∷ [])) [] [] [] [] (just (pos 1)) [] [] [] []
     ∷ reads (take 51 dock ++ (7 ∷ 0 ∷ 1 ∷ 0 ∷ [])) [] [] [] [] (just (pos 2)) [] [] [] []
     ∷ reads (take 9 dock ++ replicate 12 0 ++ drop 21 dock) none none none [] (just (pos 8)) none none none []
     ∷ reads (take 9 dock ++ replicate 12 0 ++ drop 21 dock) none none none none (just (pos 3)) none none none none
@@ -253,8 +279,67 @@ orders =
     -- the program's refusals carry the number alone
     ∷ prints [] "refused 7\n"
     ∷ prints (stamped 0 999) "refused 4\n"
+    -- room for 1,024 cells and no more, told before a value outside; 65,535 bytes and no more
+    ∷ prints (encode (shallow 32 32) 0) "refused 4\n"
+    ∷ prints (encode (shallow 41 25) 0) "refused 8\n"
+    ∷ prints (lengthened 65483) "refused 2\n"
+    ∷ prints (lengthened 65484) "refused 7\n"
     ∷ []
 
-pub all-hold : T (all holds (workedExamples ++ orders))
+-- ---- each bound at both ends, and one past
+
+abbrev pub bounds : List Example
+bounds =
+    -- 1: a side of 0 or 65, an unknown kind; 64 by 64 is known, and its empty fields are a 2
+    depth (sides 0 1) (just (pos 1))
+    ∷ depth (sides 1 0) (just (pos 1))
+    ∷ depth (sides 65 64) (just (pos 1))
+    ∷ depth (sides 64 65) (just (pos 1))
+    ∷ depth (sides 64 64) (just (pos 2))
+    ∷ depth (cell 2 (pos 1) (pos 0) (pos 1000) (pos 1000) (pos 0) (pos 0) (pos 0)) (pos 0 ∷ pos 1000 ∷ [])
+    ∷ depth (cell 3 (pos 1) (pos 0) (pos 1000) (pos 1000) (pos 0) (pos 0) (pos 0)) (just (pos 1))
+    ∷ depth (cell 4 (pos 1) (pos 0) (pos 1000) (pos 1000) (pos 0) (pos 0) (pos 0)) (just (pos 1))
+    -- 3: G, c, R
+    ∷ depth (cell 0 (pos 1) (pos 0) (pos 1000) (pos 1000) (pos 0) (pos 0) (pos 0)) (pos 0 ∷ pos 1000 ∷ [])
+    ∷ depth (cell 0 (pos 0) (pos 0) (pos 1000) (pos 1000) (pos 0) (pos 0) (pos 0)) (just (pos 3))
+    ∷ depth (cell 0 (pos 10000) (pos 0) (pos 1000) (pos 1000) (pos 0) (pos 0) (pos 0)) (pos 0 ∷ pos 1000 ∷ [])
+    ∷ depth (cell 0 (pos 10001) (pos 0) (pos 1000) (pos 1000) (pos 0) (pos 0) (pos 0)) (just (pos 3))
+    ∷ depth (cell 0 (pos 1) (minus 10000) (pos 1000) (pos 1000) (pos 0) (pos 0) (pos 0)) (pos 0 ∷ pos 1000 ∷ [])
+    ∷ depth (cell 0 (pos 1) (minus 10001) (pos 1000) (pos 1000) (pos 0) (pos 0) (pos 0)) (just (pos 3))
+    ∷ depth (cell 0 (pos 1) (pos 10000) (pos 1000) (pos 1000) (pos 0) (pos 0) (pos 0)) (pos 0 ∷ pos 1000 ∷ [])
+    ∷ depth (cell 0 (pos 1) (pos 10001) (pos 1000) (pos 1000) (pos 0) (pos 0) (pos 0)) (just (pos 3))
+    ∷ depth (cell 0 (pos 1) (pos 0) (pos 1000) (pos 1000) (pos 0) (pos 0) (pos 0)) (pos 0 ∷ pos 1000 ∷ [])
+    ∷ depth (cell 0 (pos 1) (pos 0) (pos 999) (pos 1000) (pos 0) (pos 0) (pos 0)) (just (pos 3))
+    ∷ depth (cell 0 (pos 1) (pos 0) (pos 1000000) (pos 1000) (pos 0) (pos 0) (pos 0)) (pos 0 ∷ pos 1000 ∷ [])
+    ∷ depth (cell 0 (pos 1) (pos 0) (pos 1000001) (pos 1000) (pos 0) (pos 0) (pos 0)) (just (pos 3))
+    -- 4: h, b, u, v
+    ∷ depth (cell 0 (pos 1) (pos 0) (pos 1000) (pos 1000) (pos 0) (pos 0) (pos 0)) (pos 0 ∷ pos 1000 ∷ [])
+    ∷ depth (cell 0 (pos 1) (pos 0) (pos 1000) (pos 999) (pos 0) (pos 0) (pos 0)) (pos 4 ∷ pos 0 ∷ pos 0 ∷ [])
+    ∷ depth (cell 0 (pos 1) (pos 0) (pos 1000) (pos 100000) (pos 0) (pos 0) (pos 0)) (pos 0 ∷ pos 100000 ∷ [])
+    ∷ depth (cell 0 (pos 1) (pos 0) (pos 1000) (pos 100001) (pos 0) (pos 0) (pos 0)) (pos 4 ∷ pos 0 ∷ pos 0 ∷ [])
+    ∷ depth (cell 0 (pos 1) (pos 0) (pos 1000) (pos 1000) (pos 0) (pos 0) (pos 0)) (pos 0 ∷ pos 1000 ∷ [])
+    ∷ depth (cell 0 (pos 1) (pos 0) (pos 1000) (pos 1000) (minus 1) (pos 0) (pos 0)) (pos 4 ∷ pos 1 ∷ pos 0 ∷ [])
+    ∷ depth (cell 0 (pos 1) (pos 0) (pos 1000) (pos 1000) (pos 100000) (pos 0) (pos 0)) (pos 0 ∷ pos 1000 ∷ [])
+    ∷ depth (cell 0 (pos 1) (pos 0) (pos 1000) (pos 1000) (pos 100001) (pos 0) (pos 0)) (pos 4 ∷ pos 1 ∷ pos 0 ∷ [])
+    ∷ depth (cell 0 (pos 1) (pos 0) (pos 1000) (pos 1000) (pos 0) (minus 5000) (pos 0)) (pos 0 ∷ pos 1000 ∷ [])
+    ∷ depth (cell 0 (pos 1) (pos 0) (pos 1000) (pos 1000) (pos 0) (minus 5001) (pos 0)) (pos 4 ∷ pos 2 ∷ pos 0 ∷ [])
+    ∷ depth (cell 0 (pos 1) (pos 0) (pos 1000) (pos 1000) (pos 0) (pos 5000) (pos 0)) (pos 0 ∷ pos 1000 ∷ [])
+    ∷ depth (cell 0 (pos 1) (pos 0) (pos 1000) (pos 1000) (pos 0) (pos 5001) (pos 0)) (pos 4 ∷ pos 2 ∷ pos 0 ∷ [])
+    ∷ depth (cell 0 (pos 1) (pos 0) (pos 1000) (pos 1000) (pos 0) (pos 0) (minus 5000)) (pos 0 ∷ pos 1000 ∷ [])
+    ∷ depth (cell 0 (pos 1) (pos 0) (pos 1000) (pos 1000) (pos 0) (pos 0) (minus 5001)) (pos 4 ∷ pos 3 ∷ pos 0 ∷ [])
+    ∷ depth (cell 0 (pos 1) (pos 0) (pos 1000) (pos 1000) (pos 0) (pos 0) (pos 5000)) (pos 0 ∷ pos 1000 ∷ [])
+    ∷ depth (cell 0 (pos 1) (pos 0) (pos 1000) (pos 1000) (pos 0) (pos 0) (pos 5001)) (pos 4 ∷ pos 3 ∷ pos 0 ∷ [])
+    -- 4: q and inflow
+    ∷ tends (cell 0 (pos 1) (pos 0) (pos 1000) (pos 1000) (pos 0) (pos 0) (pos 0)) (just (minus 2000000)) none none none accepted none none none
+    ∷ tends (cell 0 (pos 1) (pos 0) (pos 1000) (pos 1000) (pos 0) (pos 0) (pos 0)) (just (minus 2000001)) none none none (pos 4 ∷ pos 4 ∷ pos 0 ∷ []) none none none
+    ∷ tends (cell 0 (pos 1) (pos 0) (pos 1000) (pos 1000) (pos 0) (pos 0) (pos 0)) (just (pos 2000000)) none none none accepted none none none
+    ∷ tends (cell 0 (pos 1) (pos 0) (pos 1000) (pos 1000) (pos 0) (pos 0) (pos 0)) (just (pos 2000001)) none none none (pos 4 ∷ pos 4 ∷ pos 0 ∷ []) none none none
+    ∷ steps (cell 0 (pos 1) (pos 0) (pos 1000) (pos 50000) (pos 0) (pos 0) (pos 0)) (just (minus 1000)) (sevens 8) accepted (just (pos 49000)) none none (zeros 8)
+    ∷ steps (cell 0 (pos 1) (pos 0) (pos 1000) (pos 50000) (pos 0) (pos 0) (pos 0)) (just (minus 1001)) (sevens 8) (pos 4 ∷ pos 5 ∷ pos 0 ∷ []) (just (pos 50000)) none none (zeros 8)
+    ∷ steps (cell 0 (pos 1) (pos 0) (pos 1000) (pos 50000) (pos 0) (pos 0) (pos 0)) (just (pos 1000)) (sevens 8) accepted (just (pos 51000)) none none (zeros 8)
+    ∷ steps (cell 0 (pos 1) (pos 0) (pos 1000) (pos 50000) (pos 0) (pos 0) (pos 0)) (just (pos 1001)) (sevens 8) (pos 4 ∷ pos 5 ∷ pos 0 ∷ []) (just (pos 50000)) none none (zeros 8)
+    ∷ []
+
+pub all-hold : T (all holds (workedExamples ++ (bounds ++ orders)))
 unfolding everything
 all-hold = tt
