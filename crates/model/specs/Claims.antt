@@ -17,9 +17,10 @@ use Rattle.model.specs.Refusals.{Place, Taken, workLength, stateTest, ca
 use Rattle.model.specs.Scheme.{vorticityAt, vorticity, D, tendencyU, tendencyV}
 use Rattle.model.specs.Rates.{energyRate, enstrophyRate}
 use Rattle.model.specs.Totals.{totalDepth, energy4}
-use Rattle.model.specs.Step.{pass, leaves, moved, stuck, twoPass, stepAnswer, cleared}
-use Rattle.model.specs.Record.{recordLength, rising, decode, accepted, refused}
-use Rattle.model.specs.Promises.{VorticityPromise, TendenciesPromise, StepPromise, RunPromise, TotalDepthPromise, WritePromise, ReadPromise, ComparePromise}
+use Rattle.model.specs.Step.{pass, leaves, moved, stuck, twoPass, stepTest, stepAnswer, cleared}
+use Rattle.model.specs.Record.{Timestamp, recordLength, rising, decode, accepted, refused}
+use Rattle.model.specs.Program.{programCells, programWork}
+use Rattle.model.specs.Promises.{VorticityPromise, TendenciesPromise, StepPromise, RunPromise, TotalDepthPromise, TotalEnergyPromise, WritePromise, ReadPromise, ComparePromise}
 use Rattle.model.specs.Histories.{Call, step, History, inflowDue, runCount}
 use Rattle.model.specs.declared.Parameters.{Parameters}
 use Rattle.model.specs.declared.Field.{Field}
@@ -63,6 +64,32 @@ pub record AcceptedClaim : Type 0 where
 -- a scan finds the lowest index at which its test holds
 abbrev pub ScanClaim : Type 0
 ScanClaim = (bad : ℕ → Bool) (m k : ℕ) → (firstFrom bad m 0 ≡ some k) ↔ ((k < m) × T (bad k) × ((i : ℕ) → i < k → bad i ≡ false))
+
+-- each promise can be met, for any numbers and any lengths
+pub record MetClaim : Type 0 where
+  pub vorticity : (s : State) (d : List ℤ) → (a : FillAnswer) × (d′ : List ℤ) × VorticityPromise s d a d′
+  pub tendencies : (s : State) (q dh du dv : List ℤ) → (a : FillAnswer) × (dh′ : List ℤ) × (du′ : List ℤ) × (dv′ : List ℤ) × TendenciesPromise s q dh du dv a dh′ du′ dv′
+  pub step : (s : State) (inflow work : List ℤ) → (a : StepAnswer) × (s′ : State) × (work′ : List ℤ) × StepPromise s inflow work a s′ work′
+  pub run : (s : State) (inflow : List ℤ) (m : ℕ) (work : List ℤ) → (a : RunAnswer) × (s′ : State) × (work′ : List ℤ) × RunPromise s inflow m work a s′ work′
+  pub depth : (s : State) → (a : TotalAnswer) × TotalDepthPromise s a
+  pub energy : (s : State) → (a : TotalAnswer) × TotalEnergyPromise s a
+  pub write : (s : State) (t : Timestamp) (d : List ℕ) → (a : WriteAnswer) × (d′ : List ℕ) × WritePromise s t d a d′
+  pub read : (rec : List ℕ) (h b u v : List ℤ) → (a : ReadAnswer) × (h′ : List ℤ) × (b′ : List ℤ) × (u′ : List ℤ) × (v′ : List ℤ) × ReadPromise rec h b u v a h′ b′ u′ v′
+  pub compare : (first second : List ℕ) → (a : CompareAnswer) × ComparePromise first second a
+
+-- and leaves nothing free: not the answer, and no lent number afterwards
+pub record FixedClaim : Type 0 where
+  pub vorticity : (s : State) (d x y : List ℤ) (a b : FillAnswer) → VorticityPromise s d a x → VorticityPromise s d b y → (a ≡ b) × (x ≡ y)
+  pub tendencies : (s : State) (q dh du dv x y z x′ y′ z′ : List ℤ) (a b : FillAnswer) → TendenciesPromise s q dh du dv a x y z → TendenciesPromise s q dh du dv b x′ y′ z′
+      → (a ≡ b) × (x ≡ x′) × (y ≡ y′) × (z ≡ z′)
+  pub step : (s x y : State) (inflow work k l : List ℤ) (a b : StepAnswer) → StepPromise s inflow work a x k → StepPromise s inflow work b y l → (a ≡ b) × (x ≡ y) × (k ≡ l)
+  pub run : (s x y : State) (inflow : List ℤ) (m : ℕ) (work k l : List ℤ) (a b : RunAnswer) → RunPromise s inflow m work a x k → RunPromise s inflow m work b y l → (a ≡ b) × (x ≡ y) × (k ≡ l)
+  pub depth : (s : State) (a b : TotalAnswer) → TotalDepthPromise s a → TotalDepthPromise s b → a ≡ b
+  pub energy : (s : State) (a b : TotalAnswer) → TotalEnergyPromise s a → TotalEnergyPromise s b → a ≡ b
+  pub write : (s : State) (t : Timestamp) (d x y : List ℕ) (a b : WriteAnswer) → WritePromise s t d a x → WritePromise s t d b y → (a ≡ b) × (x ≡ y)
+  pub read : (rec : List ℕ) (h b u v h′ b′ u′ v′ h″ b″ u″ v″ : List ℤ) (a c : ReadAnswer) → ReadPromise rec h b u v a h′ b′ u′ v′ → ReadPromise rec h b u v c h″ b″ u″ v″
+      → (a ≡ c) × (h′ ≡ h″) × (b′ ≡ b″) × (u′ ≡ u″) × (v′ ≡ v″)
+  pub compare : (first second : List ℕ) (a b : CompareAnswer) → ComparePromise first second a → ComparePromise first second b → a ≡ b
 
 -- a refused call leaves everything but its work space as it was
 pub record RefusedClaim : Type 0 where
@@ -179,6 +206,11 @@ RunStepsClaim = (s s′ : State) (inflow work work′ lent : List ℤ) (m : ℕ)
     → ((r : Refusal) → answer ≡ R.Refused r → ⊥) → workLength s ≤ length lent
     → History s (replicate (runCount answer) (step inflow lent)) s′ × NextStep inflow (length lent) answer s′
 
+-- on a state within the limits the totals are the sums that 01 says
+pub record TotalsClaim : Type 0 where
+  pub depth : (s : State) (answer : TotalAnswer) → WithinLimits s → TotalDepthPromise s answer → answer ≡ A.Total (totalDepth s)
+  pub energy : (s : State) (answer : TotalAnswer) → WithinLimits s → TotalEnergyPromise s answer → answer ≡ A.Total (energy4 s)
+
 -- ---- the record
 
 -- written, then read into destinations that have room: the same state and timestamp
@@ -195,6 +227,11 @@ RoundTripClaim = (s : State) (t : ℕ) (d d′ : List ℕ) (written : WriteAnswe
 abbrev pub ReadClaim : Type 0
 ReadClaim = (rec : List ℕ) (h b u v h′ b′ u′ v′ : List ℤ) (p : Parameters) (t : ℕ) → ReadPromise rec h b u v (G.Read p t) h′ b′ u′ v′
     → let m = p .w * p .n in WithinLimits (stateOf p (take m h′) (take m b′) (take m u′) (take m v′))
+
+-- the step program's own step passes every test: it is refused by the reader, or with 6
+abbrev pub ProgramClaim : Type 0
+ProgramClaim = (input : List ℕ) (s : State) (t : Timestamp) → decode input (replicate 4 programCells) ≡ accepted s t
+    → stepTest s (replicate (cells s) (pos 0)) programWork ≡ none
 
 -- each number is a byte, as in any slice of bytes
 abbrev pub Bytes : List ℕ → Type 0
@@ -275,10 +312,6 @@ raised due (A.Refused r) = A.Refused r
 abbrev pub BalanceClaim : Type 0
 BalanceClaim = (s t : State) (calls : List Call) (before after : TotalAnswer) → History s calls t → TotalDepthPromise s before → TotalDepthPromise t after
     → after ≡ raised (inflowDue s calls) before
-
--- where on a state within the limits it answers the sum of h
-abbrev pub TotalDepthClaim : Type 0
-TotalDepthClaim = (s : State) (answer : TotalAnswer) → WithinLimits s → TotalDepthPromise s answer → answer ≡ A.Total (totalDepth s)
 
 -- any such list keeps the limits
 abbrev pub KeptClaim : Type 0

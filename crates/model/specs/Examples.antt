@@ -172,6 +172,36 @@ damaged rec k = reads rec none none none none (pos 7 ∷ pos k ∷ []) none none
 abbrev lengthened : ℕ → List ℕ
 lengthened m = take 32 dock ++ (4 ∷ []) ++ bytes 2 m ++ replicate m 0 ++ drop 39 dock
 
+-- three columns and two rows, a channel: its record, and the state that it holds
+abbrev six : List ℕ
+six =
+    1 ∷ 0 ∷ 3 ∷ 3 ∷ 2 ∷ 1
+    ∷ 2 ∷ 0 ∷ 0x0c ∷ 0 ∷ 0 ∷ 0x26 ∷ 0x52 ∷ 0 ∷ 0 ∷ 0 ∷ 0x0a ∷ 0 ∷ 0x0f ∷ 0x42 ∷ 0x40
+    ∷ 3 ∷ 0 ∷ 8 ∷ 0 ∷ 0 ∷ 0 ∷ 0 ∷ 0 ∷ 0 ∷ 1 ∷ 2
+    ∷ 4 ∷ 0 ∷ 24 ∷ 0 ∷ 0 ∷ 4 ∷ 26 ∷ 0 ∷ 0 ∷ 7 ∷ 208 ∷ 0 ∷ 0 ∷ 11 ∷ 184 ∷ 0 ∷ 0 ∷ 5 ∷ 220 ∷ 0 ∷ 0 ∷ 9 ∷ 196 ∷ 0 ∷ 0 ∷ 3 ∷ 242
+    ∷ 5 ∷ 0 ∷ 24 ∷ 0 ∷ 0 ∷ 0 ∷ 1 ∷ 0 ∷ 0 ∷ 0 ∷ 2 ∷ 0 ∷ 0 ∷ 0 ∷ 3 ∷ 0 ∷ 0 ∷ 0 ∷ 4 ∷ 0 ∷ 0 ∷ 0 ∷ 5 ∷ 0 ∷ 0 ∷ 0 ∷ 6
+    ∷ 6 ∷ 0 ∷ 12 ∷ 0 ∷ 3 ∷ 255 ∷ 252 ∷ 0 ∷ 5 ∷ 255 ∷ 250 ∷ 0 ∷ 7 ∷ 255 ∷ 248
+    ∷ 7 ∷ 0 ∷ 12 ∷ 0 ∷ 0 ∷ 0 ∷ 0 ∷ 0 ∷ 0 ∷ 0 ∷ 9 ∷ 255 ∷ 246 ∷ 0 ∷ 11
+    ∷ []
+
+abbrev sixState : State
+sixState = record {
+  w = 3;
+  n = 2;
+  kind = 1;
+  G = pos 9810;
+  c = pos 10;
+  R = pos 1000000;
+  h = pos 1050 ∷ pos 2000 ∷ pos 3000 ∷ pos 1500 ∷ pos 2500 ∷ pos 1010 ∷ [];
+  b = pos 1 ∷ pos 2 ∷ pos 3 ∷ pos 4 ∷ pos 5 ∷ pos 6 ∷ [];
+  u = pos 3 ∷ minus 4 ∷ pos 5 ∷ minus 6 ∷ pos 7 ∷ minus 8 ∷ [];
+  v = pos 0 ∷ pos 0 ∷ pos 0 ∷ pos 9 ∷ minus 10 ∷ pos 11 ∷ [];
+}
+
+-- the same as a torus, with R 1000
+abbrev sixFast : List ℕ
+sixFast = take 5 six ++ (0 ∷ []) ++ take 11 (drop 6 six) ++ bytes 4 1000 ++ drop 21 six
+
 -- ---- 01's cases 1 to 10
 
 abbrev pub workedExamples : List Example
@@ -251,7 +281,12 @@ orders =
     ∷ steps (cell 0 (pos 1) (pos 10000) (pos 1000) (pos 1000) (pos 0) (pos 5000) (pos 5000)) (just (minus 1)) (sevens 8) (pos 6 ∷ pos 1 ∷ pos 0 ∷ pos 0 ∷ []) (just (pos 1000)) (just (pos 5000)) (just (pos 5000)) (zeros 8)
     ∷ steps (cell 0 (pos 1) (pos 10000) (pos 1000) (pos 1000) (pos 0) (pos 5000) (pos 5000)) none (sevens 8) (pos 6 ∷ pos 1 ∷ pos 2 ∷ pos 0 ∷ []) (just (pos 1000)) (just (pos 5000)) (just (pos 5000)) (zeros 8)
     ∷ steps (cell 0 (pos 1) (pos 10000) (pos 1000) (pos 1000) (pos 0) (pos 5000) (pos 0)) none (sevens 8) (pos 6 ∷ pos 1 ∷ pos 3 ∷ pos 0 ∷ []) (just (pos 1000)) (just (pos 5000)) none (zeros 8)
-    -- a run that its third step stops
+    -- 1 of a run before 2; 2 of the work space before 3; a run refused with 4
+    ∷ runs (one (pos 2000)) none 10001 (sevens 7) (just (pos 1)) (just (pos 2000)) (just (pos 100)) (just (minus 50)) (sevens 7)
+    ∷ steps (faulty 1 (pos 0) (just (pos 1000)) none none none) none (sevens 7) (just (pos 2)) (just (pos 1000)) none none (sevens 7)
+    ∷ runs (faulty 1 (pos 1) (just (pos 999)) none none none) none 1 (sevens 8) (pos 4 ∷ pos 0 ∷ pos 0 ∷ []) (just (pos 999)) none none (zeros 8)
+    -- a run that its third step stops, at cell 0 and at cell 1
+    ∷ runs (faulty 2 (pos 1) (replicate 2 (pos 1500)) none2 none2 none2) (pos 0 ∷ minus 200 ∷ []) 5 (sevens 16) (pos 6 ∷ pos 1 ∷ pos 0 ∷ pos 1 ∷ pos 2 ∷ []) (pos 1500 ∷ pos 1100 ∷ []) none2 none2 (zeros 16)
     ∷ runs (faulty 1 (pos 1) (just (pos 1500)) none none none) (just (minus 200)) 5 (sevens 8) (pos 6 ∷ pos 1 ∷ pos 0 ∷ pos 0 ∷ pos 2 ∷ []) (just (pos 1100)) none none (zeros 8)
     -- 7 at a tag: 1 or 2 bytes left; unknown tag; repeated tag; value past the end; wrong length; then a tag missing
     ∷ damaged (dock ++ (1 ∷ [])) 56
@@ -269,6 +304,12 @@ orders =
     ∷ reads (take 51 dock ++ (7 ∷ 0 ∷ 1 ∷ 0 ∷ [])) [] [] [] [] (just (pos 2)) [] [] [] []
     ∷ reads (take 9 dock ++ replicate 12 0 ++ drop 21 dock) none none none [] (just (pos 8)) none none none []
     ∷ reads (take 9 dock ++ replicate 12 0 ++ drop 21 dock) none none none none (just (pos 3)) none none none none
+    -- a record of six cells, written, read and stepped
+    ∷ writes sixState 258 (replicate 117 7) (pos 0 ∷ pos 116 ∷ []) (six ++ (7 ∷ []))
+    ∷ reads six (sevens 7) (sevens 7) (sevens 7) (sevens 7) (pos 0 ∷ pos 3 ∷ pos 2 ∷ pos 1 ∷ pos 9810 ∷ pos 10 ∷ pos 1000000 ∷ pos 258 ∷ [])
+    (sixState .h ++ sevens 1) (sixState .b ++ sevens 1) (sixState .u ++ sevens 1) (sixState .v ++ sevens 1)
+    ∷ prints six "total 11060\n0 0 1050 22 0\n1 0 2000 -13 0\n2 0 3000 -5 0\n0 1 1500 -11 5\n1 1 2500 -3 -15\n2 1 1010 7 30\n"
+    ∷ prints sixFast "refused 6\n"
     -- the newer timestamp tells; under one timestamp the states do
     ∷ compares dock dock (pos 0 ∷ pos 0 ∷ [])
     ∷ compares (stamped 0 2001) (stamped 0 2000) (pos 0 ∷ pos 3 ∷ [])

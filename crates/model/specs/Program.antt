@@ -1,7 +1,7 @@
 -- The step program: what it prints for the bytes on its standard input.
 use mathlib.Core.Bool.{cond}
 use mathlib.Core.List.{List, [], _∷_, _++_}
-use Prim.Native.Nat.{ℕ, zero, suc, _+_, _*_, _/_, _%_}
+use Prim.Native.Nat.{ℕ, zero, suc, _+_, _/_, _%_}
 use Prim.Native.Char.{code}
 use Prim.Native.String.{String, [] as end, _∷_ as char}
 use lib.Dec.{leb, ltb}
@@ -43,6 +43,9 @@ line (word ∷ more ∷ words) = word ++ (code " " ∷ line (more ∷ words))
 abbrev pub programCells : ℕ
 programCells = 1024
 
+abbrev pub programWork : ℕ
+programWork = 8192
+
 -- an input of this many bytes, or more, is a 7
 abbrev pub inputLimit : ℕ
 inputLimit = 65536
@@ -73,7 +76,7 @@ abbrev pub programBy : Decoded → List ℕ
 programBy (refused r) = refusedLine (number r)
 programBy (accepted s t) =
     let calm = replicate (cells s) (pos 0) in
-    stepLines (stepAnswer s calm (8 * programCells)) (stepState s calm (8 * programCells))
+    stepLines (stepAnswer s calm programWork) (stepState s calm programWork)
 
 unfoldable pub programOutput : List ℕ → List ℕ
 programOutput input =

@@ -9,10 +9,10 @@ use Rattle.model.specs.Numbers.{total}
 use Rattle.model.specs.State.{State, cells, WithinLimits}
 use Rattle.model.specs.Refusals.{inflowTaken, runLengthTest, workTest, stateTest}
 use Rattle.model.specs.Step.{Outcome, moved, stuck, Ran, twoPass, stepTold, afterStep, stepTest, stepAnswerBy, stepStateBy, stepAnswer, stepState, runFrom, runTest, runBy, runOf}
-use Rattle.model.specs.Totals.{totalDepth}
+use Rattle.model.specs.Totals.{totalDepth, energy4}
 use Rattle.model.specs.Histories.{Call, step, run, inflowOf, stepCount, runCount, stepsDone, stateAfter, inflowDue, History, nothing, stepped, ran}
 use Rattle.model.specs.Promises.{totalTest, totalAnswer, TotalDepthPromise}
-use Rattle.model.specs.Claims.{Steps, start, onward, raised, BalanceClaim, TotalDepthClaim, KeptClaim}
+use Rattle.model.specs.Claims.{Steps, start, onward, raised, BalanceClaim, TotalsClaim, KeptClaim}
 use Rattle.model.specs.declared.Refusal.{Refusal}
 use Rattle.model.specs.declared.TotalAnswer.{TotalAnswer}
 use Rattle.model.specs.declared.TotalAnswer.the-variants.{Total, Refused}
@@ -125,9 +125,12 @@ unmoved s calls t n (ran {s = x} {t = y} {e = z} {inflow = i} {work = k} {m = m}
 
 -- ---- total depth before and after
 
-pub answered : TotalDepthClaim
+pub totals : TotalsClaim
 unfolding totalTest
-answered s answer l p = p .answers ∙ ap (λ x. totalAnswer x (totalDepth s)) (limits-tested s .1 l)
+totals = record {
+  depth = λ s answer l p. p .answers ∙ ap (λ x. totalAnswer x (totalDepth s)) (limits-tested s .1 l);
+  energy = λ s answer l p. p .answers ∙ ap (λ x. totalAnswer x (energy4 s)) (limits-tested s .1 l);
+}
 
 by-test : (s t : State) (calls : List Call) (before after : TotalAnswer) → History s calls t → TotalDepthPromise s before → TotalDepthPromise t after
     → (x : Option Refusal) → totalTest s ≡ x → after ≡ raised (inflowDue s calls) before
@@ -135,7 +138,7 @@ unfolding totalTest totalDepth
 by-test s t calls before after h p q none e =
     let l = limits-tested s .0 e in
     let b = balanced s calls t l h in
-    answered t after (b .inside) q ∙ ap Total (b .balance) ∙ ap (raised (inflowDue s calls)) (sym (answered s before l p))
+    totals .depth t after (b .inside) q ∙ ap Total (b .balance) ∙ ap (raised (inflowDue s calls)) (sym (totals .depth s before l p))
 by-test s t calls before after h p q (some r) e =
     let n : Refuses s = λ l. some≢ (sym e ∙ limits-tested s .1 l) in
     let here : before ≡ Refused r = p .answers ∙ ap (λ x. totalAnswer x (totalDepth s)) e in

@@ -4,6 +4,7 @@
 pub mod Tests
 pub mod Scans
 pub mod Limits
+pub mod Fixed
 pub mod Refused
 -- what the calls fill in
 pub mod Fields
@@ -25,5 +26,6 @@ pub mod Bytes
 pub mod Walks
 pub mod RoundTrip
 pub mod Rewrite
+pub mod Program
 pub mod Comparing
 pub mod Theorems

@@ -15,14 +15,14 @@ use Rattle.model.specs.State.{State, stateOf, parametersOf, cells, WithinLimits
 use Rattle.model.specs.Refusals.{_then_, fieldsOf, long, gridTest, contentTest, roomTest}
 use Rattle.model.specs.Record.{signed2, signed4, numbers, Part, joined, partsOf, encode, recordLength, tags, valueOf, Walked, damaged, whole, walked, risingBy, rising, stateIn, timestampIn, bytesRight, bytesTest, recordTest, Decoded, accepted, judged, readBy, decode}
 use Rattle.model.specs.Promises.{WritePromise, readAnswer, readInto, readOf, ReadPromise}
-use Rattle.model.specs.Claims.{ReadClaim, RewriteClaim}
+use Rattle.model.specs.Claims.{EachRoom, ReadClaim, RewriteClaim}
 use Rattle.model.specs.declared.Parameters.{Parameters}
 use Rattle.model.specs.declared.Refusal.{Refusal}
 use Rattle.model.specs.declared.Refusal.the-variants.{Lengths}
 use Rattle.model.specs.declared.ReadAnswer.the-variants.{Read, Refused}
 use Rattle.model.specs.declared.WriteAnswer.the-variants.{Written}
 use Rattle.theorems.specs.Tests.{and-iff, eq-iff, then-iff, must-iff, same-by, differ}
-use Rattle.theorems.specs.Limits.{within-of}
+use Rattle.theorems.specs.Limits.{within-of, room-iff}
 use Rattle.theorems.specs.Fields.{length-tabulate}
 use Rattle.theorems.specs.Bytes.{AllBytes, back-bytes, put-numbers}
 use Rattle.theorems.specs.Walks.{AllRead, unwalk}
@@ -128,8 +128,9 @@ fields-back ps t r b =
 
 -- ---- what an accepted read says of the fields found
 
-record Accepted (parts : List Part) : Type 0 where
+record Accepted (parts : List Part) (rooms : List ℕ) : Type 0 where
   lengths : T (bytesRight (stateIn parts) parts)
+  room : EachRoom (cells (stateIn parts)) rooms
   inside : WithinLimits (stateIn parts)
 
 right : (f : List ℕ → ℤ) (z m : ℕ) (v : List ℕ) (l : Bool) → T l → T (eqb (length (numbers f z m v)) m && l)
@@ -141,14 +142,14 @@ lengths-in parts =
     let m = getD (valueOf 1 parts) 0 0 * getD (valueOf 1 parts) 1 0 in
     right signed4 4 m (valueOf 4 parts) _ (right signed4 4 m (valueOf 5 parts) _ (right signed2 2 m (valueOf 6 parts) _ (right signed2 2 m (valueOf 7 parts) true tt)))
 
-tests : (parts : List Part) (rooms : List ℕ) → recordTest (stateIn parts) parts rooms ≡ none → Accepted parts
+tests : (parts : List Part) (rooms : List ℕ) → recordTest (stateIn parts) parts rooms ≡ none → Accepted parts rooms
 unfolding recordTest bytesTest
 tests parts rooms h =
     let s = stateIn parts in
     let p = then-iff (gridTest s) (bytesTest s parts then roomTest (cells s) rooms then contentTest s (fieldsOf s)) .0 h in
     let q = then-iff (bytesTest s parts) (roomTest (cells s) rooms then contentTest s (fieldsOf s)) .0 (p .1) in
     let r = then-iff (roomTest (cells s) rooms) (contentTest s (fieldsOf s)) .0 (q .1) in
-    record { lengths = must-iff (bytesRight s parts) Lengths .0 (q .0); inside = within-of s (p .0) (lengths-in parts) (r .1) }
+    record { lengths = must-iff (bytesRight s parts) Lengths .0 (q .0); room = room-iff (cells s) rooms .0 (r .0); inside = within-of s (p .0) (lengths-in parts) (r .1) }
 
 -- what a read that answers p and u found
 record Found (x : Option Refusal) (s : State) (t : ℕ) (p : Parameters) (u : ℕ) : Type 0 where
@@ -165,6 +166,22 @@ refused≢ h = differ (cc h)
 found : (x : Option Refusal) (s : State) (t : ℕ) (p : Parameters) (u : ℕ) → readAnswer (judged x s t) ≡ Read p u → Found x s t p u
 found none s t p u h = let e = read-same (parametersOf s) p t u h in record { passes = refl; parameters = e .0; timestamp = e .1 }
 found (some r) s t p u h = refused≢ h
+
+-- what is decoded is within the limits, and has room
+judged-same : (x : Option Refusal) (s s′ : State) (t t′ : ℕ) → judged x s t ≡ accepted s′ t′ → (x ≡ none) × (s ≡ s′)
+judged-same none s s′ t t′ h = (refl, cc h)
+judged-same (some r) s s′ t t′ h = differ (cc h)
+
+decoded-by : (rooms : List ℕ) (w : Walked) (s : State) (t : ℕ) → readBy rooms w ≡ accepted s t → WithinLimits s × EachRoom (cells s) rooms
+decoded-by rooms (damaged r) s t h = differ (cc h)
+decoded-by rooms (whole parts) s t h =
+    let e = judged-same (recordTest (stateIn parts) parts rooms) (stateIn parts) s (timestampIn parts) t h in
+    let a = tests parts rooms (e .0) in
+    subst (λ (x : State). WithinLimits x × EachRoom (cells x) rooms) (e .1) (a .inside, a .room)
+
+pub decoded-within : (rec rooms : List ℕ) (s : State) (t : ℕ) → decode rec rooms ≡ accepted s t → WithinLimits s × EachRoom (cells s) rooms
+unfolding decode
+decoded-within rec rooms s t h = decoded-by rooms (walked rec) s t h
 
 -- what the reader found in a record that it accepts
 record Accepts (p : Parameters) (t : ℕ) (w : Walked) (x : Decoded) : Type 0 where

@@ -1,7 +1,8 @@
 -- Every theorem. `theorems` has each claim of the model, proved. Assumes nothing.
-use Rattle.model.specs.Claims.{LimitsClaim, AcceptedClaim, ScanClaim, RefusedClaim, WorkClaim, RoundingClaim, OwnVorticityClaim, VorticityClaim, TendenciesAcceptedClaim, TendenciesClaim, PassClaim, StepClaim, RunClaim, RunStepsClaim, RoundTripClaim, ReadClaim, RewriteClaim, CompareClaim, EnergyRateClaim, EnergyClaim, EnstrophyClaim, PeriodicEnstrophyClaim, BalanceClaim, TotalDepthClaim, KeptClaim}
+use Rattle.model.specs.Claims.{LimitsClaim, AcceptedClaim, ScanClaim, MetClaim, FixedClaim, RefusedClaim, WorkClaim, RoundingClaim, OwnVorticityClaim, VorticityClaim, TendenciesAcceptedClaim, TendenciesClaim, PassClaim, StepClaim, RunClaim, RunStepsClaim, TotalsClaim, RoundTripClaim, ReadClaim, ProgramClaim, RewriteClaim, CompareClaim, EnergyRateClaim, EnergyClaim, EnstrophyClaim, PeriodicEnstrophyClaim, BalanceClaim, KeptClaim}
 use Rattle.theorems.specs.Limits.{limits-tested, accepted}
 use Rattle.theorems.specs.Scans.{scan}
+use Rattle.theorems.specs.Fixed.{met, fixed}
 use Rattle.theorems.specs.Refused.{refused-leaves, work-left}
 use Rattle.theorems.specs.Rounding.{rounding}
 use Rattle.theorems.specs.Vorticity.{within-limit, vorticity-within}
@@ -11,10 +12,11 @@ use Rattle.theorems.specs.Runs.{run-counts}
 use Rattle.theorems.specs.RunSteps.{run-steps}
 use Rattle.theorems.specs.RoundTrip.{round-trip}
 use Rattle.theorems.specs.Rewrite.{read-within, rewritten}
+use Rattle.theorems.specs.Program.{program-steps}
 use Rattle.theorems.specs.Comparing.{comparison}
 use Rattle.theorems.specs.ProductRule.{energy-rate}
 use Rattle.theorems.specs.Rates.{energy-zero, enstrophy-zero, periodic-enstrophy}
-use Rattle.theorems.specs.Histories.{answered, balance, kept}
+use Rattle.theorems.specs.Histories.{totals, balance, kept}
 -- The laws behind energy, enstrophy and total depth, for any fluxes, Bernoulli function, weights of each cell and closed edges
 pub use Rattle.theorems.specs.Conservation.{mass-law, energy-law, enstrophy-law}
 -- What the checker computes: the worked examples, and the paper's conditions on the weight table
@@ -26,6 +28,8 @@ pub record Theorems : Type 0 where
   pub limits : LimitsClaim
   pub accepted : AcceptedClaim
   pub scan : ScanClaim
+  pub met : MetClaim
+  pub fixed : FixedClaim
   pub refused : RefusedClaim
   pub work : WorkClaim
   -- demand 2: the published scheme and 01's rules, at every cell
@@ -38,8 +42,10 @@ pub record Theorems : Type 0 where
   pub step : StepClaim
   pub run : RunClaim
   pub run-steps : RunStepsClaim
+  pub totals : TotalsClaim
   pub write-then-read : RoundTripClaim
   pub read : ReadClaim
+  pub program : ProgramClaim
   pub read-then-write : RewriteClaim
   pub compare : CompareClaim
   -- demand 3: what is kept
@@ -47,7 +53,6 @@ pub record Theorems : Type 0 where
   pub energy : EnergyClaim
   pub enstrophy : EnstrophyClaim
   pub periodic-enstrophy : PeriodicEnstrophyClaim
-  pub total-depth : TotalDepthClaim
   pub balance : BalanceClaim
   pub limits-kept : KeptClaim
 
@@ -57,6 +62,8 @@ theorems =
       limits = limits-tested;
       accepted = accepted;
       scan = scan;
+      met = met;
+      fixed = fixed;
       refused = refused-leaves;
       work = work-left;
       rounding = rounding;
@@ -68,15 +75,16 @@ theorems =
       step = step-within;
       run = run-counts;
       run-steps = run-steps;
+      totals = totals;
       write-then-read = round-trip;
       read = read-within;
+      program = program-steps;
       read-then-write = rewritten;
       compare = comparison;
       energy-rate = energy-rate;
       energy = energy-zero;
       enstrophy = enstrophy-zero;
       periodic-enstrophy = periodic-enstrophy;
-      total-depth = answered;
       balance = balance;
       limits-kept = kept;
     }

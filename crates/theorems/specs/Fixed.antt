@@ -1,0 +1,76 @@
+-- Each promise can be met, and leaves nothing free. Assumes nothing.
+use mathlib.Core.Path.{refl, sym, _∙_}
+use lib.ListN.{length}
+use Rattle.model.specs.Grid.{filled}
+use Rattle.model.specs.State.{cells}
+use Rattle.model.specs.Scheme.{vorticity, hTendencies, uTendencies, vTendencies}
+use Rattle.model.specs.Totals.{totalDepth, energy4}
+use Rattle.model.specs.Step.{stepTest, stepAnswer, stepState, runTest, runOf, workLeft}
+use Rattle.model.specs.Record.{encode, recordLength, compareAnswer}
+use Rattle.model.specs.Promises.{leftBy, fillAnswer, vorticityTest, tendenciesTest, totalTest, totalAnswer, writeTest, writeAnswer, readAnswer, readInto, readOf}
+use Rattle.model.specs.Claims.{MetClaim, FixedClaim}
+
+pub met : MetClaim
+met = record {
+  vorticity = λ s d.
+      let t = vorticityTest s (length d) in (fillAnswer t, leftBy t (filled (cells s) (vorticity s) d) d, record { answers = refl; tells = refl; fills = refl });
+  tendencies = λ s q dh du dv.
+      let t = tendenciesTest s q (length dh) (length du) (length dv) in (
+        fillAnswer t,
+        leftBy t (filled (cells s) (hTendencies s) dh) dh,
+        leftBy t (filled (cells s) (uTendencies s q) du) du,
+        leftBy t (filled (cells s) (vTendencies s q) dv) dv,
+        record { answers = refl; tells = refl; fills-h = refl; fills-u = refl; fills-v = refl },
+      );
+  step = λ s inflow work. (
+    stepAnswer s inflow (length work),
+    stepState s inflow (length work),
+    workLeft (stepTest s inflow (length work)) s work,
+    record { answers = refl; tells = refl; steps = refl; clears = refl },
+  );
+  run = λ s inflow m work. (
+    runOf s inflow m (length work) .answer,
+    runOf s inflow m (length work) .state,
+    workLeft (runTest s inflow m (length work)) s work,
+    record { answers = refl; tells = refl; steps = refl; clears = refl },
+  );
+  depth = λ s. (totalAnswer (totalTest s) (totalDepth s), record { answers = refl; tells = refl });
+  energy = λ s. (totalAnswer (totalTest s) (energy4 s), record { answers = refl; tells = refl });
+  write = λ s t d.
+      let o = writeTest s (length d) in
+      (writeAnswer o (recordLength s), leftBy o (filled (recordLength s) (encode s t) d) d, record { answers = refl; tells = refl; fills = refl });
+  read = λ rec h b u v.
+      let x = readOf rec h b u v in (
+        readAnswer x,
+        readInto (λ s. s .h) x h,
+        readInto (λ s. s .b) x b,
+        readInto (λ s. s .u) x u,
+        readInto (λ s. s .v) x v,
+        record { answers = refl; tells = refl; fills-h = refl; fills-b = refl; fills-u = refl; fills-v = refl },
+      );
+  compare = λ first second. (compareAnswer first second, record { answers = refl; tells = refl });
+}
+
+pub fixed : FixedClaim
+fixed = record {
+  vorticity = λ s d x y a b p q. (p .answers ∙ sym (q .answers), p .fills ∙ sym (q .fills));
+  tendencies = λ s q dh du dv x y z x′ y′ z′ a b p r. (
+    p .answers ∙ sym (r .answers),
+    p .fills-h ∙ sym (r .fills-h),
+    p .fills-u ∙ sym (r .fills-u),
+    p .fills-v ∙ sym (r .fills-v),
+  );
+  step = λ s x y inflow work k l a b p q. (p .answers ∙ sym (q .answers), p .steps ∙ sym (q .steps), p .clears ∙ sym (q .clears));
+  run = λ s x y inflow m work k l a b p q. (p .answers ∙ sym (q .answers), p .steps ∙ sym (q .steps), p .clears ∙ sym (q .clears));
+  depth = λ s a b p q. p .answers ∙ sym (q .answers);
+  energy = λ s a b p q. p .answers ∙ sym (q .answers);
+  write = λ s t d x y a b p q. (p .answers ∙ sym (q .answers), p .fills ∙ sym (q .fills));
+  read = λ rec h b u v h′ b′ u′ v′ h″ b″ u″ v″ a c p q. (
+    p .answers ∙ sym (q .answers),
+    p .fills-h ∙ sym (q .fills-h),
+    p .fills-b ∙ sym (q .fills-b),
+    p .fills-u ∙ sym (q .fills-u),
+    p .fills-v ∙ sym (q .fills-v),
+  );
+  compare = λ first second a b p q. p .answers ∙ sym (q .answers);
+}
