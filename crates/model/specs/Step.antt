@@ -142,9 +142,6 @@ leavesAll Destination = true
 abbrev pub cleared : State → List ℤ → List ℤ
 cleared s work = filled (workLength s) (replicate (workLength s) (pos 0)) work
 
-abbrev pub workBy : Option Refusal → State → List ℤ → List ℤ
-workBy none s work = cleared s work
-workBy (some r) s work = cond (leavesAll r) work (cleared s work)
-
 unfoldable pub workLeft : Option Refusal → State → List ℤ → List ℤ
-workLeft t s work = workBy t s work
+workLeft none s work = cleared s work
+workLeft (some r) s work = cond (leavesAll r) work (cleared s work)
