@@ -1,14 +1,17 @@
--- The model's definitions give the numbers of the independent version in rust/: three by three cells of each kind, and two cells whose
--- step pass 2 stops. Computed by the checker, so that the two versions are held together before there is code to compare.
+-- The model's definitions give the numbers of the independent version in rust/: three by three cells of each kind, two cells whose step
+-- pass 2 stops, and the step program at its limits. Computed by the checker, so that the two versions are held together before there
+-- is code to compare.
 use mathlib.Core.Bool.{Bool, true, false, cond}
 use mathlib.Core.List.{List, [], _∷_, _++_}
-use Prim.Native.Nat.{ℕ}
+use Prim.Native.Nat.{ℕ, _*_}
 use lib.Dec.{T}
 use lib.IntN.{ℤ, pos}
+use lib.ListN.{take, drop, replicate}
 use Rattle.model.specs.Numbers.{all}
 use Rattle.model.specs.State.{State}
+use Rattle.model.specs.Record.{bytes, encode}
 use Rattle.model.specs.Opened.{everything}
-use Rattle.model.specs.Examples.{Example, vorticities, tends, energy, steps, runs, holds, minus, accepted, none2, sevens, zeros}
+use Rattle.model.specs.Examples.{Example, vorticities, tends, energy, steps, runs, prints, holds, minus, accepted, none2, sevens, zeros, dock}
 
 -- nine cells, deep and shallow, at rest along a wall in the west and in the south; an inflow and a q to lend
 abbrev unless : Bool → ℤ → ℤ
@@ -82,6 +85,25 @@ agreed =
     ∷ steps (steep (pos 2000)) none2 (sevens 16) (pos 6 ∷ pos 2 ∷ pos 0 ∷ pos 1 ∷ []) (pos 1000 ∷ pos 2000 ∷ []) none2 none2 (zeros 16)
     ∷ []
 
-pub all-agree : T (all holds agreed)
+-- ---- the step program's limits, on inputs that take longer to compute
+
+-- a grid that is too shallow everywhere
+abbrev shallow : ℕ → ℕ → State
+shallow w n = record { w = w; n = n; kind = 0; G = pos 1; c = pos 0; R = pos 1000; h = replicate (w * n) (pos 999); b = zeros (w * n); u = zeros (w * n); v = zeros (w * n) }
+
+-- case 10's record with m bytes for its depth, 52 + m in all
+abbrev lengthened : ℕ → List ℕ
+lengthened m = take 32 dock ++ (4 ∷ []) ++ bytes 2 m ++ replicate m 0 ++ drop 39 dock
+
+-- room for 1,024 cells and no more, told before a value outside; 65,535 bytes and no more
+abbrev pub programLimits : List Example
+programLimits =
+    prints (encode (shallow 32 32) 0) "refused 4\n"
+    ∷ prints (encode (shallow 41 25) 0) "refused 8\n"
+    ∷ prints (lengthened 65483) "refused 2\n"
+    ∷ prints (lengthened 65484) "refused 7\n"
+    ∷ []
+
+pub all-agree : T (all holds (agreed ++ programLimits))
 unfolding everything
 all-agree = tt

@@ -1,7 +1,7 @@
 -- Worked examples (01: soundings), as one table that the checker computes from the definitions.
 use mathlib.Core.Bool.{Bool, _&&_}
 use mathlib.Core.List.{List, [], _∷_, _++_}
-use Prim.Native.Nat.{ℕ, _*_}
+use Prim.Native.Nat.{ℕ}
 use Prim.Native.String.{String}
 use lib.Dec.{T, eqb}
 use lib.IntN.{ℤ, pos, negℤ}
@@ -140,17 +140,14 @@ faulty w G h b u v = record { w = w; n = 1; kind = 2; G = G; c = pos 0; R = pos 
 abbrev cell : (kind : ℕ) (G c R h b u v : ℤ) → State
 cell kind G c R h b u v = record { w = 1; n = 1; kind = kind; G = G; c = c; R = R; h = just h; b = just b; u = just u; v = just v }
 
--- a grid without fields, and one that is too shallow everywhere
+-- a grid without fields
 abbrev sides : ℕ → ℕ → State
 sides w n = record { w = w; n = n; kind = 0; G = pos 1; c = pos 0; R = pos 1000; h = []; b = []; u = []; v = [] }
-
-abbrev shallow : ℕ → ℕ → State
-shallow w n = record { w = w; n = n; kind = 0; G = pos 1; c = pos 0; R = pos 1000; h = replicate (w * n) (pos 999); b = zeros (w * n); u = zeros (w * n); v = zeros (w * n) }
 
 -- ---- records
 
 -- case 10's record, and the same with a timestamp and a depth of its own
-abbrev dock : List ℕ
+abbrev pub dock : List ℕ
 dock =
     1 ∷ 0 ∷ 3 ∷ 1 ∷ 1 ∷ 0
     ∷ 2 ∷ 0 ∷ 0x0c ∷ 0 ∷ 0 ∷ 0x26 ∷ 0x52 ∷ 0 ∷ 0 ∷ 0 ∷ 0x0a ∷ 0 ∷ 0 ∷ 3 ∷ 0xe8
@@ -167,10 +164,6 @@ stamped t h = take 24 dock ++ bytes 8 t ++ (4 ∷ 0 ∷ 4 ∷ []) ++ bytes 4 h +
 -- read into four fields of one number, a record is refused with 7 and this offset
 abbrev damaged : List ℕ → ℕ → Example
 damaged rec k = reads rec none none none none (pos 7 ∷ pos k ∷ []) none none none none
-
--- case 10's record with m bytes for its depth, 52 + m in all
-abbrev lengthened : ℕ → List ℕ
-lengthened m = take 32 dock ++ (4 ∷ []) ++ bytes 2 m ++ replicate m 0 ++ drop 39 dock
 
 -- three columns and two rows, a channel: its record, and the state that it holds
 abbrev six : List ℕ
@@ -198,9 +191,20 @@ sixState = record {
   v = pos 0 ∷ pos 0 ∷ pos 0 ∷ pos 9 ∷ minus 10 ∷ pos 11 ∷ [];
 }
 
--- the same as a torus, with R 1000
-abbrev sixFast : List ℕ
-sixFast = take 5 six ++ (0 ∷ []) ++ take 11 (drop 6 six) ++ bytes 4 1000 ++ drop 21 six
+-- a lake at rest over an uneven bottom
+abbrev lake : State
+lake = record {
+  w = 3;
+  n = 2;
+  kind = 2;
+  G = pos 9810;
+  c = pos 10;
+  R = pos 1000;
+  h = pos 1010 ∷ pos 1020 ∷ pos 1030 ∷ pos 1040 ∷ pos 1050 ∷ pos 1060 ∷ [];
+  b = pos 90 ∷ pos 80 ∷ pos 70 ∷ pos 60 ∷ pos 50 ∷ pos 40 ∷ [];
+  u = zeros 6;
+  v = zeros 6;
+}
 
 -- ---- 01's cases 1 to 10
 
@@ -304,12 +308,10 @@ orders =
     ∷ reads (take 51 dock ++ (7 ∷ 0 ∷ 1 ∷ 0 ∷ [])) [] [] [] [] (just (pos 2)) [] [] [] []
     ∷ reads (take 9 dock ++ replicate 12 0 ++ drop 21 dock) none none none [] (just (pos 8)) none none none []
     ∷ reads (take 9 dock ++ replicate 12 0 ++ drop 21 dock) none none none none (just (pos 3)) none none none none
-    -- a record of six cells, written, read and stepped
+    -- a record of six cells, written and read
     ∷ writes sixState 258 (replicate 117 7) (pos 0 ∷ pos 116 ∷ []) (six ++ (7 ∷ []))
     ∷ reads six (sevens 7) (sevens 7) (sevens 7) (sevens 7) (pos 0 ∷ pos 3 ∷ pos 2 ∷ pos 1 ∷ pos 9810 ∷ pos 10 ∷ pos 1000000 ∷ pos 258 ∷ [])
     (sixState .h ++ sevens 1) (sixState .b ++ sevens 1) (sixState .u ++ sevens 1) (sixState .v ++ sevens 1)
-    ∷ prints six "total 11060\n0 0 1050 22 0\n1 0 2000 -13 0\n2 0 3000 -5 0\n0 1 1500 -11 5\n1 1 2500 -3 -15\n2 1 1010 7 30\n"
-    ∷ prints sixFast "refused 6\n"
     -- the newer timestamp tells; under one timestamp the states do
     ∷ compares dock dock (pos 0 ∷ pos 0 ∷ [])
     ∷ compares (stamped 0 2001) (stamped 0 2000) (pos 0 ∷ pos 3 ∷ [])
@@ -317,14 +319,11 @@ orders =
     ∷ compares (stamped 255 2001) (stamped 256 2000) (pos 0 ∷ pos 2 ∷ [])
     ∷ compares [] (take 51 dock) (pos 7 ∷ pos 1 ∷ pos 0 ∷ [])
     ∷ compares dock (take 51 dock) (pos 7 ∷ pos 2 ∷ pos 51 ∷ [])
-    -- the program's refusals carry the number alone
+    -- the program on six cells, each in its line; its refusals carry the number alone
+    ∷ prints (encode lake 0) "total 6210\n0 0 1010 0 0\n1 0 1020 0 0\n2 0 1030 0 0\n0 1 1040 0 0\n1 1 1050 0 0\n2 1 1060 0 0\n"
+    ∷ prints (encode (cell 0 (pos 1) (pos 10000) (pos 1000) (pos 1000) (pos 0) (pos 5000) (pos 5000)) 0) "refused 6\n"
     ∷ prints [] "refused 7\n"
     ∷ prints (stamped 0 999) "refused 4\n"
-    -- room for 1,024 cells and no more, told before a value outside; 65,535 bytes and no more
-    ∷ prints (encode (shallow 32 32) 0) "refused 4\n"
-    ∷ prints (encode (shallow 41 25) 0) "refused 8\n"
-    ∷ prints (lengthened 65483) "refused 2\n"
-    ∷ prints (lengthened 65484) "refused 7\n"
     ∷ []
 
 -- ---- each bound at both ends, and one past

@@ -2,9 +2,12 @@
 //! of `crates/agreement/specs/Agreement.antt`, which the checker computes from
 //! the model's definitions, are worked out here anew and compared as text.
 
+mod common;
+
+use common::{record_field, record_fields, record_of};
 use reference::{
-    potential_vorticity, run, step, tendencies, total_energy, FillAnswer, Parameters, RunAnswer,
-    StepAnswer, TotalAnswer,
+    potential_vorticity, run, step, step_program, tendencies, total_energy, FillAnswer, Parameters,
+    RunAnswer, State, StepAnswer, TotalAnswer,
 };
 
 /// A list of numbers as antt writes it.
@@ -158,6 +161,50 @@ fn steep() -> String {
     )
 }
 
+/// What the step program prints for a grid that is too shallow everywhere.
+fn shallow(w: usize, n: usize) -> String {
+    let parameters = Parameters {
+        w,
+        n,
+        kind: 0,
+        g: 1,
+        c: 0,
+        r: 1000,
+    };
+    let zeros = vec![0; w * n];
+    let state = State {
+        parameters,
+        h: vec![999; w * n],
+        b: zeros.clone(),
+        u: zeros.clone(),
+        v: zeros,
+    };
+    let printed = step_program(&record_of(&state, 0));
+    format!("prints (encode (shallow {w} {n}) 0) {printed:?}")
+}
+
+/// The same for worked example 10's record with `m` bytes for its depth.
+fn lengthened(m: usize) -> String {
+    let state = State {
+        parameters: Parameters {
+            w: 1,
+            n: 1,
+            kind: 0,
+            g: 9810,
+            c: 10,
+            r: 1000,
+        },
+        h: vec![2000],
+        b: vec![0],
+        u: vec![100],
+        v: vec![-50],
+    };
+    let mut fields = record_fields(&state, 0);
+    fields[3] = record_field(4, &vec![0; m]);
+    let printed = step_program(&fields.concat());
+    format!("prints (lengthened {m}) {printed:?}")
+}
+
 #[test]
 fn the_model_is_held_to_these_numbers() {
     let mut rows = Vec::new();
@@ -172,6 +219,8 @@ fn the_model_is_held_to_these_numbers() {
     }
     rows.push(Nine::new(2).runs(12));
     rows.push(steep());
+    rows.extend([shallow(32, 32), shallow(41, 25)]);
+    rows.extend([lengthened(65_483), lengthened(65_484)]);
 
     let path = concat!(
         env!("CARGO_MANIFEST_DIR"),
@@ -179,12 +228,12 @@ fn the_model_is_held_to_these_numbers() {
     );
     let file = std::fs::read_to_string(path).expect("the agreement crate");
     let words = |text: &str| text.split_whitespace().collect::<Vec<_>>().join(" ");
-    let table = words(file.split("agreed =").nth(1).expect("the table"));
+    let table = words(file.split("agreed =").nth(1).expect("both tables"));
     for row in &rows {
         assert!(table.contains(&words(row)), "not in the table: {row}");
     }
     // The table has no other rows.
-    let calls = ["vorticities", "tends", "energy", "steps", "runs"];
+    let calls = ["vorticities", "tends", "energy", "steps", "runs", "prints"];
     let named = table.split(' ').filter(|word| calls.contains(word)).count();
     assert_eq!(named, rows.len());
 }
