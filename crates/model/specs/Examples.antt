@@ -240,7 +240,7 @@ workedExamples =
     ∷ steps (one (pos 2000)) none (sevens 7) (just (pos 2)) (just (pos 2000)) (just (pos 100)) (just (minus 50)) (sevens 7)
     ∷ runs (one (pos 2000)) none 0 (sevens 9) (pos 0 ∷ pos 0 ∷ []) (just (pos 2000)) (just (pos 100)) (just (minus 50)) (zeros 8 ++ sevens 1)
     ∷ runs (one (pos 100000)) (just (pos 1)) 10001 (sevens 9) (just (pos 1)) (just (pos 100000)) (just (pos 100)) (just (minus 50)) (sevens 9)
-    ∷ runs (one (pos 2000)) none 10000 (sevens 7) (just (pos 2)) (just (pos 2000)) (just (pos 100)) (just (minus 50)) (sevens 7)
+    ∷ runs (one (pos 100000)) (just (pos 1)) 10000 (sevens 7) (just (pos 2)) (just (pos 100000)) (just (pos 100)) (just (minus 50)) (sevens 7)
     -- 10: the program, and its input as a record
     ∷ prints dock "total 2000\n0 0 2000 99 -51\n"
     ∷ writes (one (pos 2000)) 0 (replicate 57 7) (pos 0 ∷ pos 56 ∷ []) (dock ++ (7 ∷ []))
@@ -286,7 +286,8 @@ orders =
     ∷ steps (cell 0 (pos 1) (pos 10000) (pos 1000) (pos 1000) (pos 0) (pos 5000) (pos 5000)) none (sevens 8) (pos 6 ∷ pos 1 ∷ pos 2 ∷ pos 0 ∷ []) (just (pos 1000)) (just (pos 5000)) (just (pos 5000)) (zeros 8)
     ∷ steps (cell 0 (pos 1) (pos 10000) (pos 1000) (pos 1000) (pos 0) (pos 5000) (pos 0)) none (sevens 8) (pos 6 ∷ pos 1 ∷ pos 3 ∷ pos 0 ∷ []) (just (pos 1000)) (just (pos 5000)) none (zeros 8)
     -- 1 of a run before 2; 2 of the work space before 3; a run refused with 4
-    ∷ runs (one (pos 2000)) none 10001 (sevens 7) (just (pos 1)) (just (pos 2000)) (just (pos 100)) (just (minus 50)) (sevens 7)
+    ∷ runs (one (pos 100000)) (just (pos 1)) 10001 (sevens 7) (just (pos 1)) (just (pos 100000)) (just (pos 100)) (just (minus 50)) (sevens 7)
+    ∷ runs (one (pos 2000)) none 1 (sevens 7) (just (pos 2)) (just (pos 2000)) (just (pos 100)) (just (minus 50)) (sevens 7)
     ∷ steps (faulty 1 (pos 0) (just (pos 1000)) none none none) none (sevens 7) (just (pos 2)) (just (pos 1000)) none none (sevens 7)
     ∷ runs (faulty 1 (pos 1) (just (pos 999)) none none none) none 1 (sevens 8) (pos 4 ∷ pos 0 ∷ pos 0 ∷ []) (just (pos 999)) none none (zeros 8)
     -- a run that its third step stops, at cell 0 and at cell 1
