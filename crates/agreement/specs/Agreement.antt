@@ -7,11 +7,12 @@ use Prim.Native.Nat.{ℕ, _*_}
 use lib.Dec.{T}
 use lib.IntN.{ℤ, pos}
 use lib.ListN.{take, drop, replicate}
-use Rattle.model.specs.Numbers.{all}
+use Rattle.model.specs.Numbers.{eqℤ, sameBy, all}
 use Rattle.model.specs.State.{State}
+use Rattle.model.specs.Weights.{conditions}
 use Rattle.model.specs.Record.{bytes, encode}
 use Rattle.model.specs.Opened.{everything}
-use Rattle.model.specs.Examples.{Example, vorticities, tends, energy, steps, runs, prints, holds, minus, accepted, none2, sevens, zeros, dock}
+use Rattle.model.specs.Examples.{Example, vorticities, tends, rates, energy, steps, runs, prints, holds, minus, accepted, none2, sevens, zeros, dock}
 
 -- nine cells, deep and shallow, at rest along a wall in the west and in the south; an inflow and a q to lend
 abbrev unless : Bool → ℤ → ℤ
@@ -48,6 +49,7 @@ agreed =
     (pos 276500 ∷ minus 444700 ∷ pos 518200 ∷ minus 698000 ∷ pos 744500 ∷ minus 776600 ∷ pos 1029500 ∷ minus 891800 ∷ pos 242400 ∷ [])
     (pos 31477776314304 ∷ minus 15739751924416 ∷ minus 15735517989888 ∷ pos 77759320537536 ∷ pos 8947798879168 ∷ minus 86706168616704 ∷ minus 39488814509280 ∷ pos 52148556823776 ∷ minus 12632356514496 ∷ [])
     (pos 48150377146944 ∷ minus 19737807901248 ∷ minus 22843969176640 ∷ pos 14501046246336 ∷ pos 39188443249920 ∷ minus 31784779976896 ∷ minus 62650733393280 ∷ minus 19450802948672 ∷ pos 54597780753536 ∷ [])
+    ∷ rates (nine 0 false false) lent rain ((nine 0 false false) .b) lent (pos 762367042460448) (minus 302970000)
     ∷ energy (nine 0 false false) (pos 0 ∷ pos 1206520900800 ∷ [])
     ∷ steps (nine 0 false false) rain (sevens 73) accepted
     (pos 2004 ∷ pos 2496 ∷ pos 3004 ∷ pos 1498 ∷ pos 1210 ∷ pos 3986 ∷ pos 3505 ∷ pos 1790 ∷ pos 2212 ∷ [])
@@ -59,6 +61,7 @@ agreed =
     (pos 238000 ∷ minus 384500 ∷ pos 409000 ∷ minus 698000 ∷ pos 744500 ∷ minus 776600 ∷ pos 1068000 ∷ minus 952000 ∷ pos 351600 ∷ [])
     (pos 31478463432960 ∷ minus 15739385718912 ∷ minus 15734605714048 ∷ pos 77759320537536 ∷ pos 8947798879168 ∷ minus 86706168616704 ∷ minus 39492514290624 ∷ pos 52148838329280 ∷ minus 12634898038656 ∷ [])
     (pos 0 ∷ pos 0 ∷ pos 0 ∷ pos 14501238711168 ∷ pos 39188650309248 ∷ minus 31785126793408 ∷ minus 62650001858112 ∷ minus 19449324408000 ∷ pos 54598564370048 ∷ [])
+    ∷ rates (nine 1 false true) lent rain ((nine 1 false true) .b) lent (pos 762360212114912) (minus 302970000)
     ∷ energy (nine 1 false true) (pos 0 ∷ pos 1206517495300 ∷ [])
     ∷ steps (nine 1 false true) rain (sevens 73) accepted
     (pos 2003 ∷ pos 2496 ∷ pos 3004 ∷ pos 1498 ∷ pos 1210 ∷ pos 3986 ∷ pos 3506 ∷ pos 1790 ∷ pos 2212 ∷ [])
@@ -70,6 +73,7 @@ agreed =
     (pos 188000 ∷ minus 384500 ∷ pos 459000 ∷ minus 478000 ∷ pos 744500 ∷ minus 996600 ∷ pos 669000 ∷ minus 952000 ∷ pos 750600 ∷ [])
     (pos 0 ∷ minus 15739564362112 ∷ minus 15735227070848 ∷ pos 0 ∷ pos 8946100587968 ∷ minus 86710630325504 ∷ pos 0 ∷ pos 52144984812480 ∷ minus 12635832521856 ∷ [])
     (pos 0 ∷ pos 0 ∷ pos 0 ∷ pos 14500078359168 ∷ pos 39188650309248 ∷ minus 31786037145408 ∷ minus 62648357632512 ∷ minus 19449324408000 ∷ pos 54610709595648 ∷ [])
+    ∷ rates (nine 2 true true) lent rain ((nine 2 true true) .b) lent (pos 762261396995712) (minus 302970000)
     ∷ energy (nine 2 true true) (pos 0 ∷ pos 1206480265300 ∷ [])
     ∷ steps (nine 2 true true) rain (sevens 73) accepted
     (pos 2002 ∷ pos 2496 ∷ pos 3005 ∷ pos 1497 ∷ pos 1210 ∷ pos 3987 ∷ pos 3506 ∷ pos 1790 ∷ pos 2212 ∷ [])
@@ -81,9 +85,25 @@ agreed =
     (pos 0 ∷ minus 295 ∷ minus 312 ∷ pos 0 ∷ pos 146 ∷ minus 1552 ∷ pos 0 ∷ pos 931 ∷ minus 233 ∷ [])
     (pos 0 ∷ pos 0 ∷ pos 0 ∷ pos 245 ∷ pos 682 ∷ minus 547 ∷ minus 1138 ∷ minus 325 ∷ pos 959 ∷ [])
     (zeros 72)
-    -- a step that pass 2 stops
+    -- a step, and a run, that pass 2 stops
     ∷ steps (steep (pos 2000)) none2 (sevens 16) (pos 6 ∷ pos 2 ∷ pos 0 ∷ pos 1 ∷ []) (pos 1000 ∷ pos 2000 ∷ []) none2 none2 (zeros 16)
+    ∷ runs (steep (pos 2000)) none2 3 (sevens 16) (pos 6 ∷ pos 2 ∷ pos 0 ∷ pos 1 ∷ pos 0 ∷ []) (pos 1000 ∷ pos 2000 ∷ []) none2 none2 (zeros 16)
     ∷ []
+
+-- ---- the paper's conditions on the weights, at six rows of unrelated numbers: 12 of (3.28), then 22 of (3.29), in the paper's order
+
+abbrev printed : List ℤ
+printed =
+    minus 2998 ∷ minus 390 ∷ pos 2600 ∷ minus 8 ∷ pos 201997 ∷ minus 99903 ∷ pos 300000 ∷ minus 399963 ∷ minus 29703 ∷ minus 36003 ∷ pos 20017 ∷ pos 9998
+    ∷ minus 4279 ∷ minus 98800 ∷ pos 100034 ∷ minus 39900 ∷ pos 31000 ∷ pos 9990 ∷ minus 20001 ∷ minus 301000 ∷ pos 399700 ∷ pos 199999 ∷ minus 100030 ∷ pos 10230 ∷ pos 1863 ∷ pos 31004
+    ∷ pos 300700 ∷ pos 99971 ∷ minus 9930 ∷ minus 29003 ∷ minus 403800 ∷ minus 199984 ∷ minus 39840 ∷ minus 18004
+    ∷ []
+
+abbrev scaled : ℕ → ℕ → ℤ
+scaled unit k = pos (unit * k)
+
+pub conditions-agree : T (sameBy eqℤ (conditions (scaled 1) (scaled 10) (scaled 100) (scaled 1000) (scaled 10000) (scaled 100000)) printed)
+conditions-agree = tt
 
 -- ---- the step program's limits, on inputs that take longer to compute
 

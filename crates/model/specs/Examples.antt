@@ -11,6 +11,7 @@ use Rattle.model.specs.Grid.{filled}
 use Rattle.model.specs.State.{State, withFlow, cells}
 use Rattle.model.specs.Answers.{toldFill, toldStep, toldRun, toldTotal, toldWrite, toldRead, toldCompare}
 use Rattle.model.specs.Scheme.{vorticity, hTendencies, uTendencies, vTendencies}
+use Rattle.model.specs.Rates.{energyRate, enstrophyRate}
 use Rattle.model.specs.Totals.{totalDepth, energy4}
 use Rattle.model.specs.Step.{stepTest, stepAnswer, stepState, Ran, runTest, runOf, workLeft}
 use Rattle.model.specs.Record.{bytes, Decoded, sameState, encode, recordLength, compareAnswer}
@@ -24,6 +25,7 @@ pub data Example : Type 0 where
   rounds : (a b r : ℤ) → Example
   vorticities : State → (d : List ℤ) → (answer d′ : List ℤ) → Example
   tends : State → (q dh du dv : List ℤ) → (answer dh′ du′ dv′ : List ℤ) → Example
+  rates : State → (q dh du dv : List ℤ) → (energy enstrophy : ℤ) → Example
   steps : State → (inflow work : List ℤ) → (answer h′ u′ v′ work′ : List ℤ) → Example
   runs : State → (inflow : List ℤ) (m : ℕ) (work : List ℤ) → (answer h′ u′ v′ work′ : List ℤ) → Example
   depth : State → (answer : List ℤ) → Example
@@ -58,6 +60,7 @@ holds (tends s q dh du dv a dh′ du′ dv′) =
     && leftBy t (filled (cells s) (hTendencies s) dh) dh is dh′
     && leftBy t (filled (cells s) (uTendencies s q) du) du is du′
     && leftBy t (filled (cells s) (vTendencies s q) dv) dv is dv′
+holds (rates s q dh du dv e z) = eqℤ (energyRate s dh du dv) e && eqℤ (enstrophyRate s dh du dv q) z
 holds (steps s inflow work a h u v work′) =
     toldStep (stepAnswer s inflow (length work)) is a
     && stateIs s (stepState s inflow (length work)) h u v
@@ -286,6 +289,7 @@ orders =
     ∷ steps (cell 0 (pos 1) (pos 10000) (pos 1000) (pos 1000) (pos 0) (pos 5000) (pos 5000)) none (sevens 8) (pos 6 ∷ pos 1 ∷ pos 2 ∷ pos 0 ∷ []) (just (pos 1000)) (just (pos 5000)) (just (pos 5000)) (zeros 8)
     ∷ steps (cell 0 (pos 1) (pos 10000) (pos 1000) (pos 1000) (pos 0) (pos 5000) (pos 0)) none (sevens 8) (pos 6 ∷ pos 1 ∷ pos 3 ∷ pos 0 ∷ []) (just (pos 1000)) (just (pos 5000)) none (zeros 8)
     -- 1 of a run before 2; 2 of the work space before 3; a run refused with 4
+    ∷ runs (faulty 1 (pos 1) (just (pos 1000)) [] none none) none 10001 (sevens 8) (just (pos 1)) (just (pos 1000)) none none (sevens 8)
     ∷ runs (one (pos 100000)) (just (pos 1)) 10001 (sevens 7) (just (pos 1)) (just (pos 100000)) (just (pos 100)) (just (minus 50)) (sevens 7)
     ∷ runs (one (pos 2000)) none 1 (sevens 7) (just (pos 2)) (just (pos 2000)) (just (pos 100)) (just (minus 50)) (sevens 7)
     ∷ steps (faulty 1 (pos 0) (just (pos 1000)) none none none) none (sevens 7) (just (pos 2)) (just (pos 1000)) none none (sevens 7)

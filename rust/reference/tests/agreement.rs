@@ -6,8 +6,8 @@ mod common;
 
 use common::{record_field, record_fields, record_of};
 use reference::{
-    potential_vorticity, run, step, step_program, tendencies, total_energy, FillAnswer, Parameters,
-    RunAnswer, State, StepAnswer, TotalAnswer,
+    energy_rate, enstrophy_rate, potential_vorticity, run, step, step_program, tendencies,
+    total_energy, FillAnswer, Parameters, RunAnswer, State, StepAnswer, TotalAnswer,
 };
 
 /// A list of numbers as antt writes it.
@@ -100,6 +100,30 @@ impl Nine {
         format!("energy {} {}", self.name, list(&[0, total]))
     }
 
+    /// The rates that any three lists give, here the inflow, the bottom and
+    /// the lent vorticity.
+    fn rates(&self) -> String {
+        let state = State {
+            parameters: self.p,
+            h: self.h.to_vec(),
+            b: self.b.to_vec(),
+            u: self.u.to_vec(),
+            v: self.v.to_vec(),
+        };
+        let energy = energy_rate(&state, &RAIN, &self.b, &LENT);
+        let enstrophy = enstrophy_rate(&self.p, &LENT, &RAIN, &self.b, &LENT);
+        let number = |x: i128| {
+            let sign = if x < 0 { "minus" } else { "pos" };
+            format!("({sign} {})", x.unsigned_abs())
+        };
+        format!(
+            "rates {0} lent rain ({0} .b) lent {1} {2}",
+            self.name,
+            number(energy),
+            number(enstrophy)
+        )
+    }
+
     fn steps(&self) -> String {
         let Nine {
             name,
@@ -161,6 +185,35 @@ fn steep() -> String {
     )
 }
 
+/// The same as a run.
+fn steep_run() -> String {
+    let p = Parameters {
+        w: 2,
+        n: 1,
+        kind: 0,
+        g: 9810,
+        c: 0,
+        r: 2000,
+    };
+    let (mut h, mut u, mut v) = ([1000, 2000], [0; 2], [0; 2]);
+    let answer = run(
+        &p,
+        &mut h,
+        &[0; 2],
+        &mut u,
+        &mut v,
+        &[0; 2],
+        3,
+        &mut [7; 16],
+    );
+    let told: Vec<i64> = answer.told().iter().map(|&x| x as i64).collect();
+    format!(
+        "runs (steep (pos 2000)) none2 3 (sevens 16) {} {} none2 none2 (zeros 16)",
+        list(&told),
+        list(&h)
+    )
+}
+
 /// What the step program prints for a grid that is too shallow everywhere.
 fn shallow(w: usize, n: usize) -> String {
     let parameters = Parameters {
@@ -205,35 +258,106 @@ fn lengthened(m: usize) -> String {
     format!("prints (lengthened {m}) {printed:?}")
 }
 
-#[test]
-fn the_model_is_held_to_these_numbers() {
-    let mut rows = Vec::new();
-    for kind in 0..3 {
-        let nine = Nine::new(kind);
-        rows.extend([
-            nine.vorticities(),
-            nine.tends(),
-            nine.energy(),
-            nine.steps(),
-        ]);
-    }
-    rows.push(Nine::new(2).runs(12));
-    rows.push(steep());
-    rows.extend([shallow(32, 32), shallow(41, 25)]);
-    rows.extend([lengthened(65_483), lengthened(65_484)]);
+/// The residuals of the paper's conditions (3.28) and (3.29), times 24, in
+/// its order; a letter's weights are `unit` times the number of the corner.
+fn conditions() -> Vec<i64> {
+    let [a, b, c, d, e, f] =
+        [1, 10, 100, 1_000, 10_000, 100_000].map(|unit| move |corner: i64| unit * corner);
+    vec![
+        // (3.28)
+        a(2) - d(3),
+        b(1) - c(4),
+        d(3) - c(4),
+        a(2) - b(1),
+        d(2) + f(2) - 3,
+        c(1) - f(1) - 3,
+        a(3) + f(3) - 3,
+        b(4) - f(4) - 3,
+        c(3) - e(3) - 3,
+        d(4) - e(4) - 3,
+        b(2) + e(2) - 3,
+        a(1) + e(1) - 3,
+        // (3.29a)
+        a(1) - d(4) + b(2) - c(3),
+        d(1) + f(1) + c(2) - f(2),
+        a(4) + f(4) + b(3) - f(3),
+        c(4) - e(4) - c(3),
+        d(4) - d(3) + e(3),
+        b(1) + e(1) - b(2),
+        a(1) - a(2) - e(2),
+        // (3.29b)
+        d(2) - d(3) - f(3),
+        c(1) - c(4) + f(4),
+        a(2) + f(2) - a(3),
+        b(1) - f(1) - b(4),
+        c(2) - e(2) + b(3) + e(3),
+        d(2) - c(1) + a(3) - b(4),
+        d(1) - e(1) + a(4) + e(4),
+        // (3.29c)
+        d(1) - c(3) + f(3),
+        a(1) + f(1) - b(3),
+        c(1) - e(1) - b(3),
+        d(1) - a(3) - e(3),
+        // (3.29d)
+        c(2) - d(4) - f(4),
+        b(2) - f(2) - a(4),
+        c(2) - b(4) - e(4),
+        d(2) - e(2) - a(4),
+    ]
+}
 
+fn table() -> String {
     let path = concat!(
         env!("CARGO_MANIFEST_DIR"),
         "/../../crates/agreement/specs/Agreement.antt"
     );
     let file = std::fs::read_to_string(path).expect("the agreement crate");
-    let words = |text: &str| text.split_whitespace().collect::<Vec<_>>().join(" ");
-    let table = words(file.split("agreed =").nth(1).expect("both tables"));
-    for row in &rows {
-        assert!(table.contains(&words(row)), "not in the table: {row}");
+    words(file.split("agreed =").nth(1).expect("the table"))
+}
+
+fn words(text: &str) -> String {
+    text.split_whitespace().collect::<Vec<_>>().join(" ")
+}
+
+#[test]
+fn the_conditions_are_the_papers() {
+    let numbers = list(&conditions());
+    let printed = numbers.trim_matches(|c| c == '(' || c == ')');
+    assert!(
+        table().contains(&format!("printed = {printed}")),
+        "{printed}"
+    );
+}
+
+#[test]
+fn the_model_is_held_to_these_numbers() {
+    let mut rows = Vec::new();
+    for kind in 0..3 {
+        let nine = Nine::new(kind);
+        rows.extend([nine.vorticities(), nine.tends(), nine.rates()]);
+        rows.extend([nine.energy(), nine.steps()]);
     }
+    rows.push(Nine::new(2).runs(12));
+    rows.extend([steep(), steep_run()]);
+    rows.extend([shallow(32, 32), shallow(41, 25)]);
+    rows.extend([lengthened(65_483), lengthened(65_484)]);
+
+    let table = table();
+    let missing: Vec<_> = rows
+        .iter()
+        .filter(|row| !table.contains(&words(row)))
+        .collect();
+    assert!(missing.is_empty(), "not in the table: {missing:#?}");
     // The table has no other rows.
-    let calls = ["vorticities", "tends", "energy", "steps", "runs", "prints"];
+    let calls = [
+        "vorticities",
+        "tends",
+        "rates",
+        "energy",
+        "steps",
+        "runs",
+        "prints",
+    ];
     let named = table.split(' ').filter(|word| calls.contains(word)).count();
     assert_eq!(named, rows.len());
 }
