@@ -163,8 +163,8 @@ impl Nine {
     }
 }
 
-/// `steep (pos 2000)`: a step that pass 2 stops.
-fn steep() -> String {
+/// `steep (pos 2000)`: a step that pass 2 stops, and a run.
+fn steep() -> [String; 2] {
     let p = Parameters {
         w: 2,
         n: 1,
@@ -174,44 +174,16 @@ fn steep() -> String {
         r: 2000,
     };
     let (mut h, mut u, mut v) = ([1000, 2000], [0; 2], [0; 2]);
-    let answer = step(&p, &mut h, &[0; 2], &mut u, &mut v, &[0; 2], &mut [7; 16]);
-    let told: Vec<i64> = answer.told().iter().map(|&x| x as i64).collect();
-    assert_eq!(told[..2], [6, 2]);
-    assert_eq!((h, u, v), ([1000, 2000], [0; 2], [0; 2]));
-    format!(
-        "steps (steep (pos 2000)) none2 (sevens 16) {} {} none2 none2 (zeros 16)",
-        list(&told),
-        list(&h)
-    )
-}
-
-/// The same as a run.
-fn steep_run() -> String {
-    let p = Parameters {
-        w: 2,
-        n: 1,
-        kind: 0,
-        g: 9810,
-        c: 0,
-        r: 2000,
-    };
-    let (mut h, mut u, mut v) = ([1000, 2000], [0; 2], [0; 2]);
-    let answer = run(
-        &p,
-        &mut h,
-        &[0; 2],
-        &mut u,
-        &mut v,
-        &[0; 2],
-        3,
-        &mut [7; 16],
-    );
-    let told: Vec<i64> = answer.told().iter().map(|&x| x as i64).collect();
-    format!(
-        "runs (steep (pos 2000)) none2 3 (sevens 16) {} {} none2 none2 (zeros 16)",
-        list(&told),
-        list(&h)
-    )
+    let still = [0; 2];
+    let stepped = step(&p, &mut h, &still, &mut u, &mut v, &still, &mut [7; 16]).told();
+    let ran = run(&p, &mut h, &still, &mut u, &mut v, &still, 3, &mut [7; 16]).told();
+    assert_eq!((h, u, v), ([1000, 2000], still, still));
+    [("steps", "", stepped), ("runs", "3 ", ran)].map(|(call, length, told)| {
+        assert_eq!(told[..2], [6, 2]);
+        let told: Vec<i64> = told.iter().map(|&x| x as i64).collect();
+        let (answer, depth) = (list(&told), list(&h));
+        format!("{call} (steep (pos 2000)) none2 {length}(sevens 16) {answer} {depth} none2 none2 (zeros 16)")
+    })
 }
 
 /// What the step program prints for a grid that is too shallow everywhere.
@@ -338,7 +310,7 @@ fn the_model_is_held_to_these_numbers() {
         rows.extend([nine.energy(), nine.steps()]);
     }
     rows.push(Nine::new(2).runs(12));
-    rows.extend([steep(), steep_run()]);
+    rows.extend(steep());
     rows.extend([shallow(32, 32), shallow(41, 25)]);
     rows.extend([lengthened(65_483), lengthened(65_484)]);
 
