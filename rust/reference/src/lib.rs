@@ -2,8 +2,9 @@
 //! specifies: the Arakawa-Lamb C-grid scheme in whole numbers, its two-pass
 //! time step, and the record a state is stored in.
 //!
-//! It was written from 01 alone and is meant to be compared, call by call,
-//! with another version of the same core. 01 decides every question.
+//! It was written from 01 and the open points decided in docs/DECISIONS.md,
+//! apart from the proved core and its model, and is meant to be compared with
+//! them call by call. 01 decides every question.
 //!
 //! The calls take the scalars of a state as [`Parameters`] and its fields as
 //! slices of `i64`. They take any numbers and any lengths and never panic:
