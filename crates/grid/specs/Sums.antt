@@ -1,12 +1,8 @@
 -- Sums of integers over a range and over a grid, and their invariance under a cyclic shift. Assumes nothing.
 use mathlib.Core.Path.{_≡_, refl, sym, _∙_, ap}
-use mathlib.Core.List.{List}
 use Prim.Native.Nat.{ℕ, zero, suc, _+_, _-_, _*_, _%_, _<_}
-use native.Mathlib.Nat.{mod-eq-of-lt, mod-self, mod-lt, mod-add-mod, add-mod-right, add-zero, add-suc, zero-add, zero-mul, suc-mul}
-use native.Mathlib.Numerals.{add-one}
+use native.Mathlib.Nat.{mod-eq-of-lt, mod-self, mod-lt, mod-add-mod, add-mod-right, add-zero, add-suc, zero-mul, suc-mul}
 use native.Mathlib.Omega.{arith}
-use lib.ListN.{getD}
-use lib.Arith.{digits-lt}
 use lib.IntN.{ℤ, pos, _+ℤ_, _*ℤ_, +ℤ-assoc, +ℤ-comm, +ℤ-idr, zero-*ℤ, *ℤ-comm}
 pub use Rattle.model.specs.Grid.{sumTo, sumGrid as grid, next as east, previous as west}
 use Rattle.integers.specs.Laws.{+-inner, distl}
@@ -31,11 +27,6 @@ unfolding sumTo
 sum-scale zero c f = sym (*ℤ-comm c (pos 0) ∙ zero-*ℤ c)
 sum-scale (suc n) c f = ap (λ x. x +ℤ c *ℤ f n) (sum-scale n c f) ∙ sym (distl c (sumTo n f) (f n))
 
--- one more, as a loop adds it
-pub sum-next : (n : ℕ) (f : ℕ → ℤ) → sumTo n f +ℤ f n ≡ sumTo (n + 1) f
-unfolding sumTo
-sum-next n f = rw add-one
-
 -- the first summand apart
 pub sum-head : (n : ℕ) (f : ℕ → ℤ) → sumTo (suc n) f ≡ f zero +ℤ sumTo n (λ i. f (suc i))
 unfolding sumTo
@@ -43,12 +34,6 @@ sum-head zero f = +ℤ-comm (pos 0) (f zero)
 sum-head (suc n) f = ap (λ x. x +ℤ f (suc n)) (sum-head n f) ∙ +ℤ-assoc (f zero) (sumTo n (λ i. f (suc i))) (f (suc n))
 
 -- ---- a cycle of w places
-
-pub west-east : (w i : ℕ) → i < w → west w (east w i) ≡ i
-west-east w i l = mod-add-mod (i + 1) w (w - 1) ∙ ap (λ x. x % w) (around w i l) ∙ add-mod-right i w ∙ mod-eq-of-lt l
-  where
-    around : (w i : ℕ) → i < w → i + 1 + (w - 1) ≡ i + w
-    around w i l = omega arith
 
 pub east-west : (w i : ℕ) → i < w → east w (west w i) ≡ i
 east-west w i l = mod-add-mod (i + (w - 1)) w 1 ∙ ap (λ x. x % w) (around w i l) ∙ add-mod-right i w ∙ mod-eq-of-lt l
@@ -69,9 +54,6 @@ shift-east (suc n) f =
 
     below : (n i : ℕ) → i < n → i + 1 < suc n
     below n i l = omega arith
-
-pub shift-west : (w : ℕ) (f : ℕ → ℤ) → sumTo w (λ i. f (west w i)) ≡ sumTo w f
-shift-west w f = sym (shift-east w (λ i. f (west w i))) ∙ sum-cong w (λ i l. ap f (west-east w i l))
 
 -- by any number of places
 pub shift : (w a : ℕ) (f : ℕ → ℤ) → sumTo w (λ i. f ((i + a) % w)) ≡ sumTo w f
@@ -104,7 +86,7 @@ module _ (w n : ℕ) where
   unfolding grid
   grid-shift a b f = sum-cong n (λ j m. shift w a (λ i. f i ((j + b) % n))) ∙ shift n b (λ j. sumTo w (λ i. f i j))
 
--- ---- a grid that is kept row by row in a list, and its neighbours as code finds them
+-- ---- a grid that is kept row by row in a list
 
 pub sum-append : (a b : ℕ) (f : ℕ → ℤ) → sumTo (a + b) f ≡ sumTo a f +ℤ sumTo b (λ i. f (a + i))
 unfolding sumTo
@@ -118,30 +100,6 @@ unfolding sumTo grid
 sum-rows w zero f = ap (λ x. sumTo x f) (zero-mul w)
 sum-rows w (suc n) f =
     ap (λ x. sumTo x f) (suc-mul n w) ∙ sum-append (n * w) w f ∙ ap (λ x. x +ℤ sumTo w (λ i. f (n * w + i))) (sum-rows w n f)
-
-abbrev pub onGrid : ℕ → List ℤ → ℕ → ℕ → ℤ
-onGrid w l i j = getD l (j * w + i) (pos 0)
-
-pub in-grid : {w n i j : ℕ} → i < w → j < n → j * w + i < n * w
-in-grid {w} {n} {i} {j} p q = digits-lt q p
-
-pub east-last : (w i : ℕ) → i + 1 ≡ w → east w i ≡ 0
-east-last w i e = ap (λ x. x % w) e ∙ mod-self w
-
-pub east-inner : (w i : ℕ) → i + 1 < w → east w i ≡ i + 1
-east-inner w i l = mod-eq-of-lt l
-
-pub west-first : (w : ℕ) → 0 < w → west w 0 ≡ w - 1
-west-first w l = mod-eq-of-lt (omega arith) ∙ zero-add (w - 1)
-
-pub west-inner : (w i : ℕ) → 0 < i → i < w → west w i ≡ i - 1
-west-inner w i k l = ap (λ x. x % w) (around w i k l) ∙ add-mod-right (i - 1) w ∙ mod-eq-of-lt (omega arith)
-  where
-    around : (w i : ℕ) → 0 < i → i < w → i + (w - 1) ≡ i - 1 + w
-    around w i k l = omega arith
-
-pub east-lt : (w i : ℕ) → 0 < w → east w i < w
-east-lt w i l = mod-lt (i + 1) l
 
 pub west-lt : (w i : ℕ) → 0 < w → west w i < w
 west-lt w i l = mod-lt (i + (w - 1)) l

@@ -233,10 +233,7 @@ module _ (ρ : ℕ → ℤ) where
   vanish e h = sym (terms-den e (and-l (pure e) (zeros (gather (terms e) leaf)) h)) ∙ sym (gather-den (terms e) leaf ∙ +ℤ-idr (dt (terms e)))
       ∙ zeros-den (gather (terms e) leaf) (and-r (pure e) (zeros (gather (terms e) leaf)) h)
 
--- an expression that vanishes at every valuation; two that agree at every valuation
-pub ring-zero : (e : Expr) → T (vanishes e) → (ρ : ℕ → ℤ) → den ρ e ≡ pos 0
-ring-zero e h ρ = vanish ρ e h
-
+-- two expressions that agree at every valuation
 pub ring-law : (a b : Expr) → T (vanishes (a ⊖ b)) → (ρ : ℕ → ℤ) → den ρ a ≡ den ρ b
 ring-law a b h ρ = eq-of-sub (den ρ a) (den ρ b) (vanish ρ (a ⊖ b) h)
 

@@ -82,11 +82,23 @@ module _ {R : Type 0} (𝓐 : Alg R) (U W B q : Near R) where
 
   infixl 60 _⊞_ _⊟_
   infixl 70 _⊠_
+  abbrev P : Near R
+  P = weigh 𝓐 q (pos 2) (pos 1) (pos 2) (pos 1)
+
+  abbrev M : Near R
+  M = weigh 𝓐 q (pos 1) (pos 2) (pos 1) (pos 2)
+
+  abbrev E : Near R
+  E = weigh 𝓐 q (pos 1) (pos 1) minus minus
+
+  abbrev F : Near R
+  F = weigh 𝓐 q minus (pos 1) (pos 1) minus
+
   abbrev tuq : Near R
-  tuq = tu 𝓐 U W B (weigh 𝓐 q (pos 2) (pos 1) (pos 2) (pos 1)) (weigh 𝓐 q (pos 1) (pos 2) (pos 1) (pos 2)) (weigh 𝓐 q (pos 1) (pos 1) minus minus) (weigh 𝓐 q minus (pos 1) (pos 1) minus)
+  tuq = tu 𝓐 U W B P M E F
 
   abbrev tvq : Near R
-  tvq = tv 𝓐 U W B (weigh 𝓐 q (pos 2) (pos 1) (pos 2) (pos 1)) (weigh 𝓐 q (pos 1) (pos 2) (pos 1) (pos 2)) (weigh 𝓐 q (pos 1) (pos 1) minus minus) (weigh 𝓐 q minus (pos 1) (pos 1) minus)
+  tvq = tv 𝓐 U W B P M E F
 
   -- the scaled rate of enstrophy at the cell's southwest corner
   abbrev spinning : R

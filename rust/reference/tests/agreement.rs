@@ -125,15 +125,16 @@ impl Nine {
     }
 
     fn steps(&self) -> String {
-        let Nine {
-            name,
-            p,
-            mut h,
-            b,
-            mut u,
-            mut v,
-        } = *self;
-        let answer = step(&p, &mut h, &b, &mut u, &mut v, &RAIN, &mut [7; 73]);
+        let (name, mut h, mut u, mut v) = (self.name, self.h, self.u, self.v);
+        let answer = step(
+            &self.p,
+            &mut h,
+            &self.b,
+            &mut u,
+            &mut v,
+            &RAIN,
+            &mut [7; 73],
+        );
         assert_eq!(answer, StepAnswer::Done);
         format!(
             "steps {name} rain (sevens 73) accepted {} {} {} (zeros 72 ++ sevens 1)",
@@ -144,15 +145,17 @@ impl Nine {
     }
 
     fn runs(&self, length: u64) -> String {
-        let Nine {
-            name,
-            p,
-            mut h,
-            b,
-            mut u,
-            mut v,
-        } = *self;
-        let answer = run(&p, &mut h, &b, &mut u, &mut v, &RAIN, length, &mut [7; 72]);
+        let (name, mut h, mut u, mut v) = (self.name, self.h, self.u, self.v);
+        let answer = run(
+            &self.p,
+            &mut h,
+            &self.b,
+            &mut u,
+            &mut v,
+            &RAIN,
+            length,
+            &mut [7; 72],
+        );
         assert_eq!(answer, RunAnswer::Finished { steps: length });
         format!(
             "runs {name} rain {length} (sevens 72) (pos 0 ∷ pos {length} ∷ []) {} {} {} (zeros 72)",
