@@ -1,2 +1,9 @@
+-- sums over the grid, the shift law, and polynomial sums over the torus by computation
 pub mod Sums
 pub mod Torus
+-- cells and neighbours; fields filled cell by cell; loops that write a list, and parts of a work space; loops that scan
+pub mod Cells
+pub mod Fields
+pub mod Parts
+pub mod Writing
+pub mod Scanning

@@ -1,1 +1,125 @@
-// Sums over the grid: the shift law, and sums over the torus by computation: specs/ alone, no function yet.
+// The grid as proved code: the boundary, neighbours, cells, and parts of a work space. In specs/ the shift law, sums over the
+// torus by computation, and the laws of loops that fill, scan, and write a part.
+ghost use mathlib.Core.Path.{_≡_};
+ghost use Prim.Native.Nat.{_+_, _*_, _<_, _≤_};
+ghost use lib.IntN.{pos};
+ghost use lib.ListN.{length, replicate};
+ghost use Rattle.model.specs.Grid;
+ghost use Rattle.model.specs.State;
+ghost use Rattle.model.specs.Grid.{at, filled};
+ghost use Rattle.model.specs.State.{boundaryOf, wallWest, wallSouth};
+ghost use Rattle.grid.specs.Cells.{Cell};
+ghost use Rattle.grid.specs.Parts.{part, replaced};
+use model::Boundary;
+use model::BoundaryByte;
+
+// The boundary that a byte stands for.
+pub fn boundary_of(kind: u8) -> BoundaryByte
+    ensures { λ r. ⌜ r ≡ boundaryOf kind ⌝ }
+{
+    match kind {
+        0 => BoundaryByte::Known(Boundary::Periodic),
+        1 => BoundaryByte::Known(Boundary::Channel),
+        2 => BoundaryByte::Known(Boundary::Basin),
+        _ => BoundaryByte::Unknown,
+    }
+}
+
+// Whether a byte stood for a boundary.
+pub fn known(e: BoundaryByte) -> bool
+    ensures { λ r. ⌜ r ≡ State.known e ⌝ }
+{
+    match e {
+        BoundaryByte::Known(_) => true,
+        BoundaryByte::Unknown => false,
+    }
+}
+
+// Whether the west edges of column i are closed.
+pub fn wall_west(e: BoundaryByte, i: usize) -> bool
+    ensures { λ r. ⌜ r ≡ wallWest e i ⌝ }
+{
+    match e {
+        BoundaryByte::Known(b) => match b {
+            Boundary::Periodic => false,
+            Boundary::Channel => false,
+            Boundary::Basin => i == 0,
+        },
+        BoundaryByte::Unknown => false,
+    }
+}
+
+// Whether the south edges of row j are closed.
+pub fn wall_south(e: BoundaryByte, j: usize) -> bool
+    ensures { λ r. ⌜ r ≡ wallSouth e j ⌝ }
+{
+    match e {
+        BoundaryByte::Known(b) => match b {
+            Boundary::Periodic => false,
+            Boundary::Channel => j == 0,
+            Boundary::Basin => j == 0,
+        },
+        BoundaryByte::Unknown => false,
+    }
+}
+
+// The next place on a side of w places, and the one before: both wrap, without a division.
+pub fn next(w: usize, i: usize) -> usize
+    requires { ⌜ i < w ⌝ }
+    ensures { λ r. ⌜ (r ≡ Grid.next w i) × (r < w) ⌝ }
+{
+    if i + 1 == w { 0 } else { i + 1 }
+}
+
+pub fn previous(w: usize, i: usize) -> usize
+    requires { ⌜ i < w ⌝ }
+    ensures { λ r. ⌜ (r ≡ Grid.previous w i) × (r < w) ⌝ }
+{
+    if i == 0 { w - 1 } else { i - 1 }
+}
+
+// The index of cell (i, j).
+pub fn cell_index(w: usize, n: usize, i: usize, j: usize) -> usize
+    requires { ⌜ Cell w n i j ⌝ }
+    ensures { λ r. ⌜ (r ≡ j * w + i) × (r < w * n) ⌝ }
+{
+    j * w + i
+}
+
+// What a field has at cell (i, j).
+pub fn value_at(w: usize, n: usize, f: &[i64], i: usize, j: usize) -> i64
+    requires { ⌜ Cell w n i j × (length (now f) ≡ w * n) ⌝ }
+    ensures { λ r. ⌜ r ≡ at w (now (f .entry)) i j ⌝ }
+{
+    let k = cell_index(w, n, i, j);
+    f[k]
+}
+
+// The m numbers of a work space from place a on.
+pub fn part_of(work: &[i64], a: usize, m: usize) -> &[i64]
+    requires { ⌜ a + m ≤ length (now work) ⌝ }
+    ensures { λ r. ⌜ now r ≡ part a m (now (work .entry)) ⌝ }
+{
+    let end = a + m;
+    &work[a..end]
+}
+
+// Puts the numbers of src into a work space from place a on.
+pub fn copy_into(work: &mut [i64], a: usize, src: &[i64])
+    requires { ⌜ a + length (now src) ≤ length (now work) ⌝ }
+    ensures { λ _. ⌜ now (work .exit) ≡ replaced a (now (src .entry)) (now (work .entry)) ⌝ }
+{
+    for k in 0..src.len() {
+        work[a + k] = src[k];
+    }
+}
+
+// Makes the first m numbers of a work space zero.
+pub fn clear(work: &mut [i64], m: usize)
+    requires { ⌜ m ≤ length (now work) ⌝ }
+    ensures { λ _. ⌜ now (work .exit) ≡ filled m (replicate m (pos 0)) (now (work .entry)) ⌝ }
+{
+    for k in 0..m {
+        work[k] = 0;
+    }
+}

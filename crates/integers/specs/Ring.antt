@@ -3,23 +3,22 @@
 use mathlib.Core.Path.{_≡_, refl, sym, _∙_, ap, ap₂}
 use mathlib.Core.Bool.{Bool, true, false}
 use mathlib.Core.List.{List, [], _∷_}
-use Prim.Native.Nat.{ℕ, zero, suc, _^_, compare, Ordering, Ordering·lt, Ordering·eq, Ordering·gt}
+use Prim.Native.Nat.{ℕ, zero, suc, compare, Ordering, Ordering·lt, Ordering·eq, Ordering·gt}
 use lib.Dec.{T, leb, isEq, eqb→eq}
-use lib.Signed.{quotZ, shrZ}
+use lib.Signed.{quotZ}
 use lib.IntN.{ℤ, pos, negsuc, negℤ, _+ℤ_, _-ℤ_, _*ℤ_, +ℤ-assoc, +ℤ-idl, +ℤ-idr, zero-*ℤ, *ℤ-comm, negℤ-+ℤ}
 use Rattle.integers.specs.Laws.{+-lswap, distr, distl, neg-mul, eq-of-sub, *-assoc, one-*, *-swap, *-inner}
 
 infixl 60 _⊕_ _⊖_
-infixl 70 _⊗_
+infixl 70 _⊗_ _⊘_
 pub data Expr : Type 0 where
   var : ℕ → Expr
   con : ℤ → Expr
   _⊕_ : Expr → Expr → Expr
   _⊖_ : Expr → Expr → Expr
   _⊗_ : Expr → Expr → Expr
-  -- divided by the number, toward zero; by that power of two, down. No polynomial: see `pure`
-  quo : Expr → ℕ → Expr
-  shr : Expr → ℕ → Expr
+  -- a quotient, toward zero: no polynomial (see `pure`), but code has it, and Bounds.antt bounds it
+  _⊘_ : Expr → Expr → Expr
 
 abbrev pub den : (ℕ → ℤ) → Expr → ℤ
 den ρ (var n) = ρ n
@@ -27,8 +26,7 @@ den ρ (con z) = z
 den ρ (a ⊕ b) = den ρ a +ℤ den ρ b
 den ρ (a ⊖ b) = den ρ a -ℤ den ρ b
 den ρ (a ⊗ b) = den ρ a *ℤ den ρ b
-den ρ (quo a d) = quotZ (den ρ a) (pos d)
-den ρ (shr a d) = shrZ (den ρ a) (2 ^ d)
+den ρ (a ⊘ b) = quotZ (den ρ a) (den ρ b)
 
 infixr 30 _and_
 abbrev pub _and_ : Bool → Bool → Bool
@@ -41,8 +39,7 @@ pure (con z) = true
 pure (a ⊕ b) = pure a and pure b
 pure (a ⊖ b) = pure a and pure b
 pure (a ⊗ b) = pure a and pure b
-pure (quo a d) = false
-pure (shr a d) = false
+pure (a ⊘ b) = false
 
 -- ---- monomials: sorted lists of variables
 
@@ -92,8 +89,7 @@ terms (con z) = term z [] none
 terms (a ⊕ b) = tadd (terms a) (terms b)
 terms (a ⊖ b) = tadd (terms a) (tneg (terms b))
 terms (a ⊗ b) = tmul (terms a) (terms b)
-terms (quo a d) = none
-terms (shr a d) = none
+terms (a ⊘ b) = none
 
 -- ---- a search tree of coefficients
 
@@ -200,8 +196,7 @@ module _ (ρ : ℕ → ℤ) where
   terms-den (a ⊕ b) h = tadd-den (terms a) (terms b) ∙ ap₂ _+ℤ_ (terms-den a (and-l (pure a) (pure b) h)) (terms-den b (and-r (pure a) (pure b) h))
   terms-den (a ⊖ b) h = tadd-den (terms a) (tneg (terms b)) ∙ ap₂ _+ℤ_ (terms-den a (and-l (pure a) (pure b) h)) (tneg-den (terms b) ∙ ap negℤ (terms-den b (and-r (pure a) (pure b) h)))
   terms-den (a ⊗ b) h = tmul-den (terms a) (terms b) ∙ ap₂ _*ℤ_ (terms-den a (and-l (pure a) (pure b) h)) (terms-den b (and-r (pure a) (pure b) h))
-  terms-den (quo a d) h = absurd h
-  terms-den (shr a d) h = absurd h
+  terms-den (a ⊘ b) h = absurd h
 
   put-den : (m : Mono) (c : ℤ) (t : Tree) → dr (put m c t) ≡ c *ℤ dm m +ℤ dr t
   put-den m c leaf = +ℤ-idr (c *ℤ dm m +ℤ pos 0)

@@ -7,6 +7,7 @@ use Rattle.model.specs.declared.Field.{Field}
 use Rattle.model.specs.declared.Field.the-variants.{Depth, Bottom, VelocityU, VelocityV, Vorticity, Inflow}
 use Rattle.model.specs.declared.Refusal.{Refusal}
 use Rattle.model.specs.declared.Refusal.the-variants.{Grid, Lengths, Constants, Value, ClosedEdge, Record, Destination}
+use Rattle.model.specs.declared.TestAnswer.{TestAnswer}
 use Rattle.model.specs.declared.FillAnswer.{FillAnswer}
 use Rattle.model.specs.declared.StepAnswer.{StepAnswer}
 use Rattle.model.specs.declared.RunAnswer.{RunAnswer}
@@ -14,6 +15,7 @@ use Rattle.model.specs.declared.TotalAnswer.{TotalAnswer}
 use Rattle.model.specs.declared.WriteAnswer.{WriteAnswer}
 use Rattle.model.specs.declared.ReadAnswer.{ReadAnswer}
 use Rattle.model.specs.declared.CompareAnswer.{CompareAnswer}
+use Rattle.model.specs.declared.TestAnswer.the-variants as Q
 use Rattle.model.specs.declared.FillAnswer.the-variants as F
 use Rattle.model.specs.declared.StepAnswer.the-variants as S
 use Rattle.model.specs.declared.RunAnswer.the-variants as R
@@ -56,6 +58,14 @@ whole l = map pos l
 
 abbrev pub told : Refusal → List ℤ
 told r = whole (number r ∷ values r)
+
+-- of the tests by themselves; as naturals, which is what a caller of the C interface reads
+abbrev pub testNumbers : TestAnswer → List ℕ
+testNumbers Q.Passed = 0 ∷ []
+testNumbers (Q.Refused r) = number r ∷ values r
+
+abbrev pub toldTest : TestAnswer → List ℤ
+toldTest a = whole (testNumbers a)
 
 abbrev pub toldFill : FillAnswer → List ℤ
 toldFill F.Done = whole (0 ∷ [])

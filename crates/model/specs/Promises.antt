@@ -9,13 +9,16 @@ use lib.IntN.{ℤ}
 use lib.ListN.{length}
 use Rattle.model.specs.Grid.{filled}
 use Rattle.model.specs.State.{State, parametersOf, cells}
-use Rattle.model.specs.Answers.{toldFill, toldStep, toldRun, toldTotal, toldWrite, toldRead, toldCompare}
+use Rattle.model.specs.Answers.{toldTest, toldFill, toldStep, toldRun, toldTotal, toldWrite, toldRead, toldCompare}
 use Rattle.model.specs.Refusals.{vorticityTaken, callTest, stateTest}
 use Rattle.model.specs.Scheme.{vorticity, hTendencies, uTendencies, vTendencies}
 use Rattle.model.specs.Totals.{totalDepth, energy4}
 use Rattle.model.specs.Step.{stepTest, stepAnswer, stepState, runTest, runOf, workLeft}
 use Rattle.model.specs.Record.{Timestamp, Decoded, accepted, refused, decode, encode, recordLength, compareAnswer}
 use Rattle.model.specs.declared.Refusal.{Refusal}
+use Rattle.model.specs.declared.Beside.{Beside}
+use Rattle.model.specs.declared.Beside.the-variants.{Nothing, Vorticity, Inflow, Run}
+use Rattle.model.specs.declared.TestAnswer.{TestAnswer}
 use Rattle.model.specs.declared.FillAnswer.{FillAnswer}
 use Rattle.model.specs.declared.StepAnswer.{StepAnswer}
 use Rattle.model.specs.declared.RunAnswer.{RunAnswer}
@@ -23,6 +26,7 @@ use Rattle.model.specs.declared.TotalAnswer.{TotalAnswer}
 use Rattle.model.specs.declared.WriteAnswer.{WriteAnswer}
 use Rattle.model.specs.declared.ReadAnswer.{ReadAnswer}
 use Rattle.model.specs.declared.CompareAnswer.{CompareAnswer}
+use Rattle.model.specs.declared.TestAnswer.the-variants as Q
 use Rattle.model.specs.declared.FillAnswer.the-variants as F
 use Rattle.model.specs.declared.TotalAnswer.the-variants as T
 use Rattle.model.specs.declared.WriteAnswer.the-variants as W
@@ -32,6 +36,24 @@ use Rattle.model.specs.declared.ReadAnswer.the-variants as R
 abbrev pub leftBy : {A : Type 0} → Option Refusal → List A → List A → List A
 leftBy none new old = new
 leftBy (some r) new old = old
+
+-- ---- the tests by themselves, of a state and what a call takes beside it (x is its q or inflow): 1 to 5
+
+-- the test of each call, by what it takes
+abbrev pub testOf : State → Beside → List ℤ → Option Refusal
+testOf s Nothing x = stateTest s [] none none
+testOf s Vorticity x = stateTest s (vorticityTaken s x) none none
+testOf s (Inflow m) x = stepTest s x m
+testOf s (Run k m) x = runTest s x k m
+
+abbrev pub testAnswer : Option Refusal → TestAnswer
+testAnswer none = Q.Passed
+testAnswer (some r) = Q.Refused r
+
+-- It rules out, for instance: 4 told before 3; the last bad cell instead of the first.
+pub record TestPromise (s : State) (beside : Beside) (x : List ℤ) (answer : TestAnswer) : Type 0 where
+  pub answers : answer ≡ testAnswer (testOf s beside x)
+  pub tells : toldTest answer ≡ toldTest (testAnswer (testOf s beside x))
 
 -- ---- potential vorticity, into d: 1, 2, 3, 4, 5, 8
 

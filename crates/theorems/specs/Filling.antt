@@ -16,7 +16,7 @@ use Rattle.model.specs.declared.Refusal.{Refusal}
 use Rattle.model.specs.declared.FillAnswer.the-variants as F
 use Rattle.theorems.specs.Tests.{differ}
 use Rattle.theorems.specs.Limits.{accepted}
-use Rattle.theorems.specs.Fields.{length-byCell, at-byCell, at-filled, take-filled, drop-filled}
+use Rattle.grid.specs.Fields.{length-byCell, at-byCell, at-filled, take-filled, drop-filled}
 
 -- ---- accepted is tested and passed
 

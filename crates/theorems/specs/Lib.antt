@@ -7,9 +7,7 @@ pub mod Limits
 pub mod Fixed
 pub mod Refused
 -- what the calls fill in
-pub mod Fields
 pub mod Filling
-pub mod Rounding
 pub mod Vorticity
 -- what is kept
 pub mod Conservation

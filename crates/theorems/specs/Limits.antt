@@ -24,7 +24,7 @@ pub record Known (s : State) : Type 0 where
   pub rows : Side (s .n)
   pub boundary : T (known (boundaryOf (s .kind)))
 
-known-iff : (s : State) → T (gridKnown s) ↔ Known s
+pub known-iff : (s : State) → T (gridKnown s) ↔ Known s
 unfolding gridKnown
 known-iff s =
     let a = leb 1 (s .w) in

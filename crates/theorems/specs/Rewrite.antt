@@ -23,7 +23,7 @@ use Rattle.model.specs.declared.ReadAnswer.the-variants.{Read, Refused}
 use Rattle.model.specs.declared.WriteAnswer.the-variants.{Written}
 use Rattle.theorems.specs.Tests.{and-iff, eq-iff, then-iff, must-iff, same-by, differ}
 use Rattle.theorems.specs.Limits.{within-of, room-iff}
-use Rattle.theorems.specs.Fields.{length-tabulate}
+use Rattle.grid.specs.Fields.{length-tabulate}
 use Rattle.theorems.specs.Bytes.{AllBytes, back-bytes, put-numbers}
 use Rattle.theorems.specs.Walks.{AllRead, unwalk}
 use Rattle.theorems.specs.RoundTrip.{length-encode, written, read-part}

@@ -24,7 +24,7 @@ use Rattle.model.specs.declared.WriteAnswer.{WriteAnswer}
 use Rattle.model.specs.declared.Refusal.the-variants.{Lengths}
 use Rattle.theorems.specs.Tests.{then-iff}
 use Rattle.theorems.specs.Limits.{accepted as accepts, room-iff, grid-passes, content-passes}
-use Rattle.theorems.specs.Fields.{take-filled}
+use Rattle.grid.specs.Fields.{take-filled}
 use Rattle.theorems.specs.Bytes.{EachFits, there-back, get-put, numbers-put, length-each}
 use Rattle.theorems.specs.Walks.{AllFine, walks}
 

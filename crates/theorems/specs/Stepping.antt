@@ -16,9 +16,9 @@ use Rattle.model.specs.Scheme.{vorticity, Tu, Tv, tendencyU, tendencyV}
 use Rattle.model.specs.Step.{X, Y, newDepth, newU, newV, pass, leaves, Outcome, moved, stuck, passed, second, twoPass}
 use Rattle.model.specs.Claims.{Given, PassClaim, StepClaim}
 use Rattle.theorems.specs.Tests.{and-iff, eq-iff, each-iff, differ}
-use Rattle.theorems.specs.Fields.{length-byCell, at-byCell}
+use Rattle.grid.specs.Fields.{length-byCell, at-byCell}
 use Rattle.theorems.specs.Filling.{tendencies-fill, vorticity-fill}
-use Rattle.theorems.specs.Rounding.{rnd-zero}
+use Rattle.integers.specs.Rounding.{rnd-zero}
 use Rattle.theorems.specs.Depth.{depth-sum}
 
 -- ---- a pass, by the public calls

@@ -4,7 +4,7 @@ use Rattle.theorems.specs.Limits.{limits-tested, accepted}
 use Rattle.theorems.specs.Scans.{scan}
 use Rattle.theorems.specs.Fixed.{met, fixed}
 use Rattle.theorems.specs.Refused.{refused-leaves, work-left}
-use Rattle.theorems.specs.Rounding.{rounding}
+use Rattle.integers.specs.Rounding.{rounding}
 use Rattle.theorems.specs.Vorticity.{within-limit, vorticity-within}
 use Rattle.theorems.specs.Filling.{tendencies-accepted, tendencies-fill}
 use Rattle.theorems.specs.Stepping.{pass-given, step-within}

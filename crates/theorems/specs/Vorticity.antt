@@ -13,8 +13,9 @@ use Rattle.model.specs.Scheme.{toWest, toSouth, Z, H, vorticityAt, vorticity}
 use Rattle.model.specs.Claims.{OwnVorticityClaim, VorticityClaim}
 use Rattle.integers.specs.Laws.{abs-neg, abs-add, abs-mul}
 use Rattle.grid.specs.Sums.{west-lt}
-use Rattle.theorems.specs.Fields.{cell-lt, length-byCell, getD-byCell}
-use Rattle.theorems.specs.Rounding.{rnd-size}
+use Rattle.grid.specs.Cells.{cell-lt}
+use Rattle.grid.specs.Fields.{length-byCell, getD-byCell}
+use Rattle.integers.specs.Rounding.{rnd-size}
 use Rattle.theorems.specs.Filling.{vorticity-fill}
 
 -- ---- sizes, from -k to k

@@ -1,13 +1,10 @@
 //! The two-pass time step, runs of it, and the totals.
 
-use crate::refusal::{Field, Refusal, RunAnswer, StepAnswer, TotalAnswer};
+use crate::refusal::{Field, RunAnswer, StepAnswer, TotalAnswer};
 use crate::scheme::{
     fill_bernoulli, fill_fluxes, fill_vorticity, momentum_tendencies, round_div, TENDENCY_SCALE,
 };
-use crate::state::{
-    first_outside, test_grid, test_lengths, test_state, test_values, Fields, Grid, Parameters,
-    MAX_STEPS, WORK_PER_CELL,
-};
+use crate::state::{first_outside, test_room, test_state, test_values, Fields, Grid, Parameters};
 
 /// Where a pass left a bound: the values of refusal 6.
 struct OutOfBounds {
@@ -47,10 +44,11 @@ pub fn run(
     steps: u64,
     work: &mut [i64],
 ) -> RunAnswer {
-    let (grid, work) = match test_room(p, Fields { h, b, u, v }, inflow, steps, work) {
-        Ok(room) => room,
+    let grid = match test_room(p, Fields { h, b, u, v }, inflow, steps, work.len()) {
+        Ok(grid) => grid,
         Err(refusal) => return RunAnswer::Refused(refusal),
     };
+    let work = &mut work[..grid.work()];
     // From here on the work space is left clear, whatever the answer.
     let extra = Some((Field::Inflow, inflow));
     let answer = match test_values(p, grid, Fields { h, b, u, v }, extra) {
@@ -62,24 +60,6 @@ pub fn run(
     };
     work.fill(0);
     answer
-}
-
-/// Tests 1 and 2. Gives the grid and the part of the work space that is used.
-fn test_room<'a>(
-    p: &Parameters,
-    fields: Fields,
-    inflow: &[i64],
-    steps: u64,
-    work: &'a mut [i64],
-) -> Result<(Grid, &'a mut [i64]), Refusal> {
-    let grid = test_grid(p)?;
-    if steps > MAX_STEPS {
-        return Err(Refusal::Grid);
-    }
-    test_lengths(grid, fields, Some((Field::Inflow, inflow)))?;
-    let used = WORK_PER_CELL * grid.cells();
-    let work = work.get_mut(..used).ok_or(Refusal::Lengths)?;
-    Ok((grid, work))
 }
 
 fn advance(

@@ -2,12 +2,12 @@
 use mathlib.Core.Path.{_≡_, refl, ap, _∙_}
 use mathlib.Core.List.{List}
 use Prim.Native.Nat.{ℕ, zero, suc, _*_, _/_, _%_, _+_, _<_}
-use native.Mathlib.Nat.{not-suc-le-zero, le-of-suc-le-suc, mul-comm}
-use lib.Arith.{digits-lt, digits-div, digits-mod}
+use native.Mathlib.Nat.{not-suc-le-zero, le-of-suc-le-suc}
 use lib.IntN.{ℤ, pos}
 use lib.ListN.{length, getD, take, drop, List·getD-append}
 use lib.Seq.{take-at, drop-at}
 use Rattle.model.specs.Grid.{tabulate, byCell, filled, at}
+use Rattle.grid.specs.Cells.{cell-lt, by-index}
 
 module _ {A : Type 0} where
   pub length-tabulate : (m : ℕ) (f : ℕ → A) → length (tabulate m f) ≡ m
@@ -30,16 +30,13 @@ pub length-byCell : (w n : ℕ) (f : ℕ → ℕ → ℤ) → length (byCell w n
 unfolding byCell
 length-byCell w n f = length-tabulate (w * n) (λ k. f (k % w) (k / w))
 
-pub cell-lt : {w n i j : ℕ} → i < w → j < n → j * w + i < w * n
-cell-lt {w} {n} p q = rw (mul-comm w n) (digits-lt q p)
-
 pub getD-byCell : (w n : ℕ) (f : ℕ → ℕ → ℤ) (k : ℕ) → k < w * n → getD (byCell w n f) k (pos 0) ≡ f (k % w) (k / w)
 unfolding byCell
 getD-byCell w n f k l = getD-tabulate (w * n) (λ k. f (k % w) (k / w)) k (pos 0) l
 
 pub at-byCell : (w n : ℕ) (f : ℕ → ℕ → ℤ) (i j : ℕ) → i < w → j < n → at w (byCell w n f) i j ≡ f i j
 at-byCell w n f i j p q =
-    getD-byCell w n f (j * w + i) (cell-lt p q) ∙ ap (λ x. f x ((j * w + i) / w)) (digits-mod j p) ∙ ap (λ y. f i y) (digits-div j p)
+    getD-byCell w n f (j * w + i) (cell-lt p q) ∙ by-index f j p
 
 -- the first places of a list are what stands there in a longer one
 pub at-filled : (w n : ℕ) (l d : List ℤ) (i j : ℕ) → length l ≡ w * n → i < w → j < n → at w (filled (w * n) l d) i j ≡ at w l i j

@@ -1,0 +1,39 @@
+-- What the C functions return, and what they leave in a lent slice. `sets d 0 l` is d with the elements of l in its first places, as
+-- far as there is room.
+use mathlib.Core.Path.{_≡_}
+use mathlib.Core.Bool.{Bool, cond, _&&_}
+use mathlib.Core.List.{List, [], _∷_}
+use Prim.Native.Nat.{ℕ, _^_}
+use lib.Dec.{leb}
+use lib.IntN.{ℤ, pos, negℤ}
+use lib.ListN.{length, getD}
+use lib.Seq.{sets}
+use Rattle.model.specs.Numbers.{_to_, within, rnd}
+use Rattle.model.specs.State.{State, stateOf}
+use Rattle.model.specs.Answers.{testNumbers}
+use Rattle.model.specs.Promises.{testOf, testAnswer}
+use Rattle.model.specs.declared.Beside.{Beside}
+use Rattle.integers.specs.Rounding.{mostDividend, mostDivisor}
+
+-- a list of numbers is told: its first is returned, and all of them are in the answer
+pub record Told (numbers entry : List ℕ) (r : ℕ) (exit : List ℕ) : Type 0 where
+  pub returns : r ≡ getD numbers 0 0
+  pub holds : exit ≡ sets entry 0 numbers
+
+-- 01's state, from the numbers and slices that a C function takes
+abbrev pub stateIn : (w n kind : ℕ) (g c r : ℤ) (h b u v : List ℤ) → State
+stateIn w n kind g c r h b u v = stateOf (record { w = w; n = n; kind = kind; g = g; c = c; r = r }) h b u v
+
+-- the tests by themselves: 01's number, and then the values returned with it
+abbrev pub TestTold : State → Beside → List ℤ → List ℕ → ℕ → List ℕ → Type 0
+TestTold s beside x entry r exit = Told (testNumbers (testAnswer (testOf s beside x))) entry r exit
+
+-- ---- rnd
+
+abbrev pub roundable : ℤ → ℤ → Bool
+roundable a b = within (negℤ (pos mostDividend) to pos mostDividend) a && within (pos 1 to pos mostDivisor) b
+
+-- a quotient within rnd's range, and room for the result: 1, and the result in the first place; else 0, and all as it was
+pub record Rounded (a b : ℤ) (entry : List ℤ) (r : ℕ) (exit : List ℤ) : Type 0 where
+  pub returns : r ≡ cond (roundable a b && leb 1 (length entry)) 1 0
+  pub holds : exit ≡ cond (roundable a b && leb 1 (length entry)) (sets entry 0 (rnd a b ∷ [])) entry

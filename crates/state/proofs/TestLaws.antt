@@ -1,0 +1,202 @@
+-- Laws of tests in order, between the answers of the code and the model's tests. Assumes nothing.
+use mathlib.Core.Path.{_≡_, refl, sym, ap, _∙_}
+use mathlib.Core.Bool.{Bool, true, false, _&&_}
+use mathlib.Core.List.{List, [], _∷_, _++_}
+use mathlib.Core.Option.{Option, none, some}
+use Prim.Native.Nat.{ℕ, _*_}
+use lib.Dec.{T, eqb}
+use lib.IntN.{ℤ}
+use lib.ListN.{length}
+use Rattle.model.specs.Numbers.{all}
+use Rattle.model.specs.Grid.{firstFrom}
+use Rattle.model.specs.State.{State, stateOf, cells, boundaryOf, closedWest, closedSouth}
+use Rattle.model.specs.Refusals.{_then_, must, Place, placed, refusedAt, Taken, outside, firstOutside, depthOf, bottomOf, uOf, vOf, fieldsOf, long, gridKnown, gridTest, runLengthTest, lengthTest, workTest, constantsWithin, constantsTest, valueTest, edgeTest, contentTest, stateTest}
+use Rattle.model.specs.Answers.{toldTest}
+use Rattle.model.specs.Step.{stepTest, runTest}
+use Rattle.model.specs.Promises.{testOf, testAnswer, TestPromise}
+use Rattle.model.specs.declared.Parameters.{Parameters}
+use Rattle.model.specs.declared.BoundaryByte.{BoundaryByte}
+use Rattle.model.specs.declared.Field.{Field}
+use Rattle.model.specs.declared.Field.the-variants.{VelocityU, VelocityV}
+use Rattle.model.specs.declared.Refusal.{Refusal}
+use Rattle.model.specs.declared.Refusal.the-variants.{Grid, Lengths, Constants, Value, ClosedEdge}
+use Rattle.model.specs.declared.Beside.{Beside}
+use Rattle.model.specs.declared.Beside.the-variants.{Nothing, Vorticity, Inflow, Run}
+use Rattle.model.specs.declared.TestAnswer.{TestAnswer}
+use Rattle.model.specs.declared.TestAnswer.the-variants.{Passed, Refused}
+use Rattle.theorems.specs.Tests.{and-iff, eq-iff, differ}
+use Rattle.state.specs.declared.Found.the-variants.{At, Nowhere}
+use Rattle.state.specs.declared.Trial.{Trial}
+use Rattle.state.specs.declared.Trial.the-variants.{West, South}
+use Rattle.state.specs.Trials.{foundBy, foundIn, cellTest, badIn, refusalBy}
+use Rattle.state.specs.Beside.{besideTaken, runShort, workEnough}
+
+-- ---- truth
+
+pub and-true : (b : Bool) → b && true ≡ b
+and-true true = refl
+and-true false = refl
+
+-- `r && x` as code makes it, where r tells a: x's value where r holds, else r's own
+pub and-holds : {r a x b : Bool} → r ≡ a → r ≡ true → x ≡ b → x ≡ (a && b)
+and-holds {b = b} e t h = h ∙ ap (λ a. a && b) (sym t ∙ e)
+
+pub and-fails : {r a : Bool} (b : Bool) → r ≡ a → r ≡ false → r ≡ (a && b)
+and-fails b e f = f ∙ ap (λ a. a && b) (sym f ∙ e)
+
+-- ---- one test after another
+
+found-answer : (o : Option Refusal) → foundIn (testAnswer o) ≡ o
+found-answer none = refl
+found-answer (some r) = refl
+
+pub answer-found : (a : TestAnswer) → a ≡ testAnswer (foundIn a then none)
+answer-found Passed = refl
+answer-found (Refused r) = refl
+
+-- a test after an answer that found nothing
+pub passed-then : {a : TestAnswer} (p : Option Refusal) → a ≡ Passed → testAnswer p ≡ testAnswer (foundIn a then p)
+passed-then p e = sym (ap (λ a. testAnswer (foundIn a then p)) e)
+
+-- a test p after an answer that stands for o
+pub after : {a r : TestAnswer} (o p : Option Refusal) → a ≡ testAnswer o → r ≡ testAnswer (foundIn a then p) → r ≡ testAnswer (o then p)
+after o p e f = f ∙ ap (λ a. testAnswer (foundIn a then p)) e ∙ ap (λ q. testAnswer (q then p)) (found-answer o)
+
+pub then-assoc : (a b c : Option Refusal) → (a then b) then c ≡ a then (b then c)
+then-assoc none b c = refl
+then-assoc (some r) b c = refl
+
+-- ---- cells
+
+placed-some : (r : Field → ℕ → Refusal) (f : Field) (o : Option ℕ) (k : ℕ) → foundBy o ≡ At k → refusedAt r (placed f o none) ≡ some (r f k)
+placed-some r f none k e = differ (cc e)
+placed-some r f (some x) k e = let h : x ≡ k = cc e in ap (λ k. some (r f k)) h
+
+placed-none : (r : Field → ℕ → Refusal) (f : Field) (o : Option ℕ) → foundBy o ≡ Nowhere → refusedAt r (placed f o none) ≡ none
+placed-none r f none e = refl
+placed-none r f (some x) e = differ (cc e)
+
+module _ (w n : ℕ) (f : List ℤ) (field : Field) (t : Trial) where
+  pub cell-found : (k : ℕ) → foundBy (firstFrom (badIn t w f) (w * n) 0) ≡ At k → cellTest w n f field t ≡ some (refusalBy t field k)
+  unfolding cellTest
+  cell-found k e = placed-some (refusalBy t) field (firstFrom (badIn t w f) (w * n) 0) k e
+
+  pub cell-clean : foundBy (firstFrom (badIn t w f) (w * n) 0) ≡ Nowhere → cellTest w n f field t ≡ none
+  unfolding cellTest
+  cell-clean e = placed-none (refusalBy t) field (firstFrom (badIn t w f) (w * n) 0) e
+
+-- a place found first, or else later
+placed-then : (r : Field → ℕ → Refusal) (f : Field) (o : Option ℕ) (later : Option Place) → refusedAt r (placed f o later) ≡ refusedAt r (placed f o none) then refusedAt r later
+placed-then r f none later = refl
+placed-then r f (some k) later = refl
+
+value-append : (a b : List Taken) → valueTest (a ++ b) ≡ valueTest a then valueTest b
+unfolding valueTest
+value-append [] b = refl
+value-append (x ∷ a) b =
+    let o = firstFrom (outside x) (x .count) 0 in
+    placed-then Value (x .field) o (firstOutside (a ++ b))
+    ∙ ap (λ q. refusedAt Value (placed (x .field) o none) then q) (value-append a b)
+    ∙ sym (then-assoc (refusedAt Value (placed (x .field) o none)) (valueTest a) (valueTest b))
+    ∙ ap (λ q. q then valueTest b) (sym (placed-then Value (x .field) o (firstOutside a)))
+
+-- the values of further fields
+pub values-after : {a r : TestAnswer} (l m : List Taken) → a ≡ testAnswer (valueTest l) → r ≡ testAnswer (foundIn a then valueTest m) → r ≡ testAnswer (valueTest (l ++ m))
+values-after l m e f = after (valueTest l) (valueTest m) e f ∙ ap testAnswer (sym (value-append l m))
+
+-- u's edges, then v's
+pub edges-are : (p : Parameters) (h b u v : List ℤ) (e : BoundaryByte) → e ≡ boundaryOf (p .kind)
+    → cellTest (p .w) (p .n) u VelocityU (West e) then cellTest (p .w) (p .n) v VelocityV (South e) ≡ edgeTest (stateOf p h b u v)
+unfolding edgeTest cellTest closedWest closedSouth
+edges-are p h b u v e q =
+    ap (λ e. cellTest (p .w) (p .n) u VelocityU (West e) then cellTest (p .w) (p .n) v VelocityV (South e)) q
+    ∙ sym (placed-then ClosedEdge VelocityU (firstFrom (badIn (West (boundaryOf (p .kind))) (p .w) u) (p .w * p .n) 0) (placed VelocityV (firstFrom (badIn (South (boundaryOf (p .kind))) (p .w) v) (p .w * p .n) 0) none))
+
+-- ---- lengths
+
+pub record FieldsLong (s : State) : Type 0 where
+  pub h : length (s .h) ≡ cells s
+  pub b : length (s .b) ≡ cells s
+  pub u : length (s .u) ≡ cells s
+  pub v : length (s .v) ≡ cells s
+
+first-long : (f : Taken) (l : List Taken) → T (all long (f ∷ l)) → (length (f .numbers) ≡ f .count) × T (all long l)
+first-long f l t = let p = and-iff (long f) (all long l) .0 t in (eq-iff (length (f .numbers)) (f .count) .0 (p .0), p .1)
+
+pub fields-long : (s : State) → T (all long (fieldsOf s)) → FieldsLong s
+fields-long s t =
+    let h = first-long (depthOf s) (bottomOf s ∷ uOf s ∷ vOf s ∷ []) t in
+    let b = first-long (bottomOf s) (uOf s ∷ vOf s ∷ []) (h .1) in
+    let u = first-long (uOf s) (vOf s ∷ []) (b .1) in
+    let v = first-long (vOf s) [] (u .1) in
+    record { h = h .0; b = b .0; u = u .0; v = v .0 }
+
+-- of a field by itself
+pub one-long : (l : List ℤ) (m : ℕ) → T (eqb (length l) m && true) → length l ≡ m
+one-long l m t = eq-iff (length l) m .0 (and-iff (eqb (length l) m) true .0 t .0)
+
+-- ---- all tests, as the code makes them
+
+all-append : (a b : List Taken) → all long (a ++ b) ≡ all long a && all long b
+all-append [] b = refl
+all-append (x ∷ a) b = by (long x) (all-append a b)
+  where
+    by : (t : Bool) → all long (a ++ b) ≡ all long a && all long b → t && all long (a ++ b) ≡ (t && all long a) && all long b
+    by true e = e
+    by false e = refl
+
+regroup : (a b c : Bool) (q : Option Refusal) → must (a && b) Lengths then must c Lengths then q ≡ must a Lengths then must (b && c) Lengths then q
+regroup true true c q = refl
+regroup true false c q = refl
+regroup false b c q = refl
+
+in-order-by : (s : State) (extra : List Taken) (short enough : Bool)
+    → stateTest s extra (must short Grid) (must enough Lengths)
+    ≡ must (gridKnown s) Grid then must short Grid then must (all long (fieldsOf s)) Lengths then must (all long extra && enough) Lengths
+    then must (constantsWithin s) Constants then valueTest (fieldsOf s ++ extra) then edgeTest s
+unfolding stateTest gridTest lengthTest contentTest constantsTest
+in-order-by s extra short enough =
+    let rest = must (constantsWithin s) Constants then valueTest (fieldsOf s ++ extra) then edgeTest s in
+    ap (λ t. must (gridKnown s) Grid then must short Grid then must t Lengths then must enough Lengths then rest) (all-append (fieldsOf s) extra)
+    ∙ ap (λ q. must (gridKnown s) Grid then must short Grid then q) (regroup (all long (fieldsOf s)) (all long extra) enough rest)
+
+pub in-order : (s : State) (beside : Beside) (x : List ℤ)
+    → testOf s beside x
+    ≡ must (gridKnown s) Grid then must (runShort beside) Grid then must (all long (fieldsOf s)) Lengths
+    then must (all long (besideTaken (cells s) beside x) && workEnough (cells s) beside) Lengths
+    then must (constantsWithin s) Constants then valueTest (fieldsOf s ++ besideTaken (cells s) beside x) then edgeTest s
+unfolding stepTest runTest workTest runLengthTest
+in-order s Nothing x = in-order-by s [] true true
+in-order s Vorticity x = in-order-by s (besideTaken (cells s) Vorticity x) true true
+in-order s (Inflow m) x = in-order-by s (besideTaken (cells s) (Inflow m) x) true (workEnough (cells s) (Inflow m))
+in-order s (Run k m) x = in-order-by s (besideTaken (cells s) (Run k m) x) (runShort (Run k m)) (workEnough (cells s) (Run k m))
+
+-- what is answered, by the first test that fails
+module _ (s : State) (beside : Beside) (x : List ℤ) where
+  abbrev long-beside : Bool
+  long-beside = all long (besideTaken (cells s) beside x) && workEnough (cells s) beside
+
+  pub unknown-grid : gridKnown s ≡ false → Refused Grid ≡ testAnswer (testOf s beside x)
+  unknown-grid e = rw (in-order s beside x, e)
+
+  module _ (known : gridKnown s ≡ true) where
+    pub too-long : runShort beside ≡ false → Refused Grid ≡ testAnswer (testOf s beside x)
+    too-long e = rw (in-order s beside x, known, e)
+
+    module _ (short : runShort beside ≡ true) where
+      pub wrong-length : all long (fieldsOf s) ≡ false → Refused Lengths ≡ testAnswer (testOf s beside x)
+      wrong-length e = rw (in-order s beside x, known, short, e)
+
+      module _ (fields : all long (fieldsOf s) ≡ true) where
+        pub wrong-beside : long-beside ≡ false → Refused Lengths ≡ testAnswer (testOf s beside x)
+        wrong-beside e = rw (in-order s beside x, known, short, fields, e)
+
+        module _ (extra : long-beside ≡ true) where
+          pub outside-constant : constantsWithin s ≡ false → Refused Constants ≡ testAnswer (testOf s beside x)
+          outside-constant e = rw (in-order s beside x, known, short, fields, extra, e)
+
+          pub then-content : constantsWithin s ≡ true → testAnswer (valueTest (fieldsOf s ++ besideTaken (cells s) beside x) then edgeTest s) ≡ testAnswer (testOf s beside x)
+          then-content e = rw (in-order s beside x, known, short, fields, extra, e)
+
+pub promised : {s : State} {beside : Beside} {x : List ℤ} {a : TestAnswer} → a ≡ testAnswer (testOf s beside x) → TestPromise s beside x a
+promised e = record { answers = e; tells = ap toldTest e }

@@ -1,0 +1,63 @@
+-- The test of a cell, and the tests of a field's cells in order.
+use mathlib.Core.Bool.{Bool, not, _&&_}
+use mathlib.Core.List.{List}
+use mathlib.Core.Option.{Option, none, some}
+use Prim.Native.Nat.{ℕ, _*_, _/_, _%_}
+use lib.IntN.{ℤ, pos}
+use lib.ListN.{getD}
+use Rattle.model.specs.Numbers.{Limits, within, eqℤ, depthLimits, bottomLimits, velocityLimits, vorticityLimits, inflowLimits}
+use Rattle.model.specs.Grid.{firstFrom}
+use Rattle.model.specs.State.{wallWest, wallSouth}
+use Rattle.model.specs.Refusals.{placed, refusedAt}
+use Rattle.model.specs.declared.Field.{Field}
+use Rattle.model.specs.declared.Field.the-variants.{Depth, Bottom, VelocityU, VelocityV, Vorticity, Inflow}
+use Rattle.model.specs.declared.Refusal.{Refusal}
+use Rattle.model.specs.declared.Refusal.the-variants.{Value, ClosedEdge}
+use Rattle.model.specs.declared.TestAnswer.{TestAnswer}
+use Rattle.model.specs.declared.TestAnswer.the-variants.{Passed, Refused}
+use Rattle.integers.specs.Ranges.{between}
+use Rattle.state.specs.declared.Trial.{Trial}
+use Rattle.state.specs.declared.Trial.the-variants.{Outside, West, South}
+use Rattle.state.specs.declared.Found.{Found}
+use Rattle.state.specs.declared.Found.the-variants.{At, Nowhere}
+
+-- the model's limits of a field
+abbrev pub limitsOf : Field → Limits
+limitsOf Depth = depthLimits
+limitsOf Bottom = bottomLimits
+limitsOf VelocityU = velocityLimits
+limitsOf VelocityV = velocityLimits
+limitsOf Vorticity = vorticityLimits
+limitsOf Inflow = inflowLimits
+
+-- ---- a cell
+
+-- whether cell (i, j), with number x, is bad
+abbrev pub badAt : Trial → ℤ → ℕ → ℕ → Bool
+badAt (Outside l) x i j = not (within (between l) x)
+badAt (West e) x i j = wallWest e i && not (eqℤ x (pos 0))
+badAt (South e) x i j = wallSouth e j && not (eqℤ x (pos 0))
+
+-- the same of the cell with index k of a field f of w columns
+abbrev pub badIn : Trial → ℕ → List ℤ → ℕ → Bool
+badIn t w f k = badAt t (getD f k (pos 0)) (k % w) (k / w)
+
+abbrev pub foundBy : Option ℕ → Found
+foundBy none = Nowhere
+foundBy (some k) = At k
+
+-- ---- cells in order
+
+-- the refusal that a bad cell makes
+abbrev pub refusalBy : Trial → Field → ℕ → Refusal
+refusalBy (Outside l) = Value
+refusalBy (West e) = ClosedEdge
+refusalBy (South e) = ClosedEdge
+
+unfoldable pub cellTest : ℕ → ℕ → List ℤ → Field → Trial → Option Refusal
+cellTest w n f field t = refusedAt (refusalBy t) (placed field (firstFrom (badIn t w f) (w * n) 0) none)
+
+-- what an answer has found so far
+abbrev pub foundIn : TestAnswer → Option Refusal
+foundIn Passed = none
+foundIn (Refused r) = some r

@@ -1,0 +1,315 @@
+// 01's refusals 1 to 5 as proved code: one function, test_state, serves every call. It reads like the table of refusals.
+ghost use mathlib.Core.Path.{_≡_};
+ghost use mathlib.Core.Bool.{_&&_};
+ghost use mathlib.Core.List.{List, [], _∷_, _++_};
+ghost use mathlib.Core.Option.{none};
+ghost use Prim.Native.Nat.{_*_, _≤_};
+ghost use lib.Dec.{T, leb, eqb};
+ghost use lib.IntN.{ℤ};
+ghost use lib.ListN.{length};
+ghost use Rattle.model.specs.Numbers.{all, longestSide};
+ghost use Rattle.model.specs.Grid.{firstFrom};
+ghost use Rattle.model.specs.State.{stateOf};
+ghost use Rattle.model.specs.Refusals.{_then_, fieldsOf, long, gridKnown, constantsWithin, valueTest, edgeTest};
+ghost use Rattle.model.specs.Promises.{testAnswer, TestPromise};
+ghost use Rattle.integers.specs.Ranges.{between};
+ghost use Rattle.state.specs.Trials.{limitsOf, badAt, badIn, foundBy, refusalBy, cellTest, foundIn};
+ghost use Rattle.state.specs.Beside.{besideTaken, runShort, workEnough};
+use integers::Range;
+use model::Beside;
+use model::BoundaryByte;
+use model::Field;
+use model::Parameters;
+use model::Refusal;
+use model::TestAnswer;
+
+// ---- cells
+
+// 01's bounds of a field's numbers.
+pub fn limits(field: Field) -> Range
+    ensures { λ r. ⌜ between r ≡ limitsOf field ⌝ }
+{
+    match field {
+        Field::Depth => Range {
+            least: 1000,
+            most: 100000,
+        },
+        Field::Bottom => Range {
+            least: 0,
+            most: 100000,
+        },
+        Field::VelocityU => Range {
+            least: -5000,
+            most: 5000,
+        },
+        Field::VelocityV => Range {
+            least: -5000,
+            most: 5000,
+        },
+        Field::Vorticity => Range {
+            least: -2000000,
+            most: 2000000,
+        },
+        Field::Inflow => Range {
+            least: -1000,
+            most: 1000,
+        },
+    }
+}
+
+// What makes a cell bad: a number outside a range (refusal 4); a velocity on a closed west edge, or on a closed south edge
+// (refusal 5).
+pub enum Trial {
+    Outside(Range),
+    West(BoundaryByte),
+    South(BoundaryByte),
+}
+
+// Whether cell (i, j), with number x, is bad.
+pub fn is_bad(t: Trial, x: i64, i: usize, j: usize) -> bool
+    ensures { λ r. ⌜ r ≡ badAt t x i j ⌝ }
+{
+    match t {
+        Trial::Outside(l) => !integers::within(x, l),
+        Trial::West(e) => grid::wall_west(e, i) && x != 0,
+        Trial::South(e) => grid::wall_south(e, j) && x != 0,
+    }
+}
+
+pub enum Found {
+    At(usize),
+    Nowhere,
+}
+
+// The first bad cell of a field, in index order.
+pub fn first_bad(w: usize, n: usize, f: &[i64], t: Trial) -> Found
+    requires { ⌜ length (now f) ≡ w * n ⌝ }
+    ensures { λ r. ⌜ r ≡ foundBy (firstFrom (badIn t w (now (f .entry))) (w * n) 0) ⌝ }
+{
+    let mut found = Found::Nowhere;
+    'scan: for j in 0..n {
+        for i in 0..w {
+            let k = j * w + i;
+            if is_bad(t, f[k], i, j) {
+                found = Found::At(k);
+                break 'scan;
+            }
+        }
+    }
+    found
+}
+
+// ---- tests in order
+
+// The refusal of a bad cell.
+pub fn refusal_of(t: Trial, field: Field, cell: usize) -> Refusal
+    ensures { λ r. ⌜ r ≡ refusalBy t field cell ⌝ }
+{
+    match t {
+        Trial::Outside(_) => Refusal::Value { field, cell },
+        Trial::West(_) => Refusal::ClosedEdge { field, cell },
+        Trial::South(_) => Refusal::ClosedEdge { field, cell },
+    }
+}
+
+// The refusal found so far, or else that of the first bad cell of a field.
+pub fn then_cells(
+    earlier: TestAnswer,
+    w: usize,
+    n: usize,
+    f: &[i64],
+    field: Field,
+    t: Trial,
+) -> TestAnswer
+    requires { ⌜ length (now f) ≡ w * n ⌝ }
+    ensures { λ r. ⌜ r ≡ testAnswer (foundIn earlier then cellTest w n (now (f .entry)) field t) ⌝ }
+{
+    let TestAnswer::Passed = earlier else {
+        return earlier;
+    };
+    match first_bad(w, n, f, t) {
+        Found::At(k) => TestAnswer::Refused(refusal_of(t, field, k)),
+        Found::Nowhere => TestAnswer::Passed,
+    }
+}
+
+// Test 4 of one field: its numbers and their bounds.
+pub fn then_field(earlier: TestAnswer, w: usize, n: usize, f: &[i64], field: Field) -> TestAnswer
+    requires { ⌜ length (now f) ≡ w * n ⌝ }
+    ensures { λ r. ⌜ r ≡ testAnswer (foundIn earlier then valueTest (record { field = field; count = w * n; limits = limitsOf field; numbers = now (f .entry) } ∷ [])) ⌝ }
+{
+    then_cells(earlier, w, n, f, field, Trial::Outside(limits(field)))
+}
+
+// Test 4 of a state's own fields, in 01's order.
+pub fn test_fields(p: Parameters, h: &[i64], b: &[i64], u: &[i64], v: &[i64]) -> TestAnswer
+    requires { ⌜ T (all long (fieldsOf (stateOf p (now h) (now b) (now u) (now v)))) ⌝ }
+    ensures { λ r. ⌜ r ≡ testAnswer (valueTest (fieldsOf (stateOf p (now (h .entry)) (now (b .entry)) (now (u .entry)) (now (v .entry))))) ⌝ }
+{
+    let first = then_field(TestAnswer::Passed, p.w, p.n, h, Field::Depth);
+    let second = then_field(first, p.w, p.n, b, Field::Bottom);
+    let third = then_field(second, p.w, p.n, u, Field::VelocityU);
+    then_field(third, p.w, p.n, v, Field::VelocityV)
+}
+
+// Test 4 of the field that a call takes beside its state.
+pub fn then_beside(earlier: TestAnswer, w: usize, n: usize, beside: Beside, x: &[i64]) -> TestAnswer
+    requires { ⌜ T (all long (besideTaken (w * n) beside (now x))) ⌝ }
+    ensures { λ r. ⌜ r ≡ testAnswer (foundIn earlier then valueTest (besideTaken (w * n) beside (now (x .entry)))) ⌝ }
+{
+    match beside {
+        Beside::Nothing => earlier,
+        Beside::Vorticity => then_field(earlier, w, n, x, Field::Vorticity),
+        Beside::Inflow { work: _ } => then_field(earlier, w, n, x, Field::Inflow),
+        Beside::Run { steps: _, work: _ } => then_field(earlier, w, n, x, Field::Inflow),
+    }
+}
+
+// Test 5: u before v.
+pub fn then_edges(earlier: TestAnswer, p: Parameters, u: &[i64], v: &[i64]) -> TestAnswer
+    requires { ⌜ (length (now u) ≡ p .w * p .n) × (length (now v) ≡ p .w * p .n) ⌝ }
+    ensures { λ r. ⌜ ((h b : List ℤ) → r ≡ testAnswer (foundIn earlier then edgeTest (stateOf p h b (now (u .entry)) (now (v .entry))))) ⌝ }
+{
+    let e = grid::boundary_of(p.kind);
+    let first = then_cells(earlier, p.w, p.n, u, Field::VelocityU, Trial::West(e));
+    then_cells(first, p.w, p.n, v, Field::VelocityV, Trial::South(e))
+}
+
+// ---- tests 1 to 3
+
+pub fn side(w: usize) -> bool
+    ensures { λ r. ⌜ r ≡ (leb 1 w && leb w longestSide) ⌝ }
+{
+    1 <= w && w <= 64
+}
+
+// Test 1 of a state: w, n and the boundary.
+pub fn grid_known(p: Parameters) -> bool
+    ensures { λ r. ⌜ ((h b u v : List ℤ) → r ≡ gridKnown (stateOf p h b u v)) ⌝ }
+{
+    if !side(p.w) {
+        return false;
+    }
+    if !side(p.n) {
+        return false;
+    }
+    grid::known(grid::boundary_of(p.kind))
+}
+
+// Test 1 of a run's length.
+pub fn run_short(beside: Beside) -> bool
+    ensures { λ r. ⌜ r ≡ runShort beside ⌝ }
+{
+    match beside {
+        Beside::Nothing => true,
+        Beside::Vorticity => true,
+        Beside::Inflow { work: _ } => true,
+        Beside::Run { steps, work: _ } => steps <= 10000,
+    }
+}
+
+// Test 2 of a state's own fields: m numbers each.
+pub fn fields_long(m: usize, h: &[i64], b: &[i64], u: &[i64], v: &[i64]) -> bool
+    ensures { λ r. ⌜ r ≡ all (λ l. eqb (length l) m) (now (h .entry) ∷ now (b .entry) ∷ now (u .entry) ∷ now (v .entry) ∷ []) ⌝ }
+{
+    if h.len() != m {
+        return false;
+    }
+    if b.len() != m {
+        return false;
+    }
+    if u.len() != m {
+        return false;
+    }
+    v.len() == m
+}
+
+// Test 2 of what a call takes beside its state of m cells: its field, and the work space.
+pub fn beside_long(m: usize, beside: Beside, x: &[i64]) -> bool
+    requires { ⌜ m ≤ 4096 ⌝ }
+    ensures { λ r. ⌜ r ≡ (all long (besideTaken m beside (now (x .entry))) && workEnough m beside) ⌝ }
+{
+    match beside {
+        Beside::Nothing => true,
+        Beside::Vorticity => x.len() == m,
+        Beside::Inflow { work } => x.len() == m && 8 * m <= work,
+        Beside::Run { steps: _, work } => x.len() == m && 8 * m <= work,
+    }
+}
+
+// Test 3.
+pub fn constants_within(p: Parameters) -> bool
+    ensures { λ r. ⌜ ((h b u v : List ℤ) → r ≡ constantsWithin (stateOf p h b u v)) ⌝ }
+{
+    let gravity = Range {
+        least: 1,
+        most: 10000,
+    };
+    let coriolis = Range {
+        least: -10000,
+        most: 10000,
+    };
+    let ratio = Range {
+        least: 1000,
+        most: 1000000,
+    };
+    if !integers::within(p.g, gravity) {
+        return false;
+    }
+    if !integers::within(p.c, coriolis) {
+        return false;
+    }
+    integers::within(p.r, ratio)
+}
+
+// ---- all of them
+
+// Tests 4 and 5.
+pub fn test_cells(
+    p: Parameters,
+    h: &[i64],
+    b: &[i64],
+    u: &[i64],
+    v: &[i64],
+    beside: Beside,
+    x: &[i64],
+) -> TestAnswer
+    requires { ⌜ T (all long (fieldsOf (stateOf p (now h) (now b) (now u) (now v)))) × T (all long (besideTaken (p .w * p .n) beside (now x))) ⌝ }
+    ensures { λ r. ⌜ (let s = stateOf p (now (h .entry)) (now (b .entry)) (now (u .entry)) (now (v .entry)) in r ≡ testAnswer (valueTest (fieldsOf s ++ besideTaken (p .w * p .n) beside (now (x .entry))) then edgeTest s)) ⌝ }
+{
+    let values = test_fields(p, h, b, u, v);
+    let all = then_beside(values, p.w, p.n, beside, x);
+    then_edges(all, p, u, v)
+}
+
+// Tests 1 to 5 of a state and of what a call takes beside it: x is its q or its inflow, and nothing looks at it where the call
+// takes neither. The product w·n is formed only once test 1 has passed.
+pub fn test_state(
+    p: Parameters,
+    h: &[i64],
+    b: &[i64],
+    u: &[i64],
+    v: &[i64],
+    beside: Beside,
+    x: &[i64],
+) -> TestAnswer
+    ensures { λ r. ⌜ TestPromise (stateOf p (now (h .entry)) (now (b .entry)) (now (u .entry)) (now (v .entry))) beside (now (x .entry)) r ⌝ }
+{
+    if !grid_known(p) {
+        return TestAnswer::Refused(Refusal::Grid);
+    }
+    if !run_short(beside) {
+        return TestAnswer::Refused(Refusal::Grid);
+    }
+    let m = p.w * p.n;
+    if !fields_long(m, h, b, u, v) {
+        return TestAnswer::Refused(Refusal::Lengths);
+    }
+    if !beside_long(m, beside, x) {
+        return TestAnswer::Refused(Refusal::Lengths);
+    }
+    if !constants_within(p) {
+        return TestAnswer::Refused(Refusal::Constants);
+    }
+    test_cells(p, h, b, u, v, beside, x)
+}

@@ -1,0 +1,112 @@
+/*
+ * The proved basin core (document 01), for C and C++ on x86-64. Link
+ * target/staticlib/libbasin.a, which `rt staticlib basin` writes.
+ *
+ * Every function takes any numbers and any lengths, and always returns. A
+ * field is lent as a pointer and the number of its elements. What is asked of
+ * a caller:
+ * - each pointer is valid and aligned for the length after it. Pass a valid
+ *   pointer where the length is 0 too: nothing is promised of a null pointer;
+ * - what a function writes (rounded, answer) overlaps nothing else lent to it.
+ *   Fields that are only read may overlap.
+ *
+ * A state is w columns by n rows, the kind of its boundary, the constants g,
+ * c and r, and the fields h, b, u and v, which have a number for each cell.
+ * Column i of row j is cell j*w + i. The edges u(0,j) are closed for kind 2,
+ * the edges v(i,0) for kinds 1 and 2; kind 0 closes none.
+ *
+ * Refusals. The causes are tested in this order and the first is told:
+ *
+ *   number  cause                                             told with it
+ *   0       none: the call is not refused with 1 to 5
+ *   1       w or n not 1 to 64; kind not 0, 1 or 2;
+ *           steps above 10,000
+ *   2       a field does not have w*n numbers;
+ *           work_len below 8*w*n
+ *   3       g not 1 to 10,000; c not -10,000 to 10,000;
+ *           r not 1,000 to 1,000,000
+ *   4       a number outside its bounds, by field, lowest     field, cell
+ *           cell first
+ *   5       a velocity other than 0 on a closed edge, u       field, cell
+ *           before v, lowest cell first
+ *
+ *   field   bounds
+ *   0       h       depth, 1,000 to 100,000 mm
+ *   1       b       bottom height, 0 to 100,000 mm
+ *   2       u       velocity at west edges, -5,000 to 5,000 mm/s
+ *   3       v       velocity at south edges, -5,000 to 5,000 mm/s
+ *   4       q       potential vorticity, -2,000,000 to 2,000,000
+ *   5       inflow  -1,000 to 1,000 mm a step
+ */
+#ifndef BASIN_H
+#define BASIN_H
+
+#include <stddef.h>
+#include <stdint.h>
+
+#ifdef __cplusplus
+extern "C" {
+#endif
+
+/*
+ * a/b rounded to the nearest whole number, halves away from zero.
+ *
+ * Where a is -2^58 to 2^58, b is 1 to 2^43 and rounded_len is at least 1:
+ * returns 1, rounded[0] is the result, and the rest of rounded is untouched.
+ * Otherwise returns 0 and rounded is untouched.
+ */
+uint64_t basin_rnd(int64_t a, int64_t b, int64_t *rounded, size_t rounded_len);
+
+/*
+ * Tests 1 to 5 of a state. Returns the number of the refusal. answer holds the
+ * same number and then what is told with it, as far as there is room (3 places
+ * are enough); its other places are untouched.
+ */
+uint64_t basin_test_state(size_t w, size_t n, uint8_t kind,
+                          int64_t g, int64_t c, int64_t r,
+                          const int64_t *h, size_t h_len,
+                          const int64_t *b, size_t b_len,
+                          const int64_t *u, size_t u_len,
+                          const int64_t *v, size_t v_len,
+                          uint64_t *answer, size_t answer_len);
+
+/* The same of a call that takes a potential vorticity too: tendencies. */
+uint64_t basin_test_vorticity(size_t w, size_t n, uint8_t kind,
+                              int64_t g, int64_t c, int64_t r,
+                              const int64_t *h, size_t h_len,
+                              const int64_t *b, size_t b_len,
+                              const int64_t *u, size_t u_len,
+                              const int64_t *v, size_t v_len,
+                              const int64_t *q, size_t q_len,
+                              uint64_t *answer, size_t answer_len);
+
+/*
+ * The same of a call that takes an inflow and a work space of work_len numbers
+ * too: a step. The work space itself is not lent.
+ */
+uint64_t basin_test_step(size_t w, size_t n, uint8_t kind,
+                         int64_t g, int64_t c, int64_t r,
+                         const int64_t *h, size_t h_len,
+                         const int64_t *b, size_t b_len,
+                         const int64_t *u, size_t u_len,
+                         const int64_t *v, size_t v_len,
+                         const int64_t *inflow, size_t inflow_len,
+                         size_t work_len,
+                         uint64_t *answer, size_t answer_len);
+
+/* The same with the number of steps too: a run. */
+uint64_t basin_test_run(size_t w, size_t n, uint8_t kind,
+                        int64_t g, int64_t c, int64_t r,
+                        const int64_t *h, size_t h_len,
+                        const int64_t *b, size_t b_len,
+                        const int64_t *u, size_t u_len,
+                        const int64_t *v, size_t v_len,
+                        const int64_t *inflow, size_t inflow_len,
+                        uint64_t steps, size_t work_len,
+                        uint64_t *answer, size_t answer_len);
+
+#ifdef __cplusplus
+}
+#endif
+
+#endif

@@ -1,0 +1,256 @@
+//! The functions of `include/basin.h`, each behind a safe one that takes
+//! slices. This is the only place with unsafe code.
+//!
+//! Every function of the library takes any numbers and any lengths, reads and
+//! writes only within the slices it is lent, and keeps none of them.
+
+// A call takes a whole state as separate fields.
+#![allow(clippy::too_many_arguments)]
+
+use crate::Parameters;
+
+extern "C" {
+    fn basin_rnd(a: i64, b: i64, rounded: *mut i64, rounded_len: usize) -> u64;
+
+    fn basin_test_state(
+        w: usize,
+        n: usize,
+        kind: u8,
+        g: i64,
+        c: i64,
+        r: i64,
+        h: *const i64,
+        h_len: usize,
+        b: *const i64,
+        b_len: usize,
+        u: *const i64,
+        u_len: usize,
+        v: *const i64,
+        v_len: usize,
+        answer: *mut u64,
+        answer_len: usize,
+    ) -> u64;
+
+    fn basin_test_vorticity(
+        w: usize,
+        n: usize,
+        kind: u8,
+        g: i64,
+        c: i64,
+        r: i64,
+        h: *const i64,
+        h_len: usize,
+        b: *const i64,
+        b_len: usize,
+        u: *const i64,
+        u_len: usize,
+        v: *const i64,
+        v_len: usize,
+        q: *const i64,
+        q_len: usize,
+        answer: *mut u64,
+        answer_len: usize,
+    ) -> u64;
+
+    fn basin_test_step(
+        w: usize,
+        n: usize,
+        kind: u8,
+        g: i64,
+        c: i64,
+        r: i64,
+        h: *const i64,
+        h_len: usize,
+        b: *const i64,
+        b_len: usize,
+        u: *const i64,
+        u_len: usize,
+        v: *const i64,
+        v_len: usize,
+        inflow: *const i64,
+        inflow_len: usize,
+        work_len: usize,
+        answer: *mut u64,
+        answer_len: usize,
+    ) -> u64;
+
+    fn basin_test_run(
+        w: usize,
+        n: usize,
+        kind: u8,
+        g: i64,
+        c: i64,
+        r: i64,
+        h: *const i64,
+        h_len: usize,
+        b: *const i64,
+        b_len: usize,
+        u: *const i64,
+        u_len: usize,
+        v: *const i64,
+        v_len: usize,
+        inflow: *const i64,
+        inflow_len: usize,
+        steps: u64,
+        work_len: usize,
+        answer: *mut u64,
+        answer_len: usize,
+    ) -> u64;
+}
+
+/// 1, and `rounded[0]` is rnd(a/b); or 0, and `rounded` is untouched.
+pub fn rnd(a: i64, b: i64, rounded: &mut [i64]) -> u64 {
+    // SAFETY: the pointer and the length are those of a slice that is lent to
+    // this call alone.
+    unsafe { basin_rnd(a, b, rounded.as_mut_ptr(), rounded.len()) }
+}
+
+/// The number of the refusal; `answer` begins with the number and the values
+/// told with it, as far as there is room.
+pub fn test_state(
+    p: &Parameters,
+    h: &[i64],
+    b: &[i64],
+    u: &[i64],
+    v: &[i64],
+    answer: &mut [u64],
+) -> u64 {
+    // SAFETY: each pointer and the length after it are those of one slice.
+    // `answer`, the only one written, is borrowed apart from the others.
+    unsafe {
+        basin_test_state(
+            p.w,
+            p.n,
+            p.kind,
+            p.g,
+            p.c,
+            p.r,
+            h.as_ptr(),
+            h.len(),
+            b.as_ptr(),
+            b.len(),
+            u.as_ptr(),
+            u.len(),
+            v.as_ptr(),
+            v.len(),
+            answer.as_mut_ptr(),
+            answer.len(),
+        )
+    }
+}
+
+/// The same with a potential vorticity.
+pub fn test_vorticity(
+    p: &Parameters,
+    h: &[i64],
+    b: &[i64],
+    u: &[i64],
+    v: &[i64],
+    q: &[i64],
+    answer: &mut [u64],
+) -> u64 {
+    // SAFETY: each pointer and the length after it are those of one slice.
+    // `answer`, the only one written, is borrowed apart from the others.
+    unsafe {
+        basin_test_vorticity(
+            p.w,
+            p.n,
+            p.kind,
+            p.g,
+            p.c,
+            p.r,
+            h.as_ptr(),
+            h.len(),
+            b.as_ptr(),
+            b.len(),
+            u.as_ptr(),
+            u.len(),
+            v.as_ptr(),
+            v.len(),
+            q.as_ptr(),
+            q.len(),
+            answer.as_mut_ptr(),
+            answer.len(),
+        )
+    }
+}
+
+/// The same with an inflow and a work space of `work` numbers.
+pub fn test_step(
+    p: &Parameters,
+    h: &[i64],
+    b: &[i64],
+    u: &[i64],
+    v: &[i64],
+    inflow: &[i64],
+    work: usize,
+    answer: &mut [u64],
+) -> u64 {
+    // SAFETY: each pointer and the length after it are those of one slice.
+    // `answer`, the only one written, is borrowed apart from the others.
+    // `work` is a number: no work space is lent.
+    unsafe {
+        basin_test_step(
+            p.w,
+            p.n,
+            p.kind,
+            p.g,
+            p.c,
+            p.r,
+            h.as_ptr(),
+            h.len(),
+            b.as_ptr(),
+            b.len(),
+            u.as_ptr(),
+            u.len(),
+            v.as_ptr(),
+            v.len(),
+            inflow.as_ptr(),
+            inflow.len(),
+            work,
+            answer.as_mut_ptr(),
+            answer.len(),
+        )
+    }
+}
+
+/// The same with a run length too.
+pub fn test_run(
+    p: &Parameters,
+    h: &[i64],
+    b: &[i64],
+    u: &[i64],
+    v: &[i64],
+    inflow: &[i64],
+    steps: u64,
+    work: usize,
+    answer: &mut [u64],
+) -> u64 {
+    // SAFETY: each pointer and the length after it are those of one slice.
+    // `answer`, the only one written, is borrowed apart from the others.
+    // `work` is a number: no work space is lent.
+    unsafe {
+        basin_test_run(
+            p.w,
+            p.n,
+            p.kind,
+            p.g,
+            p.c,
+            p.r,
+            h.as_ptr(),
+            h.len(),
+            b.as_ptr(),
+            b.len(),
+            u.as_ptr(),
+            u.len(),
+            v.as_ptr(),
+            v.len(),
+            inflow.as_ptr(),
+            inflow.len(),
+            steps,
+            work,
+            answer.as_mut_ptr(),
+            answer.len(),
+        )
+    }
+}

@@ -1,0 +1,133 @@
+//! Refusals (01: turned back) and how they are told.
+
+use std::error::Error;
+use std::fmt;
+
+/// A field of numbers, one per cell, that a refusal can name.
+#[derive(Clone, Copy, Debug, PartialEq, Eq, PartialOrd, Ord, Hash)]
+pub enum Field {
+    /// h
+    Depth,
+    /// b
+    Bottom,
+    /// u
+    VelocityU,
+    /// v
+    VelocityV,
+    /// q
+    Vorticity,
+    /// s (01: river entry)
+    Inflow,
+}
+
+impl Field {
+    /// The field's place in the order h, b, u, v, q, s.
+    pub fn number(self) -> u8 {
+        match self {
+            Field::Depth => 0,
+            Field::Bottom => 1,
+            Field::VelocityU => 2,
+            Field::VelocityV => 3,
+            Field::Vorticity => 4,
+            Field::Inflow => 5,
+        }
+    }
+
+    fn from_number(number: u64) -> Self {
+        match number {
+            0 => Field::Depth,
+            1 => Field::Bottom,
+            2 => Field::VelocityU,
+            3 => Field::VelocityV,
+            4 => Field::Vorticity,
+            5 => Field::Inflow,
+            _ => panic!("libbasin.a told field {number}, which is none"),
+        }
+    }
+}
+
+/// The field's name and 01's letter for it.
+impl fmt::Display for Field {
+    fn fmt(&self, to: &mut fmt::Formatter) -> fmt::Result {
+        to.write_str(match self {
+            Field::Depth => "depth h",
+            Field::Bottom => "bottom height b",
+            Field::VelocityU => "velocity u",
+            Field::VelocityV => "velocity v",
+            Field::Vorticity => "potential vorticity q",
+            Field::Inflow => "inflow s",
+        })
+    }
+}
+
+/// Why a call did nothing. Calls that come later can be refused for more
+/// reasons, so the list is open.
+#[derive(Clone, Copy, Debug, PartialEq, Eq, Hash)]
+#[non_exhaustive]
+pub enum Refusal {
+    /// 1: w, n or kind unknown, or a run too long.
+    Grid,
+    /// 2: a field does not have w·n numbers, or the work space is short.
+    Lengths,
+    /// 3: G, c or R outside its bounds.
+    Constants,
+    /// 4: a value outside its bounds.
+    Value { field: Field, cell: usize },
+    /// 5: a velocity on a closed edge.
+    ClosedEdge { field: Field, cell: usize },
+}
+
+impl Refusal {
+    /// 01's number for the refusal.
+    pub fn number(&self) -> u8 {
+        match self {
+            Refusal::Grid => 1,
+            Refusal::Lengths => 2,
+            Refusal::Constants => 3,
+            Refusal::Value { .. } => 4,
+            Refusal::ClosedEdge { .. } => 5,
+        }
+    }
+
+    /// What the library told: a number, 0 where nothing is refused, and room
+    /// for the values that come with it.
+    ///
+    /// Panics at a number or field that is none. The proved library never
+    /// tells one: another library was linked then.
+    pub(crate) fn from_told(number: u64, [field, cell]: [u64; 2]) -> Result<(), Self> {
+        // The library is only for machines where a usize has 64 bits.
+        let cell = cell as usize;
+        Err(match number {
+            0 => return Ok(()),
+            1 => Refusal::Grid,
+            2 => Refusal::Lengths,
+            3 => Refusal::Constants,
+            4 => Refusal::Value {
+                field: Field::from_number(field),
+                cell,
+            },
+            5 => Refusal::ClosedEdge {
+                field: Field::from_number(field),
+                cell,
+            },
+            _ => panic!("libbasin.a told refusal {number}, which is none"),
+        })
+    }
+}
+
+impl fmt::Display for Refusal {
+    fn fmt(&self, to: &mut fmt::Formatter) -> fmt::Result {
+        write!(to, "refusal {}: ", self.number())?;
+        match self {
+            Refusal::Grid => to.write_str("unknown w, n or kind, or too long a run"),
+            Refusal::Lengths => to.write_str("a field of a wrong length, or too little work space"),
+            Refusal::Constants => to.write_str("G, c or R outside its bounds"),
+            Refusal::Value { field, cell } => write!(to, "{field} outside its bounds, cell {cell}"),
+            Refusal::ClosedEdge { field, cell } => {
+                write!(to, "{field} on a closed edge, cell {cell}")
+            }
+        }
+    }
+}
+
+impl Error for Refusal {}
