@@ -1,7 +1,8 @@
 -- Cells and neighbours, as code finds them: without a division. Assumes nothing.
-use mathlib.Core.Path.{_≡_, ap, subst, sym, _∙_}
+use mathlib.Core.Path.{_≡_, ap, sym, _∙_}
 use Prim.Native.Nat.{ℕ, _+_, _-_, _*_, _/_, _%_, _≤_, _<_}
-use native.Mathlib.Nat.{mod-eq-of-lt, mod-self, add-mod-right, zero-add, mul-comm, mul-le-mul}
+use native.Mathlib.Nat.{mod-eq-of-lt, mod-self, add-mod-right, zero-add, mul-comm, suc-mul, mul-le-mul}
+use native.Mathlib.Numerals.{add-one}
 use native.Mathlib.Omega.{arith}
 use lib.Arith.{digits-lt, digits-div, digits-mod}
 use Rattle.model.specs.Grid.{next, previous}
@@ -21,6 +22,10 @@ cells-most p q = mul-le-mul (p .most) (q .most)
 
 pub cell-lt : {w n i j : ℕ} → i < w → j < n → j * w + i < w * n
 cell-lt {w} {n} p q = rw (mul-comm w n) (digits-lt q p)
+
+-- the index after a row's last cell is the next row's first
+pub row-end : {w i : ℕ} (j : ℕ) → i ≡ w → j * w + i ≡ (j + 1) * w
+row-end {w} {i} j e = ap (λ x. j * w + x) e ∙ sym (ap (λ x. x * w) (add-one j) ∙ suc-mul j w)
 
 -- what goes by an index and its column and row goes by the cell
 pub by-index : {A : Type 0} {w i : ℕ} (f : ℕ → ℕ → A) (j : ℕ) → i < w → f ((j * w + i) % w) ((j * w + i) / w) ≡ f i j

@@ -1,16 +1,16 @@
 -- A loop that writes the elements of a list, one a turn, from a place of a lent slice on: it fills a field (place 0) or a part of a
 -- work space. Assumes nothing.
 use mathlib.Core.Path.{_≡_, refl, sym, ap, subst, _∙_}
-use mathlib.Core.List.{List, [], _∷_, _++_, append-assoc}
+use mathlib.Core.List.{List, _++_, append-assoc}
 use Prim.Native.Nat.{ℕ, _+_, _-_, _*_, _≤_, _<_, zero-le}
-use native.Mathlib.Nat.{le-antisymm, zero-add, zero-mul, suc-mul, mul-comm}
+use native.Mathlib.Nat.{le-antisymm, zero-add, mul-comm, mul-le-mul-right}
 use native.Mathlib.Numerals.{add-one}
 use native.Mathlib.Omega.{arith}
 use lib.IntN.{ℤ, pos}
-use lib.ListN.{length, take, drop, getD, set, take-append-drop, length-append, length-drop, length-set}
-use lib.Seq.{length-take-le, take-append-le, drop-append-le, take-append-add, drop-append-add, take-at, drop-drop, getD-drop, paste, paste-zero, paste-suc, drop-paste, take-length}
+use lib.ListN.{length, take, drop, getD, set, take-append-drop, length-drop, length-set}
+use lib.Seq.{length-take-le, take-append-le, drop-append-le, take-append-seam, drop-at, drop-drop, getD-drop, paste, paste-zero, paste-suc, drop-paste, take-length}
 use Rattle.model.specs.Grid.{byCell, filled}
-use Rattle.grid.specs.Cells.{cell-lt, by-index}
+use Rattle.grid.specs.Cells.{cell-lt, row-end, by-index}
 use Rattle.grid.specs.Fields.{length-byCell, getD-byCell}
 use Rattle.grid.specs.Parts.{part, replaced}
 
@@ -47,3 +47,71 @@ module _ {A : Type 0} where
   pub filling-done : {l d₀ : List A} {k m : ℕ} {d : List A} → Writing 0 l d₀ k d → length l ≡ m → m ≤ k → d ≡ filled m l d₀
   unfolding replaced
   filling-done {l} {d₀} {k} {m} p e h = writing-done p (omega arith) ∙ rw (zero-add, e)
+
+-- ---- cell by cell, row by row, with no division: the loops are at cell (i, j)
+
+module _ (w n : ℕ) (g : ℕ → ℕ → ℤ) where
+  abbrev field : List ℤ
+  field = byCell w n g
+
+  cell-value : {i j : ℕ} → i < w → j < n → getD field (j * w + i) (pos 0) ≡ g i j
+  cell-value {i} {j} p q = getD-byCell w n g (j * w + i) (cell-lt p q) ∙ by-index g j p
+
+  cell-in : {i j : ℕ} → i < w → j < n → j * w + i < length field
+  cell-in {i} {j} p q = subst (λ (x : ℕ). j * w + i < x) (sym (length-byCell w n g)) (cell-lt p q)
+
+  pub cell-written : {a : ℕ} {d₀ d : List ℤ} {i j : ℕ} {v : ℤ} → Writing a field d₀ (j * w + i) d → i < w → j < n → a + w * n ≤ length d₀ → v ≡ g i j
+      → Writing a field d₀ (j * w + (i + 1)) (set d (a + (j * w + i)) v)
+  cell-written {i = i} {j = j} h p q r e =
+      writing-at (writing-more (pos 0) h (cell-in p q) (rw (length-byCell w n g) r) (e ∙ sym (cell-value p q))) (omega arith)
+
+  pub cell-filled : {d₀ d : List ℤ} {i j : ℕ} {v : ℤ} → Writing 0 field d₀ (j * w + i) d → i < w → j < n → w * n ≤ length d₀ → v ≡ g i j
+      → Writing 0 field d₀ (j * w + (i + 1)) (set d (j * w + i) v)
+  cell-filled {i = i} {j = j} h p q r e =
+      writing-at (filling-more (pos 0) h (cell-in p q) (rw (length-byCell w n g) r) (e ∙ sym (cell-value p q))) (omega arith)
+
+  pub row-written : {a i : ℕ} {d₀ d : List ℤ} (j : ℕ) → Writing a field d₀ (j * w + i) d → i ≡ w → Writing a field d₀ ((j + 1) * w) d
+  row-written j h e = writing-at h (row-end j e)
+
+  pub grid-filled : {d₀ d : List ℤ} {j : ℕ} → Writing 0 field d₀ (j * w) d → n ≤ j → d ≡ filled (w * n) field d₀
+  grid-filled {j = j} h l = filling-done h (length-byCell w n g) (rw (mul-comm w n) (mul-le-mul-right w l))
+
+-- ---- what a loop that writes leaves to read
+
+module _ {A : Type 0} {a : ℕ} {l d₀ : List A} where
+  -- a part that lies wholly before the place written, or wholly behind what is written
+  pub part-before : {k : ℕ} {d : List A} (x m : ℕ) → Writing a l d₀ k d → x + m ≤ a → a ≤ length d₀ → part x m d ≡ part x m d₀
+  part-before {k} {d} x m h p r =
+      ap (part x m) (h .holds ∙ append-assoc (take a d₀) (take k l) (drop (a + k) d₀))
+      ∙ front (take k l ++ drop (a + k) d₀) ∙ sym (front (drop a d₀)) ∙ ap (part x m) (take-append-drop a d₀)
+    where
+      front : (rest : List A) → part x m (take a d₀ ++ rest) ≡ part x m (take a d₀)
+      front rest =
+          let e : length (take a d₀) ≡ a = length-take-le a d₀ r in
+          ap (take m) (drop-append-le x (take a d₀) rest (omega arith))
+          ∙ take-append-le m (drop x (take a d₀)) rest (omega (arith, length-drop x (take a d₀)))
+
+  -- from the place that is written next on, all is as it was
+  rest-kept : {k : ℕ} {d : List A} → Writing a l d₀ k d → a ≤ length d₀ → drop (a + k) d ≡ drop (a + k) d₀
+  rest-kept {k} h r = ap (drop (a + k)) (h .holds) ∙ drop-paste d₀ a l k r (h .so-far)
+
+  pub part-behind : {k : ℕ} {d : List A} (x m : ℕ) → Writing a l d₀ k d → a + k ≤ x → a ≤ length d₀ → part x m d ≡ part x m d₀
+  part-behind {k} {d} x m h p r =
+      let e : x ≡ (a + k) + (x - (a + k)) = omega arith in
+      ap (λ y. part y m d) e ∙ ap (take m) (sym (drop-drop (x - (a + k)) (a + k) d) ∙ ap (drop (x - (a + k))) (rest-kept h r) ∙ drop-drop (x - (a + k)) (a + k) d₀)
+      ∙ sym (ap (λ y. part y m d₀) e)
+
+  -- an element that is not written yet
+  pub ahead : {k : ℕ} {d : List A} (x : ℕ) (z : A) → Writing a l d₀ k d → a + k ≤ x → a ≤ length d₀ → getD d x z ≡ getD d₀ x z
+  ahead {k} {d} x z h p r =
+      let e : x ≡ (a + k) + (x - (a + k)) = omega arith in
+      ap (λ y. getD d y z) e ∙ sym (getD-drop (a + k) d (x - (a + k)) z) ∙ ap (λ f. getD f (x - (a + k)) z) (rest-kept h r) ∙ getD-drop (a + k) d₀ (x - (a + k)) z
+      ∙ sym (ap (λ y. getD d₀ y z) e)
+
+-- the part written, once it is
+pub part-written : {A : Type 0} (a : ℕ) (l d₀ : List A) → a ≤ length d₀ → part a (length l) (replaced a l d₀) ≡ l
+unfolding replaced
+part-written a l d₀ r =
+    ap (λ f. take (length l) (drop a f)) (append-assoc (take a d₀) l (drop (a + length l) d₀))
+    ∙ ap (take (length l)) (drop-at (take a d₀) (l ++ drop (a + length l) d₀) a (length-take-le a d₀ r))
+    ∙ take-append-seam l (drop (a + length l) d₀)

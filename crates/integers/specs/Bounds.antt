@@ -9,11 +9,11 @@ use native.Mathlib.Nat.{le-refl, le-trans, le-of-eq, le-suc, lt-of-le-of-lt, mul
 use native.Mathlib.Omega.{arith}
 use lib.Dec.{T, leb, leb→le, ltb, ltb→lt, eqb}
 use lib.ListN.{getD}
-use lib.Signed.{mag, quotZ, _≤ℤ_}
+use lib.Signed.{mag, nonNeg, quotZ, _≤ℤ_}
 use lib.IntN.{ℤ, pos, negsuc, negℤ, natAbs, _+ℤ_, _-ℤ_, _*ℤ_}
 use borrow.Author.Tests.{ne-eqb}
 use mir.Syntax.{Width, w64}
-use mir.Val.{SFits, hbits, toZ, ofZ}
+use mir.Val.{Fits, SFits, hbits, toZ, ofZ}
 use mir.Facts.{toZ-ofZ}
 use Rattle.model.specs.Numbers.{Limits, Within, eqℤ}
 use Rattle.integers.specs.Laws.{abs-neg, abs-add, abs-mul}
@@ -172,6 +172,10 @@ held-is w p e = toZ-ofZ (record { sfits = p }) ∙ e
 
 pub abs-held : (w : Width) {y z : ℤ} {b : ℕ} → mag y < 2 ^ hbits w → y ≡ z → Abs z b → Abs (held w y) b
 abs-held w {y} {z} {b} p e h = subst (λ x. Abs x b) (sym (held-is w p e)) h
+
+-- a number that is not negative becomes an unsigned one
+pub unsigned : {z : ℤ} (n : ℕ) → z ≡ pos n → n < 2 ^ 64 → T (nonNeg z) × Fits w64 (natAbs z)
+unsigned n e l = subst (λ (z : ℤ). T (nonNeg z) × Fits w64 (natAbs z)) (sym e) (tt, record { fits = l })
 
 -- ---- a divisor above 0: so are its bits, which a division asks
 

@@ -1,29 +1,37 @@
 // Whole numbers: rounding as proved code; in specs/ the laws of ℤ that the kit lacks, polynomial identities by computation,
 // bounds by computation for what must fit 64 bits, and the laws of rounding.
 ghost use mathlib.Core.Path.{_≡_};
-ghost use Prim.Native.Nat.{_≤_};
-ghost use lib.IntN.{pos, natAbs};
+ghost use Prim.Native.Nat.{_+_, _*_, _/_, _≤_};
+ghost use lib.IntN.{natAbs};
 ghost use Rattle.model.specs.Numbers;
 ghost use Rattle.integers.specs.Ranges.{between};
-ghost use Rattle.integers.specs.Rounding.{Roundable, mostDividend};
+ghost use Rattle.integers.specs.Rounding.{Roundable, mostDividend, mostDivisor};
 
 // The size of a number.
-pub fn magnitude(a: i64) -> i64
+pub fn magnitude(a: i64) -> u64
     requires { ⌜ natAbs a ≤ mostDividend ⌝ }
-    ensures { λ r. ⌜ r ≡ pos (natAbs a) ⌝ }
+    ensures { λ r. ⌜ r ≡ natAbs a ⌝ }
 {
-    if a < 0 { -a } else { a }
+    if a < 0 { (-a) as u64 } else { a as u64 }
 }
 
-// 01's rnd(a/b): the nearest whole number, halves away from zero. One division, of the size, so that no branch goes by the
-// sign before it. It rules out, for instance: halves toward zero; (2a + b)/(2b), which is wrong for every negative half.
+// The nearest whole number to t/d, halves up: one division gives quotient and remainder.
+pub fn nearest(t: u64, d: u64) -> u64
+    requires { ⌜ (t ≤ mostDividend) × (1 ≤ d) × (d ≤ mostDivisor) ⌝ }
+    ensures { λ r. ⌜ r ≡ (2 * t + d) / (2 * d) ⌝ }
+{
+    let q = t / d;
+    if 2 * (t % d) < d { q } else { q + 1 }
+}
+
+// 01's rnd(a/b): the nearest whole number, halves away from zero. The size is rounded and the sign put back, so that no branch goes
+// by the sign before the division. It rules out, for instance: halves toward zero; halves up, which differs for a negative half.
 pub fn rnd(a: i64, b: i64) -> i64
     requires { ⌜ Roundable a b ⌝ }
     ensures { λ r. ⌜ r ≡ Numbers.rnd a b ⌝ }
 {
-    let t = magnitude(a);
-    let q = (2 * t + b) / (2 * b);
-    if a < 0 { -q } else { q }
+    let q = nearest(magnitude(a), b as u64);
+    if a < 0 { -(q as i64) } else { q as i64 }
 }
 
 // The least and the greatest number allowed.

@@ -1,15 +1,17 @@
 -- `integers::magnitude` meets its contract. Assumes nothing.
-use mathlib.Core.Path.{_≡_, refl, subst, _∙_}
+use mathlib.Core.Path.{_≡_, refl, ap, subst, _∙_}
 use mathlib.Core.Bool.{true, false}
 use mathlib.Core.List.{[], _∷_}
 use native.Mathlib.Nat.{not-suc-le-zero}
+use native.Mathlib.Omega.{arith}
 use lib.Dec.{T}
 use lib.IntN.{ℤ, pos, negsuc, natAbs, _-ℤ_, +ℤ-idl}
 use lib.Signed.{ltZ}
+use borrow.Author.Needs.{needs}
 use borrow.Author.Tests.{ltb-true}
 use mir.Syntax.{w64}
 use Rattle.integers.specs.Ring.{Expr, var, con, _⊖_}
-use Rattle.integers.specs.Bounds.{Sizes, ∎, _◂_, fits, exact}
+use Rattle.integers.specs.Bounds.{Sizes, ∎, _◂_, held, fits, exact, unsigned}
 use Rattle.integers.specs.Rounding.{mostDividend}
 use Rattle.integers.proofs.magnitude.Statement.{statement}
 use Rattle.integers.proofs.magnitude.Tie as tie
@@ -29,14 +31,21 @@ sizes c = record { abs = c .pre } ◂ ∎
 abbrev negated : Expr
 negated = con (pos 0) ⊖ var 0
 
-sub-result : tie.Need-sub-result
-sub-result c = fits negated (sizes (c .before)) tt
+a-is : (c : tie.Start) → held w64 (c .args .a) ≡ c .args .a
+a-is c = exact w64 (var 0) (sizes c) tt
 
-returns : tie.Need-returns
-returns c = exact w64 negated (sizes (c .before)) tt ∙ below (c .before .args .a) (rw (exact w64 (var 0) (sizes (c .before)) tt) at (c .if1 .taken))
+negated-is : (c : tie.Then1) → held w64 (pos 0 -ℤ held w64 (c .before .args .a)) ≡ pos (natAbs (c .before .args .a))
+negated-is c = exact w64 negated (sizes (c .before)) tt ∙ below (c .before .args .a) (rw (a-is (c .before)) at (c .if1 .taken))
 
-returns-2 : tie.Need-returns-2
-returns-2 c = exact w64 (var 0) (sizes (c .before)) tt ∙ above (c .before .args .a) (rw (exact w64 (var 0) (sizes (c .before)) tt) at (c .if1 .left))
+cast-result-2 : tie.Need-cast-result-2
+cast-result-2 c = let s = c .before in unsigned (natAbs (s .args .a)) (a-is s ∙ above (s .args .a) (rw (a-is s) at (c .if1 .left))) (omega (arith, s .pre))
 
 pub magnitude-spec : {M : Type 1} → statement M
-magnitude-spec = tie.close (tie.spec sub-result returns returns-2)
+magnitude-spec =
+    tie.close
+    (tie.spec
+    (λ c. fits negated (sizes (c .before)) tt)
+    (λ c. unsigned (natAbs (c .before .args .a)) (negated-is c) (omega (arith, c .before .pre)))
+    cast-result-2
+    (λ c. ap natAbs (negated-is c))
+    (λ c. search needs))

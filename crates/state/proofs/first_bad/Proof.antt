@@ -2,14 +2,13 @@
 use mathlib.Core.Path.{_≡_, refl, sym, ap, _∙_}
 use mathlib.Core.Bool.{Bool}
 use Prim.Native.Nat.{ℕ, _+_, _*_, _-_, _≤_, _<_, zero-le}
-use native.Mathlib.Nat.{zero-mul, suc-mul, mul-comm, mul-le-mul-right}
-use native.Mathlib.Numerals.{add-one}
+use native.Mathlib.Nat.{zero-mul, mul-comm, mul-le-mul-right}
 use native.Mathlib.Omega.{arith}
 use lib.IntN.{ℤ, pos}
 use lib.ListN.{length, getD}
 use mir.Syntax.{w64}
 use Rattle.integers.specs.Bounds.{held-is}
-use Rattle.grid.specs.Cells.{cell-lt, by-index}
+use Rattle.grid.specs.Cells.{cell-lt, row-end, by-index}
 use Rattle.grid.specs.Scanning.{Scanned, scanned-none, scanned-at, scanned-more, scanned-bad, scanned-all}
 use Rattle.state.specs.Trials.{badAt, badIn, foundBy}
 use Rattle.state.specs.declared.Found.the-variants.{At, Nowhere}
@@ -53,7 +52,7 @@ loop-again c =
     (omega arith, l .loop .inv .1, scanned-at (scanned-more (l .loop .inv .2) (below i) (sym (told (c .before)) ∙ c .if1 .left)) (omega arith))
 
 scan-again : tie.Need-scan-again Inv-loop μ-loop Inv-scan μ-scan
-scan-again c = let l = c .before in (omega arith, l .loop .inv .1, scanned-at (l .loop .inv .2) (rw (add-one, suc-mul) (omega arith)))
+scan-again c = let l = c .before in (omega arith, l .loop .inv .1, scanned-at (l .loop .inv .2) (row-end (l .before .before .scan .j) (omega arith)))
 
 returns : tie.Need-returns Inv-loop μ-loop Inv-scan μ-scan
 returns c =
