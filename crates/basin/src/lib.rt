@@ -2,7 +2,6 @@
 // an answer goes into a lent slice. Any numbers and any lengths may come in.
 ghost use mathlib.Core.Path.{_≡_};
 ghost use mathlib.Core.List.{[], _∷_};
-ghost use lib.Seq.{sets};
 ghost use lib.ListN.{set};
 ghost use Rattle.model.specs.Answers.{fieldNumber, number, values, testNumbers};
 ghost use Rattle.model.specs.declared.Beside.the-variants.{Nothing, Vorticity, Inflow, Run};

@@ -3,7 +3,7 @@
 use mathlib.Core.Path.{_≡_, refl, sym, ap, subst, _∙_}
 use mathlib.Core.List.{List, _++_, append-assoc}
 use Prim.Native.Nat.{ℕ, _+_, _-_, _*_, _≤_, _<_, zero-le}
-use native.Mathlib.Nat.{le-antisymm, zero-add, mul-comm, mul-le-mul-right}
+use native.Mathlib.Nat.{le-antisymm, zero-add, zero-mul, mul-comm, mul-le-mul-right}
 use native.Mathlib.Numerals.{add-one}
 use native.Mathlib.Omega.{arith}
 use lib.IntN.{ℤ, pos}
@@ -48,10 +48,10 @@ module _ {A : Type 0} where
   unfolding replaced
   filling-done {l} {d₀} {k} {m} p e h = writing-done p (omega arith) ∙ rw (zero-add, e)
 
--- ---- cell by cell, row by row, with no division: the loops are at cell (i, j)
+-- ---- cell by cell, with no division: a loop over rows j, and in it one over columns i
 
 module _ (w n : ℕ) (g : ℕ → ℕ → ℤ) where
-  abbrev field : List ℤ
+  abbrev pub field : List ℤ
   field = byCell w n g
 
   cell-value : {i j : ℕ} → i < w → j < n → getD field (j * w + i) (pos 0) ≡ g i j
@@ -60,21 +60,36 @@ module _ (w n : ℕ) (g : ℕ → ℕ → ℤ) where
   cell-in : {i j : ℕ} → i < w → j < n → j * w + i < length field
   cell-in {i} {j} p q = subst (λ (x : ℕ). j * w + i < x) (sym (length-byCell w n g)) (cell-lt p q)
 
-  pub cell-written : {a : ℕ} {d₀ d : List ℤ} {i j : ℕ} {v : ℤ} → Writing a field d₀ (j * w + i) d → i < w → j < n → a + w * n ≤ length d₀ → v ≡ g i j
-      → Writing a field d₀ (j * w + (i + 1)) (set d (a + (j * w + i)) v)
-  cell-written {i = i} {j = j} h p q r e =
-      writing-at (writing-more (pos 0) h (cell-in p q) (rw (length-byCell w n g) r) (e ∙ sym (cell-value p q))) (omega arith)
+  -- the inner loop, which finds d₀ and has written i cells of row j: it goes on from whatever list e the rows before were written over
+  pub record RowWriting (a j : ℕ) (d₀ : List ℤ) (i : ℕ) (d : List ℤ) : Type 0 where
+    pub so-far : i ≤ w
+    pub over : (e : List ℤ) → a + w * n ≤ length e → Writing a field e (j * w) d₀ → Writing a field e (j * w + i) d
 
-  pub cell-filled : {d₀ d : List ℤ} {i j : ℕ} {v : ℤ} → Writing 0 field d₀ (j * w + i) d → i < w → j < n → w * n ≤ length d₀ → v ≡ g i j
-      → Writing 0 field d₀ (j * w + (i + 1)) (set d (j * w + i) v)
-  cell-filled {i = i} {j = j} h p q r e =
-      writing-at (filling-more (pos 0) h (cell-in p q) (rw (length-byCell w n g) r) (e ∙ sym (cell-value p q))) (omega arith)
+  pub row-none : {a : ℕ} (j : ℕ) {d₀ : List ℤ} → RowWriting a j d₀ 0 d₀
+  row-none j = record { so-far = zero-le; over = λ e r h. writing-at h (omega arith) }
 
-  pub row-written : {a i : ℕ} {d₀ d : List ℤ} (j : ℕ) → Writing a field d₀ (j * w + i) d → i ≡ w → Writing a field d₀ ((j + 1) * w) d
-  row-written j h e = writing-at h (row-end j e)
+  pub row-more : {a i j : ℕ} {d₀ d : List ℤ} {v : ℤ} → RowWriting a j d₀ i d → i < w → j < n → v ≡ g i j → RowWriting a j d₀ (i + 1) (set d (a + (j * w + i)) v)
+  row-more {i = i} {j = j} h p q e =
+      record {
+        so-far = omega arith;
+        over = λ l r o. writing-at (writing-more (pos 0) (h .over l r o) (cell-in p q) (rw (length-byCell w n g) r) (e ∙ sym (cell-value p q))) (omega arith);
+      }
 
-  pub grid-filled : {d₀ d : List ℤ} {j : ℕ} → Writing 0 field d₀ (j * w) d → n ≤ j → d ≡ filled (w * n) field d₀
-  grid-filled {j = j} h l = filling-done h (length-byCell w n g) (rw (mul-comm w n) (mul-le-mul-right w l))
+  -- the same where a field is filled from its front
+  pub row-filled : {i j : ℕ} {d₀ d : List ℤ} {v : ℤ} → RowWriting 0 j d₀ i d → i < w → j < n → v ≡ g i j → RowWriting 0 j d₀ (i + 1) (set d (j * w + i) v)
+  row-filled {i} {j} {d₀} {d} {v} h p q e = subst (λ (x : ℕ). RowWriting 0 j d₀ (i + 1) (set d x v)) (zero-add (j * w + i)) (row-more h p q e)
+
+  pub row-done : {a i : ℕ} (j : ℕ) {e d₀ d : List ℤ} → RowWriting a j d₀ i d → w ≤ i → a + w * n ≤ length e → Writing a field e (j * w) d₀ → Writing a field e ((j + 1) * w) d
+  row-done j {e = e} h l r o = writing-at (h .over e r o) (row-end j (le-antisymm (h .so-far) l))
+
+  pub rows-none : {a : ℕ} {e : List ℤ} → Writing a field e (0 * w) e
+  rows-none = writing-at writing-none (sym (zero-mul w))
+
+  pub rows-filled : {j : ℕ} {e d : List ℤ} → Writing 0 field e (j * w) d → n ≤ j → d ≡ filled (w * n) field e
+  rows-filled {j} h l = filling-done h (length-byCell w n g) (rw (mul-comm w n) (mul-le-mul-right w l))
+
+  pub rows-written : {a j : ℕ} {e d : List ℤ} → Writing a field e (j * w) d → n ≤ j → d ≡ replaced a field e
+  rows-written {j = j} h l = writing-done h (rw (length-byCell w n g, mul-comm w n) (mul-le-mul-right w l))
 
 -- ---- what a loop that writes leaves to read
 

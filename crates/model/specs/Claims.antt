@@ -1,30 +1,34 @@
 -- The theorems, as statements: of the promises of the public calls, and of the definitions behind them. The crate `theorems` proves each.
 use mathlib.Core.Path.{_≡_}
-use mathlib.Core.Bool.{Bool, false}
-use mathlib.Core.Logic.{_↔_}
-use mathlib.Core.List.{List, [], _∷_}
+use mathlib.Core.Bool.{Bool, false, _&&_}
+use mathlib.Core.Logic.{_↔_, _⊎_}
+use mathlib.Core.List.{List, [], _∷_, _++_}
 use mathlib.Core.Option.{Option, none, some}
 use Prim.Native.Nat.{ℕ, zero, suc, _*_, _^_, _≤_, _<_}
 use lib.Dec.{T}
 use lib.IntN.{ℤ, pos, negℤ, natAbs, _+ℤ_, _-ℤ_, _*ℤ_}
 use lib.ListN.{length, getD, take, drop, replicate}
 use lib.Signed.{_≤ℤ_}
-use Rattle.model.specs.Numbers.{rnd, vorticityLimits}
+use Rattle.model.specs.Numbers.{rnd, vorticityLimits, all}
 use Rattle.model.specs.Grid.{at, byCell, firstFrom}
-use Rattle.model.specs.State.{State, stateOf, parametersOf, withFlow, cells, WithinLimits, FieldWithin, OpenEverywhere}
+use Rattle.model.specs.State.{State, stateOf, parametersOf, withFlow, cells, closedWest, closedSouth, WithinLimits, FieldWithin, OpenEverywhere}
 use Rattle.model.specs.Answers.{number}
-use Rattle.model.specs.Refusals.{Place, Taken, workLength, stateTest, callTest}
+use Rattle.model.specs.Refusals.{Place, Taken, fieldsOf, besideTaken, runShort, workEnough, outside, long, moving, workLength, gridKnown, constantsWithin, stateTest, callTest}
 use Rattle.model.specs.Scheme.{vorticityAt, vorticity, D, tendencyU, tendencyV}
 use Rattle.model.specs.Rates.{energyRate, enstrophyRate}
 use Rattle.model.specs.Totals.{totalDepth, energy4}
 use Rattle.model.specs.Step.{pass, leaves, moved, stuck, twoPass, stepTest, stepAnswer, cleared}
 use Rattle.model.specs.Record.{Timestamp, recordLength, rising, decode, accepted, refused}
 use Rattle.model.specs.Program.{programCells, programWork}
-use Rattle.model.specs.Promises.{VorticityPromise, TendenciesPromise, StepPromise, RunPromise, TotalDepthPromise, TotalEnergyPromise, WritePromise, ReadPromise, ComparePromise}
+use Rattle.model.specs.Promises.{TestPromise, VorticityPromise, TendenciesPromise, StepPromise, RunPromise, TotalDepthPromise, TotalEnergyPromise, WritePromise, ReadPromise, ComparePromise}
 use Rattle.model.specs.Histories.{Call, step, History, inflowDue, runCount}
 use Rattle.model.specs.declared.Parameters.{Parameters}
 use Rattle.model.specs.declared.Field.{Field}
+use Rattle.model.specs.declared.Field.the-variants.{VelocityU, VelocityV}
 use Rattle.model.specs.declared.Refusal.{Refusal}
+use Rattle.model.specs.declared.Refusal.the-variants.{Grid, Lengths, Constants, Value, ClosedEdge}
+use Rattle.model.specs.declared.Beside.{Beside}
+use Rattle.model.specs.declared.TestAnswer.{TestAnswer}
 use Rattle.model.specs.declared.FillAnswer.{FillAnswer}
 use Rattle.model.specs.declared.StepAnswer.{StepAnswer}
 use Rattle.model.specs.declared.RunAnswer.{RunAnswer}
@@ -32,6 +36,7 @@ use Rattle.model.specs.declared.TotalAnswer.{TotalAnswer}
 use Rattle.model.specs.declared.WriteAnswer.{WriteAnswer}
 use Rattle.model.specs.declared.ReadAnswer.{ReadAnswer}
 use Rattle.model.specs.declared.CompareAnswer.{CompareAnswer}
+use Rattle.model.specs.declared.TestAnswer.the-variants as Q
 use Rattle.model.specs.declared.FillAnswer.the-variants as F
 use Rattle.model.specs.declared.StepAnswer.the-variants as S
 use Rattle.model.specs.declared.RunAnswer.the-variants as R
@@ -62,11 +67,52 @@ pub record AcceptedClaim : Type 0 where
       → (callTest s extra m rooms ≡ none) ↔ (WithinLimits s × EachWithin extra × EachRoom m rooms)
 
 -- a scan finds the lowest index at which its test holds
+abbrev pub FirstAt : (ℕ → Bool) → ℕ → ℕ → Type 0
+FirstAt bad m k = (k < m) × T (bad k) × ((i : ℕ) → i < k → bad i ≡ false)
+
+abbrev pub Clean : (ℕ → Bool) → ℕ → Type 0
+Clean bad m = (i : ℕ) → i < m → bad i ≡ false
+
 abbrev pub ScanClaim : Type 0
-ScanClaim = (bad : ℕ → Bool) (m k : ℕ) → (firstFrom bad m 0 ≡ some k) ↔ ((k < m) × T (bad k) × ((i : ℕ) → i < k → bad i ≡ false))
+ScanClaim = (bad : ℕ → Bool) (m k : ℕ) → (firstFrom bad m 0 ≡ some k) ↔ FirstAt bad m k
+
+-- the tests by themselves refuse with r exactly where r's cause holds and the tests before it pass.
+-- A test stops at its own refusal where what it asks does not hold; where it does, the rest decides.
+abbrev pub Stops : Type 0 → Refusal → Type 0 → Refusal → Type 0
+Stops asked own rest r = ((asked → ⊥) × (own ≡ r)) ⊎ (asked × rest)
+
+-- a place outside, in the first field that has one, and there at the lowest cell
+abbrev pub FirstOutside : List Taken → Place → Type 0
+FirstOutside [] p = ⊥
+FirstOutside (f ∷ l) p = ((f .field ≡ p .field) × FirstAt (outside f) (f .count) (p .cell)) ⊎ (Clean (outside f) (f .count) × FirstOutside l p)
+
+abbrev pub Inside : List Taken → Type 0
+Inside [] = Unit
+Inside (f ∷ l) = Clean (outside f) (f .count) × Inside l
+
+-- a velocity on a closed edge: u before v, lowest cell
+abbrev pub FirstMoving : State → Place → Type 0
+FirstMoving s p =
+    ((VelocityU ≡ p .field) × FirstAt (moving s closedWest (s .u)) (cells s) (p .cell))
+    ⊎ (Clean (moving s closedWest (s .u)) (cells s) × ((VelocityV ≡ p .field) × FirstAt (moving s closedSouth (s .v)) (cells s) (p .cell)))
+
+abbrev pub Cause : State → Beside → List ℤ → Refusal → Type 0
+Cause s beside x r =
+    let extra = besideTaken (cells s) beside x in
+    Stops (T (gridKnown s && runShort beside)) Grid
+    (Stops (T (all long (fieldsOf s) && (all long extra && workEnough (cells s) beside))) Lengths
+    (Stops (T (constantsWithin s)) Constants
+    (((p : Place) × (Value (p .field) (p .cell) ≡ r) × FirstOutside (fieldsOf s ++ extra) p)
+    ⊎ (Inside (fieldsOf s ++ extra) × ((p : Place) × (ClosedEdge (p .field) (p .cell) ≡ r) × FirstMoving s p))) r) r) r
+
+pub record TestClaim : Type 0 where
+  pub passed : (s : State) (beside : Beside) (x : List ℤ)
+      → TestPromise s beside x Q.Passed ↔ (WithinLimits s × EachWithin (besideTaken (cells s) beside x) × T (runShort beside) × T (workEnough (cells s) beside))
+  pub refused : (s : State) (beside : Beside) (x : List ℤ) (r : Refusal) → TestPromise s beside x (Q.Refused r) ↔ Cause s beside x r
 
 -- each promise can be met, for any numbers and any lengths
 pub record MetClaim : Type 0 where
+  pub test : (s : State) (beside : Beside) (x : List ℤ) → (a : TestAnswer) × TestPromise s beside x a
   pub vorticity : (s : State) (d : List ℤ) → (a : FillAnswer) × (d′ : List ℤ) × VorticityPromise s d a d′
   pub tendencies : (s : State) (q dh du dv : List ℤ) → (a : FillAnswer) × (dh′ : List ℤ) × (du′ : List ℤ) × (dv′ : List ℤ) × TendenciesPromise s q dh du dv a dh′ du′ dv′
   pub step : (s : State) (inflow work : List ℤ) → (a : StepAnswer) × (s′ : State) × (work′ : List ℤ) × StepPromise s inflow work a s′ work′
@@ -79,6 +125,7 @@ pub record MetClaim : Type 0 where
 
 -- and leaves nothing free: not the answer, and no lent number afterwards
 pub record FixedClaim : Type 0 where
+  pub test : (s : State) (beside : Beside) (x : List ℤ) (a b : TestAnswer) → TestPromise s beside x a → TestPromise s beside x b → a ≡ b
   pub vorticity : (s : State) (d x y : List ℤ) (a b : FillAnswer) → VorticityPromise s d a x → VorticityPromise s d b y → (a ≡ b) × (x ≡ y)
   pub tendencies : (s : State) (q dh du dv x y z x′ y′ z′ : List ℤ) (a b : FillAnswer) → TendenciesPromise s q dh du dv a x y z → TendenciesPromise s q dh du dv b x′ y′ z′
       → (a ≡ b) × (x ≡ x′) × (y ≡ y′) × (z ≡ z′)

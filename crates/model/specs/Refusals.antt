@@ -11,6 +11,8 @@ use Rattle.model.specs.Grid.{firstFrom}
 use Rattle.model.specs.State.{State, cells, known, boundaryOf, closedWest, closedSouth}
 use Rattle.model.specs.declared.Field.{Field}
 use Rattle.model.specs.declared.Field.the-variants.{Depth, Bottom, VelocityU, VelocityV, Vorticity, Inflow}
+use Rattle.model.specs.declared.Beside.{Beside}
+use Rattle.model.specs.declared.Beside.the-variants as B
 use Rattle.model.specs.declared.Refusal.{Refusal}
 use Rattle.model.specs.declared.Refusal.the-variants.{Grid, Lengths, Constants, Value, ClosedEdge, Destination}
 
@@ -73,6 +75,25 @@ vorticityTaken s q = record { field = Vorticity; count = cells s; limits = vorti
 
 abbrev pub inflowTaken : State → List ℤ → List Taken
 inflowTaken s inflow = record { field = Inflow; count = cells s; limits = inflowLimits; numbers = inflow } ∷ []
+
+-- what a call takes beside its state of m cells: its further field x, whether its run is short enough, and its work space long enough
+abbrev pub besideTaken : ℕ → Beside → List ℤ → List Taken
+besideTaken m B.Nothing x = []
+besideTaken m B.Vorticity x = record { field = Vorticity; count = m; limits = vorticityLimits; numbers = x } ∷ []
+besideTaken m (B.Inflow work) x = record { field = Inflow; count = m; limits = inflowLimits; numbers = x } ∷ []
+besideTaken m (B.Run steps work) x = record { field = Inflow; count = m; limits = inflowLimits; numbers = x } ∷ []
+
+abbrev pub runShort : Beside → Bool
+runShort B.Nothing = true
+runShort B.Vorticity = true
+runShort (B.Inflow work) = true
+runShort (B.Run steps work) = leb steps longestRun
+
+abbrev pub workEnough : ℕ → Beside → Bool
+workEnough m B.Nothing = true
+workEnough m B.Vorticity = true
+workEnough m (B.Inflow work) = leb (8 * m) work
+workEnough m (B.Run steps work) = leb (8 * m) work
 
 -- the first place outside: fields in their order, then lowest cell
 abbrev pub outside : Taken → ℕ → Bool

@@ -10,26 +10,24 @@ use lib.ListN.{length}
 use Rattle.model.specs.Numbers.{all}
 use Rattle.model.specs.Grid.{firstFrom}
 use Rattle.model.specs.State.{State, stateOf, cells, boundaryOf, closedWest, closedSouth}
-use Rattle.model.specs.Refusals.{_then_, must, Place, placed, refusedAt, Taken, outside, firstOutside, depthOf, bottomOf, uOf, vOf, fieldsOf, long, gridKnown, gridTest, runLengthTest, lengthTest, workTest, constantsWithin, constantsTest, valueTest, edgeTest, contentTest, stateTest}
+use Rattle.model.specs.Refusals.{_then_, placed, refusedAt, Taken, depthOf, bottomOf, uOf, vOf, fieldsOf, besideTaken, runShort, workEnough, long, gridKnown, constantsWithin, valueTest, edgeTest}
 use Rattle.model.specs.Answers.{toldTest}
-use Rattle.model.specs.Step.{stepTest, runTest}
 use Rattle.model.specs.Promises.{testOf, testAnswer, TestPromise}
 use Rattle.model.specs.declared.Parameters.{Parameters}
 use Rattle.model.specs.declared.BoundaryByte.{BoundaryByte}
 use Rattle.model.specs.declared.Field.{Field}
 use Rattle.model.specs.declared.Field.the-variants.{VelocityU, VelocityV}
 use Rattle.model.specs.declared.Refusal.{Refusal}
-use Rattle.model.specs.declared.Refusal.the-variants.{Grid, Lengths, Constants, Value, ClosedEdge}
+use Rattle.model.specs.declared.Refusal.the-variants.{Grid, Lengths, Constants, ClosedEdge}
 use Rattle.model.specs.declared.Beside.{Beside}
-use Rattle.model.specs.declared.Beside.the-variants.{Nothing, Vorticity, Inflow, Run}
 use Rattle.model.specs.declared.TestAnswer.{TestAnswer}
 use Rattle.model.specs.declared.TestAnswer.the-variants.{Passed, Refused}
 use Rattle.theorems.specs.Tests.{and-iff, eq-iff, differ}
+use Rattle.theorems.specs.Tested.{in-order, placed-then, value-append}
 use Rattle.state.specs.declared.Found.the-variants.{At, Nowhere}
 use Rattle.state.specs.declared.Trial.{Trial}
 use Rattle.state.specs.declared.Trial.the-variants.{West, South}
 use Rattle.state.specs.Trials.{foundBy, foundIn, cellTest, badIn, refusalBy}
-use Rattle.state.specs.Beside.{besideTaken, runShort, workEnough}
 
 -- ---- truth
 
@@ -62,10 +60,6 @@ passed-then p e = sym (ap (λ a. testAnswer (foundIn a then p)) e)
 pub after : {a r : TestAnswer} (o p : Option Refusal) → a ≡ testAnswer o → r ≡ testAnswer (foundIn a then p) → r ≡ testAnswer (o then p)
 after o p e f = f ∙ ap (λ a. testAnswer (foundIn a then p)) e ∙ ap (λ q. testAnswer (q then p)) (found-answer o)
 
-pub then-assoc : (a b c : Option Refusal) → (a then b) then c ≡ a then (b then c)
-then-assoc none b c = refl
-then-assoc (some r) b c = refl
-
 -- ---- cells
 
 placed-some : (r : Field → ℕ → Refusal) (f : Field) (o : Option ℕ) (k : ℕ) → foundBy o ≡ At k → refusedAt r (placed f o none) ≡ some (r f k)
@@ -84,21 +78,6 @@ module _ (w n : ℕ) (f : List ℤ) (field : Field) (t : Trial) where
   pub cell-clean : foundBy (firstFrom (badIn t w f) (w * n) 0) ≡ Nowhere → cellTest w n f field t ≡ none
   unfolding cellTest
   cell-clean e = placed-none (refusalBy t) field (firstFrom (badIn t w f) (w * n) 0) e
-
--- a place found first, or else later
-placed-then : (r : Field → ℕ → Refusal) (f : Field) (o : Option ℕ) (later : Option Place) → refusedAt r (placed f o later) ≡ refusedAt r (placed f o none) then refusedAt r later
-placed-then r f none later = refl
-placed-then r f (some k) later = refl
-
-value-append : (a b : List Taken) → valueTest (a ++ b) ≡ valueTest a then valueTest b
-unfolding valueTest
-value-append [] b = refl
-value-append (x ∷ a) b =
-    let o = firstFrom (outside x) (x .count) 0 in
-    placed-then Value (x .field) o (firstOutside (a ++ b))
-    ∙ ap (λ q. refusedAt Value (placed (x .field) o none) then q) (value-append a b)
-    ∙ sym (then-assoc (refusedAt Value (placed (x .field) o none)) (valueTest a) (valueTest b))
-    ∙ ap (λ q. q then valueTest b) (sym (placed-then Value (x .field) o (firstOutside a)))
 
 -- the values of further fields
 pub values-after : {a r : TestAnswer} (l m : List Taken) → a ≡ testAnswer (valueTest l) → r ≡ testAnswer (foundIn a then valueTest m) → r ≡ testAnswer (valueTest (l ++ m))
@@ -136,40 +115,6 @@ pub one-long : (l : List ℤ) (m : ℕ) → T (eqb (length l) m && true) → len
 one-long l m t = eq-iff (length l) m .0 (and-iff (eqb (length l) m) true .0 t .0)
 
 -- ---- all tests, as the code makes them
-
-all-append : (a b : List Taken) → all long (a ++ b) ≡ all long a && all long b
-all-append [] b = refl
-all-append (x ∷ a) b = by (long x) (all-append a b)
-  where
-    by : (t : Bool) → all long (a ++ b) ≡ all long a && all long b → t && all long (a ++ b) ≡ (t && all long a) && all long b
-    by true e = e
-    by false e = refl
-
-regroup : (a b c : Bool) (q : Option Refusal) → must (a && b) Lengths then must c Lengths then q ≡ must a Lengths then must (b && c) Lengths then q
-regroup true true c q = refl
-regroup true false c q = refl
-regroup false b c q = refl
-
-in-order-by : (s : State) (extra : List Taken) (short enough : Bool)
-    → stateTest s extra (must short Grid) (must enough Lengths)
-    ≡ must (gridKnown s) Grid then must short Grid then must (all long (fieldsOf s)) Lengths then must (all long extra && enough) Lengths
-    then must (constantsWithin s) Constants then valueTest (fieldsOf s ++ extra) then edgeTest s
-unfolding stateTest gridTest lengthTest contentTest constantsTest
-in-order-by s extra short enough =
-    let rest = must (constantsWithin s) Constants then valueTest (fieldsOf s ++ extra) then edgeTest s in
-    ap (λ t. must (gridKnown s) Grid then must short Grid then must t Lengths then must enough Lengths then rest) (all-append (fieldsOf s) extra)
-    ∙ ap (λ q. must (gridKnown s) Grid then must short Grid then q) (regroup (all long (fieldsOf s)) (all long extra) enough rest)
-
-pub in-order : (s : State) (beside : Beside) (x : List ℤ)
-    → testOf s beside x
-    ≡ must (gridKnown s) Grid then must (runShort beside) Grid then must (all long (fieldsOf s)) Lengths
-    then must (all long (besideTaken (cells s) beside x) && workEnough (cells s) beside) Lengths
-    then must (constantsWithin s) Constants then valueTest (fieldsOf s ++ besideTaken (cells s) beside x) then edgeTest s
-unfolding stepTest runTest workTest runLengthTest
-in-order s Nothing x = in-order-by s [] true true
-in-order s Vorticity x = in-order-by s (besideTaken (cells s) Vorticity x) true true
-in-order s (Inflow m) x = in-order-by s (besideTaken (cells s) (Inflow m) x) true (workEnough (cells s) (Inflow m))
-in-order s (Run k m) x = in-order-by s (besideTaken (cells s) (Run k m) x) (runShort (Run k m)) (workEnough (cells s) (Run k m))
 
 -- what is answered, by the first test that fails
 module _ (s : State) (beside : Beside) (x : List ℤ) where

@@ -1,3 +1,2 @@
--- a cell's test; the tests of cells in order; what a call takes beside its state
+-- a cell's test, and the tests of cells in order
 pub mod Trials
-pub mod Beside

@@ -7,11 +7,12 @@ use Rattle.model.specs.Scheme.{vorticity, hTendencies, uTendencies, vTendencies
 use Rattle.model.specs.Totals.{totalDepth, energy4}
 use Rattle.model.specs.Step.{stepTest, stepAnswer, stepState, runTest, runOf, workLeft}
 use Rattle.model.specs.Record.{encode, recordLength, compareAnswer}
-use Rattle.model.specs.Promises.{leftBy, fillAnswer, vorticityTest, tendenciesTest, totalTest, totalAnswer, writeTest, writeAnswer, readAnswer, readInto, readOf}
+use Rattle.model.specs.Promises.{testOf, testAnswer, leftBy, fillAnswer, vorticityTest, tendenciesTest, totalTest, totalAnswer, writeTest, writeAnswer, readAnswer, readInto, readOf}
 use Rattle.model.specs.Claims.{MetClaim, FixedClaim}
 
 pub met : MetClaim
 met = record {
+  test = λ s beside x. (testAnswer (testOf s beside x), record { answers = refl; tells = refl });
   vorticity = λ s d.
       let t = vorticityTest s (length d) in (fillAnswer t, leftBy t (filled (cells s) (vorticity s) d) d, record { answers = refl; tells = refl; fills = refl });
   tendencies = λ s q dh du dv.
@@ -53,6 +54,7 @@ met = record {
 
 pub fixed : FixedClaim
 fixed = record {
+  test = λ s beside x a b p q. p .answers ∙ sym (q .answers);
   vorticity = λ s d x y a b p q. (p .answers ∙ sym (q .answers), p .fills ∙ sym (q .fills));
   tendencies = λ s q dh du dv x y z x′ y′ z′ a b p r. (
     p .answers ∙ sym (r .answers),

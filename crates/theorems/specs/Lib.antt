@@ -4,6 +4,7 @@
 pub mod Tests
 pub mod Scans
 pub mod Limits
+pub mod Tested
 pub mod Fixed
 pub mod Refused
 -- what the calls fill in

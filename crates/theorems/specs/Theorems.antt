@@ -1,7 +1,8 @@
 -- Every theorem. `theorems` has each claim of the model, proved. Assumes nothing.
-use Rattle.model.specs.Claims.{LimitsClaim, AcceptedClaim, ScanClaim, MetClaim, FixedClaim, RefusedClaim, WorkClaim, RoundingClaim, OwnVorticityClaim, VorticityClaim, TendenciesAcceptedClaim, TendenciesClaim, PassClaim, StepClaim, RunClaim, RunStepsClaim, TotalsClaim, RoundTripClaim, ReadClaim, ProgramClaim, RewriteClaim, CompareClaim, EnergyRateClaim, EnergyClaim, EnstrophyClaim, PeriodicEnstrophyClaim, BalanceClaim, KeptClaim}
+use Rattle.model.specs.Claims.{LimitsClaim, AcceptedClaim, ScanClaim, TestClaim, MetClaim, FixedClaim, RefusedClaim, WorkClaim, RoundingClaim, OwnVorticityClaim, VorticityClaim, TendenciesAcceptedClaim, TendenciesClaim, PassClaim, StepClaim, RunClaim, RunStepsClaim, TotalsClaim, RoundTripClaim, ReadClaim, ProgramClaim, RewriteClaim, CompareClaim, EnergyRateClaim, EnergyClaim, EnstrophyClaim, PeriodicEnstrophyClaim, BalanceClaim, KeptClaim}
 use Rattle.theorems.specs.Limits.{limits-tested, accepted}
 use Rattle.theorems.specs.Scans.{scan}
+use Rattle.theorems.specs.Tested.{tests}
 use Rattle.theorems.specs.Fixed.{met, fixed}
 use Rattle.theorems.specs.Refused.{refused-leaves, work-left}
 use Rattle.integers.specs.Rounding.{rounding}
@@ -28,6 +29,7 @@ pub record Theorems : Type 0 where
   pub limits : LimitsClaim
   pub accepted : AcceptedClaim
   pub scan : ScanClaim
+  pub tests : TestClaim
   pub met : MetClaim
   pub fixed : FixedClaim
   pub refused : RefusedClaim
@@ -62,6 +64,7 @@ theorems =
       limits = limits-tested;
       accepted = accepted;
       scan = scan;
+      tests = tests;
       met = met;
       fixed = fixed;
       refused = refused-leaves;

@@ -1,6 +1,6 @@
 -- `basin::basin_rnd` meets its contract. Assumes nothing.
-use mathlib.Core.Path.{_≡_, refl, sym, ap, subst, _∙_}
-use mathlib.Core.Bool.{Bool, true, false, cond, _&&_}
+use mathlib.Core.Path.{_≡_, sym, ap, _∙_}
+use mathlib.Core.Bool.{true, false, cond, _&&_}
 use mathlib.Core.List.{List, [], _∷_}
 use borrow.Author.Needs.{needs}
 use borrow.Author.Tests.{not-true, not-false, le-leb, lt-leb}
@@ -11,7 +11,7 @@ use lib.Seq.{sets}
 use mir.Facts.{toZ-ofZ}
 use mir.Syntax.{w64}
 use Rattle.model.specs.Numbers.{_to_, within, rnd}
-use Rattle.integers.specs.Bounds.{held, held-is, abs-within}
+use Rattle.integers.specs.Bounds.{held-is, abs-within}
 use Rattle.integers.specs.Rounding.{Roundable, mostDividend, mostDivisor}
 use Rattle.theorems.specs.Tests.{true-T, and-iff, within-iff}
 use Rattle.basin.specs.Told.{roundable, Rounded}

@@ -1,10 +1,8 @@
 -- `basin::is_roundable` meets its contract. Assumes nothing.
 use mathlib.Core.Path.{ap, _∙_}
 use borrow.Author.Needs.{needs}
-use lib.IntN.{pos, negℤ}
 use mir.Facts.{toZ-ofZ}
-use Rattle.model.specs.Numbers.{_to_, within}
-use Rattle.integers.specs.Rounding.{mostDividend, mostDivisor}
+use Rattle.model.specs.Numbers.{within}
 use Rattle.state.proofs.TestLaws.{and-holds, and-fails}
 use Rattle.basin.proofs.is_roundable.Statement.{statement}
 use Rattle.basin.proofs.is_roundable.Tie as tie

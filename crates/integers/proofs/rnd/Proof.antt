@@ -6,11 +6,10 @@ use Prim.Native.Nat.{ℕ, _+_, _*_, _/_, _≤_}
 use native.Mathlib.Nat.{le-trans, not-suc-le-zero, mul-le-mul-left}
 use native.Mathlib.Omega.{arith}
 use lib.Dec.{T, leb→le}
-use lib.IntN.{ℤ, pos, negsuc, negℤ, natAbs, _-ℤ_, +ℤ-idl}
+use lib.IntN.{ℤ, pos, negsuc, natAbs, _-ℤ_, +ℤ-idl}
 use lib.Signed.{ltZ, _≤ℤ_}
 use borrow.Author.Tests.{ltb-true}
 use mir.Syntax.{w64}
-use mir.Val.{toZ}
 use Rattle.model.specs.Numbers.{rnd}
 use Rattle.integers.specs.Ring.{Expr, var, con, _⊖_}
 use Rattle.integers.specs.Bounds.{Sizes, ∎, _◂_, held, fits, exact, unsigned}

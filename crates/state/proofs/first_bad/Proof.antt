@@ -1,7 +1,6 @@
 -- `state::first_bad` meets its contract: the loops have passed the cells before (i, j). Assumes nothing.
 use mathlib.Core.Path.{_≡_, refl, sym, ap, _∙_}
-use mathlib.Core.Bool.{Bool}
-use Prim.Native.Nat.{ℕ, _+_, _*_, _-_, _≤_, _<_, zero-le}
+use Prim.Native.Nat.{_+_, _*_, _-_, _≤_, _<_, zero-le}
 use native.Mathlib.Nat.{zero-mul, mul-comm, mul-le-mul-right}
 use native.Mathlib.Omega.{arith}
 use lib.IntN.{ℤ, pos}
@@ -11,7 +10,7 @@ use Rattle.integers.specs.Bounds.{held-is}
 use Rattle.grid.specs.Cells.{cell-lt, row-end, by-index}
 use Rattle.grid.specs.Scanning.{Scanned, scanned-none, scanned-at, scanned-more, scanned-bad, scanned-all}
 use Rattle.state.specs.Trials.{badAt, badIn, foundBy}
-use Rattle.state.specs.declared.Found.the-variants.{At, Nowhere}
+use Rattle.state.specs.declared.Found.the-variants.{Nowhere}
 use Rattle.state.proofs.first_bad.Statement.{statement}
 use Rattle.state.proofs.first_bad.Tie as tie
 

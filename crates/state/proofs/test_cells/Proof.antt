@@ -3,8 +3,7 @@ use Prim.Native.Nat.{_*_}
 use borrow.Author.Needs.{needs}
 use mathlib.Core.List.{_++_}
 use Rattle.model.specs.State.{State, stateOf}
-use Rattle.model.specs.Refusals.{fieldsOf, valueTest, edgeTest}
-use Rattle.state.specs.Beside.{besideTaken}
+use Rattle.model.specs.Refusals.{fieldsOf, valueTest, edgeTest, besideTaken}
 use Rattle.state.proofs.TestLaws.{after, values-after, fields-long}
 use Rattle.state.proofs.test_cells.Statement.{statement}
 use Rattle.state.proofs.test_cells.Tie as tie

@@ -7,11 +7,10 @@ use borrow.Author.Needs.{needs}
 use borrow.Author.Tests.{not-true, not-false}
 use Rattle.model.specs.Numbers.{all}
 use Rattle.model.specs.State.{State, stateOf}
-use Rattle.model.specs.Refusals.{fieldsOf, long, gridKnown, constantsWithin}
+use Rattle.model.specs.Refusals.{fieldsOf, long, gridKnown, besideTaken, runShort, workEnough}
 use Rattle.grid.specs.Cells.{cells-most}
 use Rattle.theorems.specs.Tests.{true-T, and-iff}
 use Rattle.theorems.specs.Limits.{known-iff}
-use Rattle.state.specs.Beside.{besideTaken, runShort, workEnough}
 use Rattle.state.proofs.TestLaws.{unknown-grid, too-long, wrong-length, wrong-beside, outside-constant, then-content, promised}
 use Rattle.state.proofs.test_state.Statement.{statement}
 use Rattle.state.proofs.test_state.Tie as tie

@@ -1,7 +1,6 @@
 -- `state::then_beside` meets its contract. Assumes nothing.
-use mathlib.Core.Path.{ap, sym, _∙_}
 use borrow.Author.Needs.{needs}
-use Rattle.model.specs.Refusals.{_then_, valueTest}
+use Rattle.model.specs.Refusals.{valueTest}
 use Rattle.state.proofs.TestLaws.{answer-found, one-long}
 use Rattle.state.proofs.then_beside.Statement.{statement}
 use Rattle.state.proofs.then_beside.Tie as tie

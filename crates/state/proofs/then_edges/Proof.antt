@@ -6,7 +6,8 @@ use Rattle.model.specs.Promises.{testAnswer}
 use Rattle.model.specs.declared.Field.the-variants.{VelocityU, VelocityV}
 use Rattle.state.specs.declared.Trial.the-variants.{West, South}
 use Rattle.state.specs.Trials.{foundIn, cellTest}
-use Rattle.state.proofs.TestLaws.{after, then-assoc, edges-are}
+use Rattle.theorems.specs.Tested.{then-assoc}
+use Rattle.state.proofs.TestLaws.{after, edges-are}
 use Rattle.state.proofs.then_edges.Statement.{statement}
 use Rattle.state.proofs.then_edges.Tie as tie
 
