@@ -116,3 +116,8 @@ pub fn rnd(a: i64, b: i64) -> Option<i64> {
         _ => None,
     }
 }
+
+// The README's examples are tests.
+#[cfg(doctest)]
+#[doc = include_str!("../../../README.md")]
+struct Readme;

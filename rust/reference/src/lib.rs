@@ -31,8 +31,3 @@ pub use refusal::{
 pub use scheme::{energy_rate, enstrophy_rate, potential_vorticity, tendencies};
 pub use state::{test_call, Beside, Boundary, Parameters, State};
 pub use stepping::{run, step, total_depth, total_energy};
-
-// The README's example is a test.
-#[cfg(doctest)]
-#[doc = include_str!("../../../README.md")]
-struct Readme;
