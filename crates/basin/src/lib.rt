@@ -16,7 +16,7 @@ use model::TestAnswer;
 // ---- numbers into a lent answer
 
 // Stores x in place k, where there is one.
-pub fn put(answer: &mut [u64], k: usize, x: u64)
+fn put(answer: &mut [u64], k: usize, x: u64)
     ensures { λ _. ⌜ now (answer .exit) ≡ set (now (answer .entry)) k x ⌝ }
 {
     if k < answer.len() {
@@ -24,14 +24,15 @@ pub fn put(answer: &mut [u64], k: usize, x: u64)
     }
 }
 
-pub fn tell_one(answer: &mut [u64], a: u64) -> u64
+// Each tells its numbers: the first is returned, and all are stored.
+fn tell_one(answer: &mut [u64], a: u64) -> u64
     ensures { λ r. ⌜ Told (a ∷ []) (now (answer .entry)) r (now (answer .exit)) ⌝ }
 {
     put(answer, 0, a);
     a
 }
 
-pub fn tell_two(answer: &mut [u64], a: u64, b: u64) -> u64
+fn tell_two(answer: &mut [u64], a: u64, b: u64) -> u64
     ensures { λ r. ⌜ Told (a ∷ b ∷ []) (now (answer .entry)) r (now (answer .exit)) ⌝ }
 {
     put(answer, 0, a);
@@ -39,7 +40,7 @@ pub fn tell_two(answer: &mut [u64], a: u64, b: u64) -> u64
     a
 }
 
-pub fn tell_three(answer: &mut [u64], a: u64, b: u64, c: u64) -> u64
+fn tell_three(answer: &mut [u64], a: u64, b: u64, c: u64) -> u64
     ensures { λ r. ⌜ Told (a ∷ b ∷ c ∷ []) (now (answer .entry)) r (now (answer .exit)) ⌝ }
 {
     put(answer, 0, a);
@@ -48,7 +49,7 @@ pub fn tell_three(answer: &mut [u64], a: u64, b: u64, c: u64) -> u64
     a
 }
 
-pub fn field_number(field: Field) -> u64
+fn field_number(field: Field) -> u64
     ensures { λ r. ⌜ r ≡ fieldNumber field ⌝ }
 {
     match field {
@@ -62,7 +63,7 @@ pub fn field_number(field: Field) -> u64
 }
 
 // 01's number of a refusal, and the values returned with it.
-pub fn tell_refusal(answer: &mut [u64], refusal: Refusal) -> u64
+fn tell_refusal(answer: &mut [u64], refusal: Refusal) -> u64
     ensures { λ r. ⌜ Told (number refusal ∷ values refusal) (now (answer .entry)) r (now (answer .exit)) ⌝ }
 {
     match refusal {
@@ -81,7 +82,7 @@ pub fn tell_refusal(answer: &mut [u64], refusal: Refusal) -> u64
     }
 }
 
-pub fn tell_test(answer: &mut [u64], test: TestAnswer) -> u64
+fn tell_test(answer: &mut [u64], test: TestAnswer) -> u64
     ensures { λ r. ⌜ Told (testNumbers test) (now (answer .entry)) r (now (answer .exit)) ⌝ }
 {
     match test {
@@ -91,6 +92,8 @@ pub fn tell_test(answer: &mut [u64], test: TestAnswer) -> u64
 }
 
 // ---- the tests by themselves
+
+// Each rules out, for instance: a number that is not 01's; a value stored past what is told, or none where there is room.
 
 // Tests 1 to 5 of a state: what total depth, total energy, potential vorticity and the writer test first.
 #[no_mangle]
@@ -222,7 +225,7 @@ pub extern "C" fn basin_test_run(
 // ---- rounding
 
 // Whether rnd takes the quotient a/b.
-pub fn is_roundable(a: i64, b: i64) -> bool
+fn is_roundable(a: i64, b: i64) -> bool
     ensures { λ r. ⌜ r ≡ roundable a b ⌝ }
 {
     let dividend = Range {
@@ -236,7 +239,8 @@ pub fn is_roundable(a: i64, b: i64) -> bool
     integers::within(a, dividend) && integers::within(b, divisor)
 }
 
-// 01's rnd(a/b) into the first place of a lent slice.
+// 01's rnd(a/b) into the first place of a lent slice. It rules out, for instance: halves toward zero; a result where there is none to
+// give.
 #[no_mangle]
 pub extern "C" fn basin_rnd(a: i64, b: i64, rounded: &mut [i64]) -> u64
     ensures { λ k. ⌜ Rounded a b (now (rounded .entry)) k (now (rounded .exit)) ⌝ }

@@ -8,7 +8,7 @@ ghost use Rattle.integers.specs.Ranges.{between};
 ghost use Rattle.integers.specs.Rounding.{Roundable, mostDividend, mostDivisor};
 
 // The size of a number.
-pub fn magnitude(a: i64) -> u64
+fn magnitude(a: i64) -> u64
     requires { ⌜ natAbs a ≤ mostDividend ⌝ }
     ensures { λ r. ⌜ r ≡ natAbs a ⌝ }
 {
@@ -16,7 +16,7 @@ pub fn magnitude(a: i64) -> u64
 }
 
 // The nearest whole number to t/d, halves up: one division gives quotient and remainder.
-pub fn nearest(t: u64, d: u64) -> u64
+fn nearest(t: u64, d: u64) -> u64
     requires { ⌜ (t ≤ mostDividend) × (1 ≤ d) × (d ≤ mostDivisor) ⌝ }
     ensures { λ r. ⌜ r ≡ (2 * t + d) / (2 * d) ⌝ }
 {

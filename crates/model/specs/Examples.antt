@@ -9,20 +9,23 @@ use lib.ListN.{length, take, drop, replicate}
 use Rattle.model.specs.Numbers.{rnd, eqℤ, sameBy, all}
 use Rattle.model.specs.Grid.{filled}
 use Rattle.model.specs.State.{State, withFlow, cells}
-use Rattle.model.specs.Answers.{toldFill, toldStep, toldRun, toldTotal, toldWrite, toldRead, toldCompare}
+use Rattle.model.specs.Answers.{toldTest, toldFill, toldStep, toldRun, toldTotal, toldWrite, toldRead, toldCompare}
 use Rattle.model.specs.Scheme.{vorticity, hTendencies, uTendencies, vTendencies}
 use Rattle.model.specs.Rates.{energyRate, enstrophyRate}
 use Rattle.model.specs.Totals.{totalDepth, energy4}
 use Rattle.model.specs.Step.{stepTest, stepAnswer, stepState, Ran, runTest, runOf, workLeft}
 use Rattle.model.specs.Record.{bytes, Decoded, sameState, encode, recordLength, compareAnswer}
 use Rattle.model.specs.Program.{text, programOutput}
-use Rattle.model.specs.Promises.{fillAnswer, leftBy, totalTest, totalAnswer, writeAnswer, readAnswer, readInto, vorticityTest, tendenciesTest, writeTest, readOf}
+use Rattle.model.specs.Promises.{testOf, testAnswer, fillAnswer, leftBy, totalTest, totalAnswer, writeAnswer, readAnswer, readInto, vorticityTest, tendenciesTest, writeTest, readOf}
 use Rattle.model.specs.Opened.{everything}
+use Rattle.model.specs.declared.Beside.{Beside}
+use Rattle.model.specs.declared.Beside.the-variants.{Nothing, Vorticity, Inflow, Run}
 
 -- ---- an example: what a call takes, then what it answers (01's number and values) and what it leaves in each lent slice
 
 pub data Example : Type 0 where
   rounds : (a b r : ℤ) → Example
+  tests : State → Beside → (x : List ℤ) → (answer : List ℤ) → Example
   vorticities : State → (d : List ℤ) → (answer d′ : List ℤ) → Example
   tends : State → (q dh du dv : List ℤ) → (answer dh′ du′ dv′ : List ℤ) → Example
   rates : State → (q dh du dv : List ℤ) → (energy enstrophy : ℤ) → Example
@@ -52,6 +55,7 @@ ranIs r s a h u v = toldRun (r .answer) is a && stateIs s (r .state) h u v
 
 abbrev pub holds : Example → Bool
 holds (rounds a b r) = eqℤ (rnd a b) r
+holds (tests s beside x a) = toldTest (testAnswer (testOf s beside x)) is a
 holds (vorticities s d a d′) =
     toldFill (fillAnswer (vorticityTest s (length d))) is a && leftBy (vorticityTest s (length d)) (filled (cells s) (vorticity s) d) d is d′
 holds (tends s q dh du dv a dh′ du′ dv′) =
@@ -276,6 +280,19 @@ orders =
     ∷ tends (faulty 1 (pos 1) (just (pos 1000)) none none none) none none [] none (just (pos 8)) none [] none
     ∷ tends (faulty 1 (pos 1) (just (pos 1000)) none none none) none none none [] (just (pos 8)) none none []
     ∷ writes (one (pos 2000)) 0 (replicate 55 7) (just (pos 8)) (replicate 55 7)
+    -- the tests by themselves, by what a call takes beside its state
+    ∷ tests (one (pos 2000)) Nothing [] accepted
+    ∷ tests (two 2 (pos 1000)) Nothing [] (pos 5 ∷ pos 2 ∷ pos 0 ∷ [])
+    ∷ tests (one (pos 2000)) Vorticity (just (pos 2000000)) accepted
+    ∷ tests (one (pos 2000)) Vorticity (just (pos 2000001)) (pos 4 ∷ pos 4 ∷ pos 0 ∷ [])
+    ∷ tests (one (pos 2000)) Vorticity [] (just (pos 2))
+    ∷ tests (one (pos 2000)) (Inflow 8) none accepted
+    ∷ tests (one (pos 2000)) (Inflow 7) none (just (pos 2))
+    ∷ tests (one (pos 2000)) (Inflow 8) (just (pos 1001)) (pos 4 ∷ pos 5 ∷ pos 0 ∷ [])
+    ∷ tests (one (pos 2000)) (Run 10000 8) none accepted
+    ∷ tests (one (pos 2000)) (Run 10001 0) [] (just (pos 1))
+    ∷ tests (one (pos 999)) (Run 10000 7) none (just (pos 2))
+    ∷ tests (one (pos 999)) (Run 10000 8) (just (pos 1001)) (pos 4 ∷ pos 0 ∷ pos 0 ∷ [])
     -- a channel has a wall in the south and none in the west
     ∷ depth (cell 1 (pos 1) (pos 0) (pos 1000) (pos 1000) (pos 0) (pos 1) (pos 0)) (pos 0 ∷ pos 1000 ∷ [])
     ∷ depth (cell 1 (pos 1) (pos 0) (pos 1000) (pos 1000) (pos 0) (pos 0) (pos 1)) (pos 5 ∷ pos 3 ∷ pos 0 ∷ [])

@@ -25,9 +25,9 @@ use Rattle.model.specs.declared.TestAnswer.the-variants.{Passed, Refused}
 use Rattle.theorems.specs.Tests.{and-iff, eq-iff, differ}
 use Rattle.theorems.specs.Tested.{in-order, placed-then, value-append}
 use Rattle.state.specs.declared.Found.the-variants.{At, Nowhere}
-use Rattle.state.specs.declared.Trial.{Trial}
-use Rattle.state.specs.declared.Trial.the-variants.{West, South}
-use Rattle.state.specs.Trials.{foundBy, foundIn, cellTest, badIn, refusalBy}
+use Rattle.state.specs.declared.Fault.{Fault}
+use Rattle.state.specs.declared.Fault.the-variants.{West, South}
+use Rattle.state.specs.Faults.{foundBy, foundIn, cellTest, badIn, refusalBy}
 
 -- ---- truth
 
@@ -70,7 +70,7 @@ placed-none : (r : Field → ℕ → Refusal) (f : Field) (o : Option ℕ) → f
 placed-none r f none e = refl
 placed-none r f (some x) e = differ (cc e)
 
-module _ (w n : ℕ) (f : List ℤ) (field : Field) (t : Trial) where
+module _ (w n : ℕ) (f : List ℤ) (field : Field) (t : Fault) where
   pub cell-found : (k : ℕ) → foundBy (firstFrom (badIn t w f) (w * n) 0) ≡ At k → cellTest w n f field t ≡ some (refusalBy t field k)
   unfolding cellTest
   cell-found k e = placed-some (refusalBy t) field (firstFrom (badIn t w f) (w * n) 0) k e

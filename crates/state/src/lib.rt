@@ -12,7 +12,7 @@ ghost use Rattle.model.specs.State.{stateOf};
 ghost use Rattle.model.specs.Refusals.{_then_, fieldsOf, besideTaken, runShort, workEnough, long, gridKnown, constantsWithin, valueTest, edgeTest};
 ghost use Rattle.model.specs.Promises.{testAnswer, TestPromise};
 ghost use Rattle.integers.specs.Ranges.{between};
-ghost use Rattle.state.specs.Trials.{limitsOf, badAt, badIn, foundBy, refusalBy, cellTest, foundIn};
+ghost use Rattle.state.specs.Faults.{limitsOf, badAt, badIn, foundBy, refusalBy, cellTest, foundIn};
 use integers::Range;
 use model::Beside;
 use model::BoundaryByte;
@@ -55,32 +55,33 @@ pub fn limits(field: Field) -> Range
     }
 }
 
-// What makes a cell bad: a number outside a range (refusal 4); a velocity on a closed west edge, or on a closed south edge
-// (refusal 5).
-pub enum Trial {
+// What can be wrong with a cell: its number is outside a range (refusal 4); it has a velocity on a closed west edge, or on a
+// closed south edge (refusal 5).
+pub enum Fault {
     Outside(Range),
     West(BoundaryByte),
     South(BoundaryByte),
 }
 
-// Whether cell (i, j), with number x, is bad.
-pub fn is_bad(t: Trial, x: i64, i: usize, j: usize) -> bool
+// Whether cell (i, j), with number x, has the fault t.
+pub fn is_bad(t: Fault, x: i64, i: usize, j: usize) -> bool
     ensures { λ r. ⌜ r ≡ badAt t x i j ⌝ }
 {
     match t {
-        Trial::Outside(l) => !integers::within(x, l),
-        Trial::West(e) => grid::wall_west(e, i) && x != 0,
-        Trial::South(e) => grid::wall_south(e, j) && x != 0,
+        Fault::Outside(l) => !integers::within(x, l),
+        Fault::West(e) => grid::wall_west(e, i) && x != 0,
+        Fault::South(e) => grid::wall_south(e, j) && x != 0,
     }
 }
 
+// What a scan finds.
 pub enum Found {
     At(usize),
     Nowhere,
 }
 
-// The first bad cell of a field, in index order.
-pub fn first_bad(w: usize, n: usize, f: &[i64], t: Trial) -> Found
+// The first cell of a field that has the fault, in index order: the loops end there.
+pub fn first_bad(w: usize, n: usize, f: &[i64], t: Fault) -> Found
     requires { ⌜ length (now f) ≡ w * n ⌝ }
     ensures { λ r. ⌜ r ≡ foundBy (firstFrom (badIn t w (now (f .entry))) (w * n) 0) ⌝ }
 {
@@ -99,25 +100,26 @@ pub fn first_bad(w: usize, n: usize, f: &[i64], t: Trial) -> Found
 
 // ---- tests in order
 
-// The refusal of a bad cell.
-pub fn refusal_of(t: Trial, field: Field, cell: usize) -> Refusal
+// The refusal that a cell with the fault makes.
+fn refusal_of(t: Fault, field: Field, cell: usize) -> Refusal
     ensures { λ r. ⌜ r ≡ refusalBy t field cell ⌝ }
 {
     match t {
-        Trial::Outside(_) => Refusal::Value { field, cell },
-        Trial::West(_) => Refusal::ClosedEdge { field, cell },
-        Trial::South(_) => Refusal::ClosedEdge { field, cell },
+        Fault::Outside(_) => Refusal::Value { field, cell },
+        Fault::West(_) => Refusal::ClosedEdge { field, cell },
+        Fault::South(_) => Refusal::ClosedEdge { field, cell },
     }
 }
 
-// The refusal found so far, or else that of the first bad cell of a field.
-pub fn then_cells(
+// The refusal found so far, or else that of the first cell with the fault. So tests follow each other in order, and none is made
+// after a refusal.
+fn then_cells(
     earlier: TestAnswer,
     w: usize,
     n: usize,
     f: &[i64],
     field: Field,
-    t: Trial,
+    t: Fault,
 ) -> TestAnswer
     requires { ⌜ length (now f) ≡ w * n ⌝ }
     ensures { λ r. ⌜ r ≡ testAnswer (foundIn earlier then cellTest w n (now (f .entry)) field t) ⌝ }
@@ -132,15 +134,15 @@ pub fn then_cells(
 }
 
 // Test 4 of one field: its numbers and their bounds.
-pub fn then_field(earlier: TestAnswer, w: usize, n: usize, f: &[i64], field: Field) -> TestAnswer
+fn then_field(earlier: TestAnswer, w: usize, n: usize, f: &[i64], field: Field) -> TestAnswer
     requires { ⌜ length (now f) ≡ w * n ⌝ }
     ensures { λ r. ⌜ r ≡ testAnswer (foundIn earlier then valueTest (record { field = field; count = w * n; limits = limitsOf field; numbers = now (f .entry) } ∷ [])) ⌝ }
 {
-    then_cells(earlier, w, n, f, field, Trial::Outside(limits(field)))
+    then_cells(earlier, w, n, f, field, Fault::Outside(limits(field)))
 }
 
 // Test 4 of a state's own fields, in 01's order.
-pub fn test_fields(p: Parameters, h: &[i64], b: &[i64], u: &[i64], v: &[i64]) -> TestAnswer
+fn test_fields(p: Parameters, h: &[i64], b: &[i64], u: &[i64], v: &[i64]) -> TestAnswer
     requires { ⌜ T (all long (fieldsOf (stateOf p (now h) (now b) (now u) (now v)))) ⌝ }
     ensures { λ r. ⌜ r ≡ testAnswer (valueTest (fieldsOf (stateOf p (now (h .entry)) (now (b .entry)) (now (u .entry)) (now (v .entry))))) ⌝ }
 {
@@ -151,7 +153,7 @@ pub fn test_fields(p: Parameters, h: &[i64], b: &[i64], u: &[i64], v: &[i64]) ->
 }
 
 // Test 4 of the field that a call takes beside its state.
-pub fn then_beside(earlier: TestAnswer, w: usize, n: usize, beside: Beside, x: &[i64]) -> TestAnswer
+fn then_beside(earlier: TestAnswer, w: usize, n: usize, beside: Beside, x: &[i64]) -> TestAnswer
     requires { ⌜ T (all long (besideTaken (w * n) beside (now x))) ⌝ }
     ensures { λ r. ⌜ r ≡ testAnswer (foundIn earlier then valueTest (besideTaken (w * n) beside (now (x .entry)))) ⌝ }
 {
@@ -164,18 +166,19 @@ pub fn then_beside(earlier: TestAnswer, w: usize, n: usize, beside: Beside, x: &
 }
 
 // Test 5: u before v.
-pub fn then_edges(earlier: TestAnswer, p: Parameters, u: &[i64], v: &[i64]) -> TestAnswer
+fn then_edges(earlier: TestAnswer, p: Parameters, u: &[i64], v: &[i64]) -> TestAnswer
     requires { ⌜ (length (now u) ≡ p .w * p .n) × (length (now v) ≡ p .w * p .n) ⌝ }
     ensures { λ r. ⌜ ((h b : List ℤ) → r ≡ testAnswer (foundIn earlier then edgeTest (stateOf p h b (now (u .entry)) (now (v .entry))))) ⌝ }
 {
     let e = grid::boundary_of(p.kind);
-    let first = then_cells(earlier, p.w, p.n, u, Field::VelocityU, Trial::West(e));
-    then_cells(first, p.w, p.n, v, Field::VelocityV, Trial::South(e))
+    let first = then_cells(earlier, p.w, p.n, u, Field::VelocityU, Fault::West(e));
+    then_cells(first, p.w, p.n, v, Field::VelocityV, Fault::South(e))
 }
 
 // ---- tests 1 to 3
 
-pub fn side(w: usize) -> bool
+// Test 1 of a number of columns or rows.
+fn side(w: usize) -> bool
     ensures { λ r. ⌜ r ≡ (leb 1 w && leb w longestSide) ⌝ }
 {
     1 <= w && w <= 64
@@ -195,7 +198,7 @@ pub fn grid_known(p: Parameters) -> bool
 }
 
 // Test 1 of a run's length.
-pub fn run_short(beside: Beside) -> bool
+fn run_short(beside: Beside) -> bool
     ensures { λ r. ⌜ r ≡ runShort beside ⌝ }
 {
     match beside {
@@ -207,7 +210,7 @@ pub fn run_short(beside: Beside) -> bool
 }
 
 // Test 2 of a state's own fields: m numbers each.
-pub fn fields_long(m: usize, h: &[i64], b: &[i64], u: &[i64], v: &[i64]) -> bool
+fn fields_long(m: usize, h: &[i64], b: &[i64], u: &[i64], v: &[i64]) -> bool
     ensures { λ r. ⌜ r ≡ all (λ l. eqb (length l) m) (now (h .entry) ∷ now (b .entry) ∷ now (u .entry) ∷ now (v .entry) ∷ []) ⌝ }
 {
     if h.len() != m {
@@ -223,7 +226,7 @@ pub fn fields_long(m: usize, h: &[i64], b: &[i64], u: &[i64], v: &[i64]) -> bool
 }
 
 // Test 2 of what a call takes beside its state of m cells: its field, and the work space.
-pub fn beside_long(m: usize, beside: Beside, x: &[i64]) -> bool
+fn beside_long(m: usize, beside: Beside, x: &[i64]) -> bool
     requires { ⌜ m ≤ 4096 ⌝ }
     ensures { λ r. ⌜ r ≡ (all long (besideTaken m beside (now (x .entry))) && workEnough m beside) ⌝ }
 {
@@ -263,7 +266,7 @@ pub fn constants_within(p: Parameters) -> bool
 // ---- all of them
 
 // Tests 4 and 5.
-pub fn test_cells(
+fn test_cells(
     p: Parameters,
     h: &[i64],
     b: &[i64],
@@ -282,6 +285,7 @@ pub fn test_cells(
 
 // Tests 1 to 5 of a state and of what a call takes beside it: x is its q or its inflow, and nothing looks at it where the call
 // takes neither. The product w·n is formed only once test 1 has passed.
+// It rules out, for instance: v's closed edges told before u's; the last cell outside instead of the first.
 pub fn test_state(
     p: Parameters,
     h: &[i64],

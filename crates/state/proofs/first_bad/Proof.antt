@@ -9,7 +9,7 @@ use mir.Syntax.{w64}
 use Rattle.integers.specs.Bounds.{held-is}
 use Rattle.grid.specs.Cells.{cell-lt, row-end, by-index}
 use Rattle.grid.specs.Scanning.{Scanned, scanned-none, scanned-at, scanned-more, scanned-bad, scanned-all}
-use Rattle.state.specs.Trials.{badAt, badIn, foundBy}
+use Rattle.state.specs.Faults.{badAt, badIn, foundBy}
 use Rattle.state.specs.declared.Found.the-variants.{Nowhere}
 use Rattle.state.proofs.first_bad.Statement.{statement}
 use Rattle.state.proofs.first_bad.Tie as tie

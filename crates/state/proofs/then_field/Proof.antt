@@ -11,7 +11,7 @@ use Rattle.model.specs.Grid.{firstFrom}
 use Rattle.model.specs.Refusals.{_then_, placed, refusedAt, valueTest}
 use Rattle.model.specs.Promises.{testAnswer}
 use Rattle.model.specs.declared.Refusal.the-variants.{Value}
-use Rattle.state.specs.Trials.{foundIn, cellTest}
+use Rattle.state.specs.Faults.{foundIn, cellTest}
 use Rattle.state.proofs.then_field.Statement.{statement}
 use Rattle.state.proofs.then_field.Tie as tie
 

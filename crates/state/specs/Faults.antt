@@ -16,8 +16,8 @@ use Rattle.model.specs.declared.Refusal.the-variants.{Value, ClosedEdge}
 use Rattle.model.specs.declared.TestAnswer.{TestAnswer}
 use Rattle.model.specs.declared.TestAnswer.the-variants.{Passed, Refused}
 use Rattle.integers.specs.Ranges.{between}
-use Rattle.state.specs.declared.Trial.{Trial}
-use Rattle.state.specs.declared.Trial.the-variants.{Outside, West, South}
+use Rattle.state.specs.declared.Fault.{Fault}
+use Rattle.state.specs.declared.Fault.the-variants.{Outside, West, South}
 use Rattle.state.specs.declared.Found.{Found}
 use Rattle.state.specs.declared.Found.the-variants.{At, Nowhere}
 
@@ -33,13 +33,13 @@ limitsOf Inflow = inflowLimits
 -- ---- a cell
 
 -- whether cell (i, j), with number x, is bad
-abbrev pub badAt : Trial → ℤ → ℕ → ℕ → Bool
+abbrev pub badAt : Fault → ℤ → ℕ → ℕ → Bool
 badAt (Outside l) x i j = not (within (between l) x)
 badAt (West e) x i j = wallWest e i && not (eqℤ x (pos 0))
 badAt (South e) x i j = wallSouth e j && not (eqℤ x (pos 0))
 
 -- the same of the cell with index k of a field f of w columns
-abbrev pub badIn : Trial → ℕ → List ℤ → ℕ → Bool
+abbrev pub badIn : Fault → ℕ → List ℤ → ℕ → Bool
 badIn t w f k = badAt t (getD f k (pos 0)) (k % w) (k / w)
 
 abbrev pub foundBy : Option ℕ → Found
@@ -49,12 +49,12 @@ foundBy (some k) = At k
 -- ---- cells in order
 
 -- the refusal that a bad cell makes
-abbrev pub refusalBy : Trial → Field → ℕ → Refusal
+abbrev pub refusalBy : Fault → Field → ℕ → Refusal
 refusalBy (Outside l) = Value
 refusalBy (West e) = ClosedEdge
 refusalBy (South e) = ClosedEdge
 
-unfoldable pub cellTest : ℕ → ℕ → List ℤ → Field → Trial → Option Refusal
+unfoldable pub cellTest : ℕ → ℕ → List ℤ → Field → Fault → Option Refusal
 cellTest w n f field t = refusedAt (refusalBy t) (placed field (firstFrom (badIn t w f) (w * n) 0) none)
 
 -- what an answer has found so far
