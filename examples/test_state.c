@@ -3,7 +3,7 @@
  * tells: the number of the refusal, 0 for none, and with 4 and 5 the field and
  * the cell. From the repository, after `rt staticlib basin`:
  *
- *   gcc -std=c11 -Wall -Wextra -Werror -Iinclude examples/test_state.c \
+ *   gcc -std=c99 -Wall -Wextra -Werror -Iinclude examples/test_state.c \
  *       target/staticlib/libbasin.a -o target/test_state
  *   target/test_state | diff - examples/test_state.out
  */

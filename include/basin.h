@@ -1,6 +1,7 @@
 /*
  * The proved basin core (document 01), for C and C++ on x86-64. Link
- * target/staticlib/libbasin.a, which `rt staticlib basin` writes.
+ * target/staticlib/libbasin.a, which `rt staticlib basin` writes. So far: the
+ * tests that a call on a state begins with, by themselves, and rounding.
  *
  * Every function takes any numbers and any lengths, and always returns. A
  * field is lent as a pointer and the number of its elements. What is asked of

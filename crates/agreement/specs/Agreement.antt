@@ -1,6 +1,5 @@
 -- The model's definitions give the numbers of the independent version in rust/: three by three cells of each kind, two cells whose step
--- pass 2 stops, and the step program at its limits. Computed by the checker, so that the two versions are held together before there
--- is code to compare.
+-- pass 2 stops, and the step program at its limits. Computed by the checker, so that model and independent version are held together.
 use mathlib.Core.Bool.{Bool, true, false, cond}
 use mathlib.Core.List.{List, [], _∷_, _++_}
 use Prim.Native.Nat.{ℕ, _*_}

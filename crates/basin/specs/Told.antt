@@ -3,7 +3,7 @@
 use mathlib.Core.Path.{_≡_}
 use mathlib.Core.Bool.{Bool, cond, _&&_}
 use mathlib.Core.List.{List, [], _∷_}
-use Prim.Native.Nat.{ℕ}
+use Prim.Native.Nat.{ℕ, _^_}
 use lib.Dec.{leb}
 use lib.IntN.{ℤ, pos, negℤ}
 use lib.ListN.{length, getD}
@@ -13,9 +13,8 @@ use Rattle.model.specs.State.{State, stateOf}
 use Rattle.model.specs.Answers.{testNumbers}
 use Rattle.model.specs.Promises.{testOf, testAnswer}
 use Rattle.model.specs.declared.Beside.{Beside}
-use Rattle.integers.specs.Rounding.{mostDividend, mostDivisor}
 
--- a list of numbers is told: its first is returned, and all of them are in the answer
+-- a list of numbers is told: its first is returned, and all of them are in the answer, as far as there is room
 pub record Told (numbers entry : List ℕ) (r : ℕ) (exit : List ℕ) : Type 0 where
   pub returns : r ≡ getD numbers 0 0
   pub holds : exit ≡ sets entry 0 numbers
@@ -31,7 +30,7 @@ TestTold s beside x entry r exit = Told (testNumbers (testAnswer (testOf s besid
 -- ---- rnd
 
 abbrev pub roundable : ℤ → ℤ → Bool
-roundable a b = within (negℤ (pos mostDividend) to pos mostDividend) a && within (pos 1 to pos mostDivisor) b
+roundable a b = within (negℤ (pos (2 ^ 58)) to pos (2 ^ 58)) a && within (pos 1 to pos (2 ^ 43)) b
 
 -- a quotient within rnd's range, and room for the result: 1, and the result in the first place; else 0, and all as it was
 pub record Rounded (a b : ℤ) (entry : List ℤ) (r : ℕ) (exit : List ℤ) : Type 0 where

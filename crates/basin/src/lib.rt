@@ -24,7 +24,7 @@ fn put(answer: &mut [u64], k: usize, x: u64)
     }
 }
 
-// Each tells its numbers: the first is returned, and all are stored.
+// Each tells its numbers: the first is returned, and all are stored, as far as there is room.
 fn tell_one(answer: &mut [u64], a: u64) -> u64
     ensures { λ r. ⌜ Told (a ∷ []) (now (answer .entry)) r (now (answer .exit)) ⌝ }
 {
@@ -93,7 +93,7 @@ fn tell_test(answer: &mut [u64], test: TestAnswer) -> u64
 
 // ---- the tests by themselves
 
-// Each rules out, for instance: a number that is not 01's; a value stored past what is told, or none where there is room.
+// Each rules out, for instance: 3 returned as 4; the cell stored before the field; a number stored past those told.
 
 // Tests 1 to 5 of a state: what total depth, total energy, potential vorticity and the writer test first.
 #[no_mangle]

@@ -13,7 +13,7 @@ ghost use Rattle.grid.specs.Parts.{part, replaced};
 use model::Boundary;
 use model::BoundaryByte;
 
-// The boundary that a byte stands for.
+// The boundary that a byte stands for. It rules out, for instance: kind 2 without its west wall; kind 3 taken for periodic.
 pub fn boundary_of(kind: u8) -> BoundaryByte
     ensures { λ r. ⌜ r ≡ boundaryOf kind ⌝ }
 {
@@ -25,7 +25,7 @@ pub fn boundary_of(kind: u8) -> BoundaryByte
     }
 }
 
-// Whether a byte stood for a boundary.
+// Whether a byte stood for a boundary. It rules out, for instance: every byte known; none.
 pub fn known(e: BoundaryByte) -> bool
     ensures { λ r. ⌜ r ≡ State.known e ⌝ }
 {
@@ -35,7 +35,7 @@ pub fn known(e: BoundaryByte) -> bool
     }
 }
 
-// Whether the west edges of column i are closed.
+// Whether the west edges of column i are closed. It rules out, for instance: a channel's west wall; the last column closed.
 pub fn wall_west(e: BoundaryByte, i: usize) -> bool
     ensures { λ r. ⌜ r ≡ wallWest e i ⌝ }
 {
@@ -49,7 +49,7 @@ pub fn wall_west(e: BoundaryByte, i: usize) -> bool
     }
 }
 
-// Whether the south edges of row j are closed.
+// Whether the south edges of row j are closed. It rules out, for instance: a channel without its wall; every row closed.
 pub fn wall_south(e: BoundaryByte, j: usize) -> bool
     ensures { λ r. ⌜ r ≡ wallSouth e j ⌝ }
 {
@@ -63,7 +63,8 @@ pub fn wall_south(e: BoundaryByte, j: usize) -> bool
     }
 }
 
-// The next place on a side of w places, and the one before: both wrap, without a division.
+// The next place on a side of w places, and the one before: both wrap, without a division. They rule out, for instance: no wrap; a
+// wrap one place early.
 pub fn next(w: usize, i: usize) -> usize
     requires { ⌜ i < w ⌝ }
     ensures { λ r. ⌜ (r ≡ Grid.next w i) × (r < w) ⌝ }
@@ -78,7 +79,7 @@ pub fn previous(w: usize, i: usize) -> usize
     if i == 0 { w - 1 } else { i - 1 }
 }
 
-// The index of cell (i, j).
+// The index of cell (i, j). It rules out, for instance: columns counted by n; an index past the field.
 pub fn cell_index(w: usize, n: usize, i: usize, j: usize) -> usize
     requires { ⌜ Cell w n i j ⌝ }
     ensures { λ r. ⌜ (r ≡ j * w + i) × (r < w * n) ⌝ }
@@ -86,7 +87,7 @@ pub fn cell_index(w: usize, n: usize, i: usize, j: usize) -> usize
     j * w + i
 }
 
-// What a field has at cell (i, j).
+// What a field has at cell (i, j). It rules out, for instance: the number of cell (j, i); that of a neighbour.
 pub fn value_at(w: usize, n: usize, f: &[i64], i: usize, j: usize) -> i64
     requires { ⌜ Cell w n i j × (length (now f) ≡ w * n) ⌝ }
     ensures { λ r. ⌜ r ≡ at w (now (f .entry)) i j ⌝ }
@@ -95,7 +96,7 @@ pub fn value_at(w: usize, n: usize, f: &[i64], i: usize, j: usize) -> i64
     f[k]
 }
 
-// The m numbers of a work space from place a on.
+// The m numbers of a work space from place a on. It rules out, for instance: a part one place off; one that is too short.
 pub fn part_of(work: &[i64], a: usize, m: usize) -> &[i64]
     requires { ⌜ a + m ≤ length (now work) ⌝ }
     ensures { λ r. ⌜ now r ≡ part a m (now (work .entry)) ⌝ }
@@ -104,7 +105,7 @@ pub fn part_of(work: &[i64], a: usize, m: usize) -> &[i64]
     &work[a..end]
 }
 
-// Puts the numbers of src into a work space from place a on.
+// Puts the numbers of src into a work space from place a on. It rules out, for instance: a number past them changed; one left out.
 pub fn copy_into(work: &mut [i64], a: usize, src: &[i64])
     requires { ⌜ a + length (now src) ≤ length (now work) ⌝ }
     ensures { λ _. ⌜ now (work .exit) ≡ replaced a (now (src .entry)) (now (work .entry)) ⌝ }
@@ -114,7 +115,7 @@ pub fn copy_into(work: &mut [i64], a: usize, src: &[i64])
     }
 }
 
-// Makes the first m numbers of a work space zero.
+// Makes the first m numbers of a work space zero. It rules out, for instance: one left as it was; one past them cleared.
 pub fn clear(work: &mut [i64], m: usize)
     requires { ⌜ m ≤ length (now work) ⌝ }
     ensures { λ _. ⌜ now (work .exit) ≡ filled m (replicate m (pos 0)) (now (work .entry)) ⌝ }

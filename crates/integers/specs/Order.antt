@@ -115,35 +115,35 @@ reads-nat ρ fs h (c ⋆ d) = nat-mul (reads-nat ρ fs h c) (reads-nat ρ fs h d
 
 -- ---- an inequality stated once, as a function of the expressions for its variables
 
-pub record Claim : Type 0 where
+pub record Entailment : Type 0 where
   pub given : List Fact
   pub shows : Fact
   pub why : Cert
 
-abbrev pub Claims : ℕ → Type 0
-Claims zero = Claim
-Claims (suc n) = Expr → Claims n
+abbrev pub Entailments : ℕ → Type 0
+Entailments zero = Entailment
+Entailments (suc n) = Expr → Entailments n
 
-abbrev pub Shows : (n : ℕ) → ℕ → (ℕ → ℤ) → Claims n → Type 0
+abbrev pub Shows : (n : ℕ) → ℕ → (ℕ → ℤ) → Entailments n → Type 0
 Shows zero k ρ q = All ρ (q .given) → Holds ρ (q .shows)
 Shows (suc n) k ρ f = (x : ℤ) → Shows n (suc k) (bind ρ k x) (f (var k))
 
-abbrev pub checks : (n : ℕ) → ℕ → Claims n → Bool
+abbrev pub checks : (n : ℕ) → ℕ → Entailments n → Bool
 checks zero k q = vanishes (gap (q .shows) ⊖ reads (q .given) (q .why))
 checks (suc n) k f = checks n (suc k) (f (var k))
 
 holds : (ρ : ℕ → ℤ) (f : Fact) → Nat (den ρ (gap f)) → Holds ρ f
 holds ρ (a ≼ b) d = ≤-of-nat (den ρ a) (den ρ b) d
 
-showing : (n k : ℕ) (ρ : ℕ → ℤ) (f : Claims n) → T (checks n k f) → Shows n k ρ f
+showing : (n k : ℕ) (ρ : ℕ → ℤ) (f : Entailments n) → T (checks n k f) → Shows n k ρ f
 showing zero k ρ q t = λ h. holds ρ (q .shows) (subst Nat (sym (ring-law (gap (q .shows)) (reads (q .given) (q .why)) t ρ)) (reads-nat ρ (q .given) h (q .why)))
 showing (suc n) k ρ f t = λ x. showing n (suc k) (bind ρ k x) (f (var k)) t
 
 -- `law : Inequality 2 (λ x y. record { given = (x ≼ y) ∷ []; shows = ..; why = hyp 0 })`, `law = order tt`; then `law .at a b (h, tt)`
-pub record Inequality (n : ℕ) (f : Claims n) : Type 0 where
+pub record Inequality (n : ℕ) (f : Entailments n) : Type 0 where
   pub at : Shows n zero (λ i. pos 0) f
 
-pub order : {n : ℕ} {f : Claims n} → T (checks n zero f) → Inequality n f
+pub order : {n : ℕ} {f : Entailments n} → T (checks n zero f) → Inequality n f
 order {n} {f} t = record { at = showing n zero (λ i. pos 0) f t }
 
 -- ---- the laws of the order

@@ -10,7 +10,7 @@ use Rattle.model.specs.Numbers.{rnd}
 use Rattle.model.specs.Claims.{RoundingClaim}
 use Rattle.integers.specs.Laws.{abs-neg, abs-sub, mul-neg, neg-sub}
 
--- ---- what the function `rnd` takes: every quotient of the core is within these
+-- ---- what the function `rnd` takes. Who calls it shows that its quotient is within these
 
 abbrev pub mostDividend : ℕ
 mostDividend = 2 ^ 58

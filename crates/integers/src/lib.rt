@@ -24,8 +24,8 @@ fn nearest(t: u64, d: u64) -> u64
     if 2 * (t % d) < d { q } else { q + 1 }
 }
 
-// 01's rnd(a/b): the nearest whole number, halves away from zero. The size is rounded and the sign put back, so that no branch goes
-// by the sign before the division. It rules out, for instance: halves toward zero; halves up, which differs for a negative half.
+// 01's rnd(a/b): the nearest whole number. The size is rounded and the sign put back, so that halves go away from zero for both
+// signs. It rules out, for instance: halves toward zero; halves up, which differs for a negative half.
 pub fn rnd(a: i64, b: i64) -> i64
     requires { ⌜ Roundable a b ⌝ }
     ensures { λ r. ⌜ r ≡ Numbers.rnd a b ⌝ }
@@ -40,7 +40,7 @@ pub struct Range {
     pub most: i64,
 }
 
-// Whether a number is within a range, its ends included.
+// Whether a number is within a range, its ends included. It rules out, for instance: an end excluded; the lower end untested.
 pub fn within(x: i64, l: Range) -> bool
     ensures { λ r. ⌜ r ≡ Numbers.within (between l) x ⌝ }
 {

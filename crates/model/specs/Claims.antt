@@ -76,8 +76,7 @@ Clean bad m = (i : ℕ) → i < m → bad i ≡ false
 abbrev pub ScanClaim : Type 0
 ScanClaim = (bad : ℕ → Bool) (m k : ℕ) → (firstFrom bad m 0 ≡ some k) ↔ FirstAt bad m k
 
--- the tests by themselves refuse with r exactly where r's cause holds and the tests before it pass.
--- A test stops at its own refusal where what it asks does not hold; where it does, the rest decides.
+-- a test stops at its own refusal where what it asks does not hold; where it does, the rest decides
 abbrev pub Stops : Type 0 → Refusal → Type 0 → Refusal → Type 0
 Stops asked own rest r = ((asked → ⊥) × (own ≡ r)) ⊎ (asked × rest)
 
@@ -96,6 +95,8 @@ FirstMoving s p =
     ((VelocityU ≡ p .field) × FirstAt (moving s closedWest (s .u)) (cells s) (p .cell))
     ⊎ (Clean (moving s closedWest (s .u)) (cells s) × ((VelocityV ≡ p .field) × FirstAt (moving s closedSouth (s .v)) (cells s) (p .cell)))
 
+-- why the tests by themselves refuse with r: the first test in number order that does not hold is r's, and r names the first place.
+-- What each test asks is the model's own (`gridKnown`, `long`, `constantsWithin`, `outside`, `moving`); this adds order and place.
 abbrev pub Cause : State → Beside → List ℤ → Refusal → Type 0
 Cause s beside x r =
     let extra = besideTaken (cells s) beside x in
@@ -105,6 +106,7 @@ Cause s beside x r =
     (((p : Place) × (Value (p .field) (p .cell) ≡ r) × FirstOutside (fieldsOf s ++ extra) p)
     ⊎ (Inside (fieldsOf s ++ extra) × ((p : Place) × (ClosedEdge (p .field) (p .cell) ≡ r) × FirstMoving s p))) r) r) r
 
+-- the tests by themselves pass exactly where all is within its limits, and refuse with r exactly where r's cause holds
 pub record TestClaim : Type 0 where
   pub passed : (s : State) (beside : Beside) (x : List ℤ)
       → TestPromise s beside x Q.Passed ↔ (WithinLimits s × EachWithin (besideTaken (cells s) beside x) × T (runShort beside) × T (workEnough (cells s) beside))

@@ -69,19 +69,25 @@ vOf s = record { field = VelocityV; count = cells s; limits = velocityLimits; nu
 abbrev pub fieldsOf : State → List Taken
 fieldsOf s = depthOf s ∷ bottomOf s ∷ uOf s ∷ vOf s ∷ []
 
--- beside the state: a potential vorticity q, or an inflow (01: river entry s)
+-- beside the state, of m cells: a potential vorticity q, or an inflow (01: river entry s)
+abbrev pub vorticityField : ℕ → List ℤ → Taken
+vorticityField m q = record { field = Vorticity; count = m; limits = vorticityLimits; numbers = q }
+
+abbrev pub inflowField : ℕ → List ℤ → Taken
+inflowField m inflow = record { field = Inflow; count = m; limits = inflowLimits; numbers = inflow }
+
 abbrev pub vorticityTaken : State → List ℤ → List Taken
-vorticityTaken s q = record { field = Vorticity; count = cells s; limits = vorticityLimits; numbers = q } ∷ []
+vorticityTaken s q = vorticityField (cells s) q ∷ []
 
 abbrev pub inflowTaken : State → List ℤ → List Taken
-inflowTaken s inflow = record { field = Inflow; count = cells s; limits = inflowLimits; numbers = inflow } ∷ []
+inflowTaken s inflow = inflowField (cells s) inflow ∷ []
 
 -- what a call takes beside its state of m cells: its further field x, whether its run is short enough, and its work space long enough
 abbrev pub besideTaken : ℕ → Beside → List ℤ → List Taken
 besideTaken m B.Nothing x = []
-besideTaken m B.Vorticity x = record { field = Vorticity; count = m; limits = vorticityLimits; numbers = x } ∷ []
-besideTaken m (B.Inflow work) x = record { field = Inflow; count = m; limits = inflowLimits; numbers = x } ∷ []
-besideTaken m (B.Run steps work) x = record { field = Inflow; count = m; limits = inflowLimits; numbers = x } ∷ []
+besideTaken m B.Vorticity x = vorticityField m x ∷ []
+besideTaken m (B.Inflow work) x = inflowField m x ∷ []
+besideTaken m (B.Run steps work) x = inflowField m x ∷ []
 
 abbrev pub runShort : Beside → Bool
 runShort B.Nothing = true

@@ -118,30 +118,22 @@ one-long l m t = eq-iff (length l) m .0 (and-iff (eqb (length l) m) true .0 t .0
 
 -- what is answered, by the first test that fails
 module _ (s : State) (beside : Beside) (x : List ℤ) where
-  abbrev long-beside : Bool
-  long-beside = all long (besideTaken (cells s) beside x) && workEnough (cells s) beside
+  abbrev right-lengths : Bool
+  right-lengths = all long (fieldsOf s) && (all long (besideTaken (cells s) beside x) && workEnough (cells s) beside)
 
-  pub unknown-grid : gridKnown s ≡ false → Refused Grid ≡ testAnswer (testOf s beside x)
+  pub unknown-grid : (gridKnown s && runShort beside) ≡ false → Refused Grid ≡ testAnswer (testOf s beside x)
   unknown-grid e = rw (in-order s beside x, e)
 
-  module _ (known : gridKnown s ≡ true) where
-    pub too-long : runShort beside ≡ false → Refused Grid ≡ testAnswer (testOf s beside x)
-    too-long e = rw (in-order s beside x, known, e)
+  module _ (grid : (gridKnown s && runShort beside) ≡ true) where
+    pub wrong-length : right-lengths ≡ false → Refused Lengths ≡ testAnswer (testOf s beside x)
+    wrong-length e = rw (in-order s beside x, grid, e)
 
-    module _ (short : runShort beside ≡ true) where
-      pub wrong-length : all long (fieldsOf s) ≡ false → Refused Lengths ≡ testAnswer (testOf s beside x)
-      wrong-length e = rw (in-order s beside x, known, short, e)
+    module _ (lengths : right-lengths ≡ true) where
+      pub outside-constant : constantsWithin s ≡ false → Refused Constants ≡ testAnswer (testOf s beside x)
+      outside-constant e = rw (in-order s beside x, grid, lengths, e)
 
-      module _ (fields : all long (fieldsOf s) ≡ true) where
-        pub wrong-beside : long-beside ≡ false → Refused Lengths ≡ testAnswer (testOf s beside x)
-        wrong-beside e = rw (in-order s beside x, known, short, fields, e)
-
-        module _ (extra : long-beside ≡ true) where
-          pub outside-constant : constantsWithin s ≡ false → Refused Constants ≡ testAnswer (testOf s beside x)
-          outside-constant e = rw (in-order s beside x, known, short, fields, extra, e)
-
-          pub then-content : constantsWithin s ≡ true → testAnswer (valueTest (fieldsOf s ++ besideTaken (cells s) beside x) then edgeTest s) ≡ testAnswer (testOf s beside x)
-          then-content e = rw (in-order s beside x, known, short, fields, extra, e)
+      pub then-content : constantsWithin s ≡ true → testAnswer (valueTest (fieldsOf s ++ besideTaken (cells s) beside x) then edgeTest s) ≡ testAnswer (testOf s beside x)
+      then-content e = rw (in-order s beside x, grid, lengths, e)
 
 pub promised : {s : State} {beside : Beside} {x : List ℤ} {a : TestAnswer} → a ≡ testAnswer (testOf s beside x) → TestPromise s beside x a
 promised e = record { answers = e; tells = ap toldTest e }

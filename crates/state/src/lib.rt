@@ -1,4 +1,4 @@
-// 01's refusals 1 to 5 as proved code: one function, test_state, serves every call. It reads like the table of refusals.
+// 01's refusals 1 to 5 as proved code: one function, test_state, serves every call that takes a state.
 ghost use mathlib.Core.Path.{_≡_};
 ghost use mathlib.Core.Bool.{_&&_};
 ghost use mathlib.Core.List.{List, [], _∷_, _++_};
@@ -23,7 +23,7 @@ use model::TestAnswer;
 
 // ---- cells
 
-// 01's bounds of a field's numbers.
+// 01's bounds of a field's numbers. It rules out, for instance: a bound off by one; q's bounds for the inflow.
 pub fn limits(field: Field) -> Range
     ensures { λ r. ⌜ between r ≡ limitsOf field ⌝ }
 {
@@ -63,7 +63,8 @@ pub enum Fault {
     South(BoundaryByte),
 }
 
-// Whether cell (i, j), with number x, has the fault t.
+// Whether cell (i, j), with number x, has the fault t. It rules out, for instance: the south wall along column 0; a velocity of 0
+// refused.
 pub fn is_bad(t: Fault, x: i64, i: usize, j: usize) -> bool
     ensures { λ r. ⌜ r ≡ badAt t x i j ⌝ }
 {
@@ -80,7 +81,8 @@ pub enum Found {
     Nowhere,
 }
 
-// The first cell of a field that has the fault, in index order: the loops end there.
+// The first cell of a field that has the fault, in index order: the loops end there. It rules out, for instance: the last such cell;
+// a row told for a cell.
 pub fn first_bad(w: usize, n: usize, f: &[i64], t: Fault) -> Found
     requires { ⌜ length (now f) ≡ w * n ⌝ }
     ensures { λ r. ⌜ r ≡ foundBy (firstFrom (badIn t w (now (f .entry))) (w * n) 0) ⌝ }
@@ -184,7 +186,7 @@ fn side(w: usize) -> bool
     1 <= w && w <= 64
 }
 
-// Test 1 of a state: w, n and the boundary.
+// Test 1 of a state: w, n and the boundary. It rules out, for instance: 65 columns; an unknown boundary taken for periodic.
 pub fn grid_known(p: Parameters) -> bool
     ensures { λ r. ⌜ ((h b u v : List ℤ) → r ≡ gridKnown (stateOf p h b u v)) ⌝ }
 {
@@ -207,6 +209,13 @@ fn run_short(beside: Beside) -> bool
         Beside::Inflow { work: _ } => true,
         Beside::Run { steps, work: _ } => steps <= 10000,
     }
+}
+
+// Test 1 of a call.
+fn grid_right(p: Parameters, beside: Beside) -> bool
+    ensures { λ r. ⌜ ((h b u v : List ℤ) → r ≡ (gridKnown (stateOf p h b u v) && runShort beside)) ⌝ }
+{
+    grid_known(p) && run_short(beside)
 }
 
 // Test 2 of a state's own fields: m numbers each.
@@ -238,7 +247,23 @@ fn beside_long(m: usize, beside: Beside, x: &[i64]) -> bool
     }
 }
 
-// Test 3.
+// Test 2 of a call on a state of m cells.
+fn lengths_right(
+    m: usize,
+    h: &[i64],
+    b: &[i64],
+    u: &[i64],
+    v: &[i64],
+    beside: Beside,
+    x: &[i64],
+) -> bool
+    requires { ⌜ m ≤ 4096 ⌝ }
+    ensures { λ r. ⌜ r ≡ (all (λ l. eqb (length l) m) (now (h .entry) ∷ now (b .entry) ∷ now (u .entry) ∷ now (v .entry) ∷ []) && (all long (besideTaken m beside (now (x .entry))) && workEnough m beside)) ⌝ }
+{
+    fields_long(m, h, b, u, v) && beside_long(m, beside, x)
+}
+
+// Test 3. It rules out, for instance: c left untested; an upper bound excluded.
 pub fn constants_within(p: Parameters) -> bool
     ensures { λ r. ⌜ ((h b u v : List ℤ) → r ≡ constantsWithin (stateOf p h b u v)) ⌝ }
 {
@@ -297,20 +322,15 @@ pub fn test_state(
 ) -> TestAnswer
     ensures { λ r. ⌜ TestPromise (stateOf p (now (h .entry)) (now (b .entry)) (now (u .entry)) (now (v .entry))) beside (now (x .entry)) r ⌝ }
 {
-    if !grid_known(p) {
+    if !grid_right(p, beside) {
         return TestAnswer::Refused(Refusal::Grid);
     }
-    if !run_short(beside) {
-        return TestAnswer::Refused(Refusal::Grid);
-    }
-    let m = p.w * p.n;
-    if !fields_long(m, h, b, u, v) {
+    let lengths = lengths_right(p.w * p.n, h, b, u, v, beside, x);
+    let constants = constants_within(p);
+    if !lengths {
         return TestAnswer::Refused(Refusal::Lengths);
     }
-    if !beside_long(m, beside, x) {
-        return TestAnswer::Refused(Refusal::Lengths);
-    }
-    if !constants_within(p) {
+    if !constants {
         return TestAnswer::Refused(Refusal::Constants);
     }
     test_cells(p, h, b, u, v, beside, x)

@@ -72,19 +72,22 @@ as-state s (Run k m) x = refl
 
 pub in-order : (s : State) (beside : Beside) (x : List ℤ)
     → let extra = besideTaken (cells s) beside x in testOf s beside x
-    ≡ must (gridKnown s) Grid then must (runShort beside) Grid then must (all long (fieldsOf s)) Lengths
-    then must (all long extra && workEnough (cells s) beside) Lengths then must (constantsWithin s) Constants then valueTest (fieldsOf s ++ extra) then edgeTest s
+    ≡ must (gridKnown s && runShort beside) Grid then must (all long (fieldsOf s) && (all long extra && workEnough (cells s) beside)) Lengths
+    then must (constantsWithin s) Constants then valueTest (fieldsOf s ++ extra) then edgeTest s
 unfolding stateTest gridTest lengthTest contentTest constantsTest
 in-order s beside x =
     let extra = besideTaken (cells s) beside x in
+    let own = all long (fieldsOf s) in
+    let further = all long extra in
     let enough = workEnough (cells s) beside in
-    let rest = must (constantsWithin s) Constants then valueTest (fieldsOf s ++ extra) then edgeTest s in
-    let first : Option Refusal → Option Refusal = λ q. must (gridKnown s) Grid then must (runShort beside) Grid then q in
+    let content = must (constantsWithin s) Constants then valueTest (fieldsOf s ++ extra) then edgeTest s in
+    let lengths = must (own && (further && enough)) Lengths then content in
     as-state s beside x
-    ∙ ap (λ t. first (must t Lengths then must enough Lengths then rest)) (all-append (fieldsOf s) extra)
-    ∙ ap first
-    (must-and (all long (fieldsOf s)) (all long extra) Lengths (must enough Lengths then rest)
-    ∙ sym (ap (λ q. must (all long (fieldsOf s)) Lengths then q) (must-and (all long extra) enough Lengths rest)))
+    ∙ ap (λ q. must (gridKnown s) Grid then must (runShort beside) Grid then q)
+    (ap (λ t. must t Lengths then must enough Lengths then content) (all-append (fieldsOf s) extra)
+    ∙ must-and own further Lengths (must enough Lengths then content)
+    ∙ sym (must-and own (further && enough) Lengths content ∙ ap (λ q. must own Lengths then q) (must-and further enough Lengths content)))
+    ∙ sym (must-and (gridKnown s) (runShort beside) Grid lengths)
 
 -- ---- where nothing is refused
 
@@ -194,10 +197,7 @@ refused s beside x r =
     let extra = besideTaken (cells s) beside x in
     let enough = workEnough (cells s) beside in
     let cells-rest = valueTest (fieldsOf s ++ extra) then edgeTest s in
-    let constants-rest = must (constantsWithin s) Constants then cells-rest in
-    let e = in-order s beside x
-    ∙ sym (must-and (gridKnown s) (runShort beside) Grid (must (all long (fieldsOf s)) Lengths then must (all long extra && enough) Lengths then constants-rest))
-    ∙ ap (λ q. must (gridKnown s && runShort beside) Grid then q) (sym (must-and (all long (fieldsOf s)) (all long extra && enough) Lengths constants-rest)) in
+    let e = in-order s beside x in
     promise-iff s beside x (Refused r)
     ⟫ some-iff (testOf s beside x) r
     ⟫ (λ h. sym e ∙ h, λ h. e ∙ h)

@@ -107,8 +107,8 @@ pub fn test_state(
 }
 
 /// 01's rnd(a/b): the nearest whole number, halves away from zero. `None`
-/// unless |a| is at most 2^58 and b is 1 to 2^43, which hold wherever the
-/// scheme rounds.
+/// unless |a| is at most 2^58 and b is 1 to 2^43, which is more than the scheme
+/// needs.
 pub fn rnd(a: i64, b: i64) -> Option<i64> {
     let mut rounded = [0];
     match raw::rnd(a, b, &mut rounded) {
