@@ -95,11 +95,15 @@ runShort B.Vorticity = true
 runShort (B.Inflow work) = true
 runShort (B.Run steps work) = leb steps longestRun
 
+-- the numbers of work space that step and run need
+abbrev pub workFor : ℕ → ℕ
+workFor m = 8 * m
+
 abbrev pub workEnough : ℕ → Beside → Bool
 workEnough m B.Nothing = true
 workEnough m B.Vorticity = true
-workEnough m (B.Inflow work) = leb (8 * m) work
-workEnough m (B.Run steps work) = leb (8 * m) work
+workEnough m (B.Inflow work) = leb (workFor m) work
+workEnough m (B.Run steps work) = leb (workFor m) work
 
 -- the first place outside: fields in their order, then lowest cell
 abbrev pub outside : Taken → ℕ → Bool
@@ -131,7 +135,7 @@ lengthTest fields = must (all long fields) Lengths
 
 -- 2: work space short, of m numbers
 abbrev pub workLength : State → ℕ
-workLength s = 8 * cells s
+workLength s = workFor (cells s)
 
 unfoldable pub workTest : State → ℕ → Option Refusal
 workTest s m = must (leb (workLength s) m) Lengths

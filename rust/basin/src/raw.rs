@@ -98,6 +98,19 @@ extern "C" {
     ) -> u64;
 }
 
+/// Calls a function that takes a state first: its scalars, then pointer and
+/// length of each of its fields, then what else it takes.
+macro_rules! on_state {
+    ($function:ident($p:ident, $h:ident, $b:ident, $u:ident, $v:ident $(, $further:expr)*)) => {
+        $function(
+            $p.w, $p.n, $p.kind, $p.g, $p.c, $p.r,
+            $h.as_ptr(), $h.len(), $b.as_ptr(), $b.len(),
+            $u.as_ptr(), $u.len(), $v.as_ptr(), $v.len()
+            $(, $further)*
+        )
+    };
+}
+
 /// 1, and `rounded[0]` is rnd(a/b); or 0, and `rounded` is untouched.
 pub fn rnd(a: i64, b: i64, rounded: &mut [i64]) -> u64 {
     // SAFETY: the pointer and the length are those of a slice that is lent to
@@ -118,24 +131,15 @@ pub fn test_state(
     // SAFETY: each pointer and the length after it are those of one slice.
     // `answer`, the only one written, is borrowed apart from the others.
     unsafe {
-        basin_test_state(
-            p.w,
-            p.n,
-            p.kind,
-            p.g,
-            p.c,
-            p.r,
-            h.as_ptr(),
-            h.len(),
-            b.as_ptr(),
-            b.len(),
-            u.as_ptr(),
-            u.len(),
-            v.as_ptr(),
-            v.len(),
+        on_state!(basin_test_state(
+            p,
+            h,
+            b,
+            u,
+            v,
             answer.as_mut_ptr(),
-            answer.len(),
-        )
+            answer.len()
+        ))
     }
 }
 
@@ -152,26 +156,17 @@ pub fn test_vorticity(
     // SAFETY: each pointer and the length after it are those of one slice.
     // `answer`, the only one written, is borrowed apart from the others.
     unsafe {
-        basin_test_vorticity(
-            p.w,
-            p.n,
-            p.kind,
-            p.g,
-            p.c,
-            p.r,
-            h.as_ptr(),
-            h.len(),
-            b.as_ptr(),
-            b.len(),
-            u.as_ptr(),
-            u.len(),
-            v.as_ptr(),
-            v.len(),
+        on_state!(basin_test_vorticity(
+            p,
+            h,
+            b,
+            u,
+            v,
             q.as_ptr(),
             q.len(),
             answer.as_mut_ptr(),
-            answer.len(),
-        )
+            answer.len()
+        ))
     }
 }
 
@@ -190,27 +185,18 @@ pub fn test_step(
     // `answer`, the only one written, is borrowed apart from the others.
     // `work` is a number: no work space is lent.
     unsafe {
-        basin_test_step(
-            p.w,
-            p.n,
-            p.kind,
-            p.g,
-            p.c,
-            p.r,
-            h.as_ptr(),
-            h.len(),
-            b.as_ptr(),
-            b.len(),
-            u.as_ptr(),
-            u.len(),
-            v.as_ptr(),
-            v.len(),
+        on_state!(basin_test_step(
+            p,
+            h,
+            b,
+            u,
+            v,
             inflow.as_ptr(),
             inflow.len(),
             work,
             answer.as_mut_ptr(),
-            answer.len(),
-        )
+            answer.len()
+        ))
     }
 }
 
@@ -230,27 +216,18 @@ pub fn test_run(
     // `answer`, the only one written, is borrowed apart from the others.
     // `work` is a number: no work space is lent.
     unsafe {
-        basin_test_run(
-            p.w,
-            p.n,
-            p.kind,
-            p.g,
-            p.c,
-            p.r,
-            h.as_ptr(),
-            h.len(),
-            b.as_ptr(),
-            b.len(),
-            u.as_ptr(),
-            u.len(),
-            v.as_ptr(),
-            v.len(),
+        on_state!(basin_test_run(
+            p,
+            h,
+            b,
+            u,
+            v,
             inflow.as_ptr(),
             inflow.len(),
             steps,
             work,
             answer.as_mut_ptr(),
-            answer.len(),
-        )
+            answer.len()
+        ))
     }
 }
