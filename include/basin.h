@@ -1,28 +1,34 @@
 /*
  * The proved basin core (document 01), for C and C++ on x86-64. Link
- * target/staticlib/libbasin.a, which `rt staticlib basin` writes. So far: the
- * tests that a call on a state begins with, by themselves, and rounding.
+ * target/staticlib/libbasin.a, which `rt staticlib basin` writes. So far:
+ * potential vorticity and tendencies of a state, the tests that a call on a
+ * state begins with, by themselves, and rounding.
  *
  * Every function takes any numbers and any lengths, and always returns. A
  * field is lent as a pointer and the number of its elements. What is asked of
  * a caller:
  * - each pointer is valid and aligned for the length after it. Pass a valid
  *   pointer where the length is 0 too: nothing is promised of a null pointer;
- * - what a function writes (rounded, answer) overlaps nothing else lent to it.
- *   Fields that are only read may overlap.
+ * - what a function writes (every pointer that is not to const) overlaps
+ *   nothing else lent to it. Fields that are only read may overlap.
  *
  * A state is w columns by n rows, the kind of its boundary, the constants g,
  * c and r, and the fields h, b, u and v, which have a number for each cell.
  * Column i of row j is cell j*w + i. The edges u(0,j) are closed for kind 2,
  * the edges v(i,0) for kinds 1 and 2; kind 0 closes none.
  *
+ * Answers. A call on a state returns the number of its refusal, 0 for none.
+ * answer holds the same number and then what is told with it, as far as there
+ * is room (3 places are enough); its other places are untouched. A refused
+ * call leaves everything else that was lent to it untouched.
+ *
  * Refusals. The causes are tested in this order and the first is told:
  *
  *   number  cause                                             told with it
- *   0       none: the call is not refused with 1 to 5
+ *   0       none
  *   1       w or n not 1 to 64; kind not 0, 1 or 2;
  *           steps above 10,000
- *   2       a field does not have w*n numbers;
+ *   2       a field to be read does not have w*n numbers;
  *           work_len below 8*w*n
  *   3       g not 1 to 10,000; c not -10,000 to 10,000;
  *           r not 1,000 to 1,000,000
@@ -30,6 +36,7 @@
  *           cell first
  *   5       a velocity other than 0 on a closed edge, u       field, cell
  *           before v, lowest cell first
+ *   8       a field to be filled has fewer than w*n places
  *
  *   field   bounds
  *   0       h       depth, 1,000 to 100,000 mm
@@ -59,9 +66,42 @@ extern "C" {
 uint64_t basin_rnd(int64_t a, int64_t b, int64_t *rounded, size_t rounded_len);
 
 /*
- * Tests 1 to 5 of a state. Returns the number of the refusal. answer holds the
- * same number and then what is told with it, as far as there is room (3 places
- * are enough); its other places are untouched.
+ * Potential vorticity, times spacing times 65,536, at the southwest corners of
+ * the cells. Tests 1 to 5, then 8 of q. Where none refuses, the first w*n
+ * numbers of q are the result and the rest of q is untouched.
+ */
+uint64_t basin_potential_vorticity(size_t w, size_t n, uint8_t kind,
+                                   int64_t g, int64_t c, int64_t r,
+                                   const int64_t *h, size_t h_len,
+                                   const int64_t *b, size_t b_len,
+                                   const int64_t *u, size_t u_len,
+                                   const int64_t *v, size_t v_len,
+                                   int64_t *q, size_t q_len,
+                                   uint64_t *answer, size_t answer_len);
+
+/*
+ * Tendencies of a state with a potential vorticity q, which may be any within
+ * its bounds: of h in dh, the rate times 2 spacings; of u in du and of v in
+ * dv, the rates times spacing times 3,145,728, 0 on closed edges. Tests 1 to
+ * 5, q among the fields, then 8 of dh, du and dv. Where none refuses, the
+ * first w*n numbers of each of the three are the result and the rest of each
+ * is untouched.
+ */
+uint64_t basin_tendencies(size_t w, size_t n, uint8_t kind,
+                          int64_t g, int64_t c, int64_t r,
+                          const int64_t *h, size_t h_len,
+                          const int64_t *b, size_t b_len,
+                          const int64_t *u, size_t u_len,
+                          const int64_t *v, size_t v_len,
+                          const int64_t *q, size_t q_len,
+                          int64_t *dh, size_t dh_len,
+                          int64_t *du, size_t du_len,
+                          int64_t *dv, size_t dv_len,
+                          uint64_t *answer, size_t answer_len);
+
+/*
+ * Tests 1 to 5 of a state by themselves: 0 where a call that takes it is
+ * refused with none of them.
  */
 uint64_t basin_test_state(size_t w, size_t n, uint8_t kind,
                           int64_t g, int64_t c, int64_t r,

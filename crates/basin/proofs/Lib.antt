@@ -1,1 +1,3 @@
 pub mod Tells
+-- the theorems speak of the C interface
+pub mod Applied

@@ -10,9 +10,10 @@ use lib.ListN.{length, getD}
 use lib.Seq.{sets}
 use Rattle.model.specs.Numbers.{_to_, within, rnd}
 use Rattle.model.specs.State.{State, stateOf}
-use Rattle.model.specs.Answers.{testNumbers}
-use Rattle.model.specs.Promises.{testOf, testAnswer}
+use Rattle.model.specs.Answers.{testNumbers, fillNumbers}
+use Rattle.model.specs.Promises.{testOf, testAnswer, VorticityPromise, TendenciesPromise}
 use Rattle.model.specs.declared.Beside.{Beside}
+use Rattle.model.specs.declared.FillAnswer.{FillAnswer}
 
 -- a list of numbers is told: its first is returned, and all of them are in the answer, as far as there is room
 pub record Told (numbers entry : List ℕ) (r : ℕ) (exit : List ℕ) : Type 0 where
@@ -26,6 +27,17 @@ stateIn w n kind g c r h b u v = stateOf (record { w = w; n = n; kind = kind; g 
 -- the tests by themselves: 01's number, and then the values returned with it
 abbrev pub TestTold : State → Beside → List ℤ → List ℕ → ℕ → List ℕ → Type 0
 TestTold s beside x entry r exit = Told (testNumbers (testAnswer (testOf s beside x))) entry r exit
+
+-- a call that fills: its promise, of the answer that is told. The promise leaves one answer possible
+pub record VorticityTold (s : State) (q q′ : List ℤ) (entry : List ℕ) (r : ℕ) (exit : List ℕ) : Type 0 where
+  pub answer : FillAnswer
+  pub promise : VorticityPromise s q answer q′
+  pub told : Told (fillNumbers answer) entry r exit
+
+pub record TendenciesTold (s : State) (q dh du dv dh′ du′ dv′ : List ℤ) (entry : List ℕ) (r : ℕ) (exit : List ℕ) : Type 0 where
+  pub answer : FillAnswer
+  pub promise : TendenciesPromise s q dh du dv answer dh′ du′ dv′
+  pub told : Told (fillNumbers answer) entry r exit
 
 -- ---- rnd
 

@@ -3,12 +3,13 @@
 ghost use mathlib.Core.Path.{_≡_};
 ghost use mathlib.Core.List.{[], _∷_};
 ghost use lib.ListN.{set};
-ghost use Rattle.model.specs.Answers.{fieldNumber, number, values, testNumbers};
+ghost use Rattle.model.specs.Answers.{fieldNumber, refusalNumbers, testNumbers, fillNumbers};
 ghost use Rattle.model.specs.declared.Beside.the-variants.{Nothing, Vorticity, Inflow, Run};
-ghost use Rattle.basin.specs.Told.{Told, TestTold, stateIn, roundable, Rounded};
+ghost use Rattle.basin.specs.Told.{Told, TestTold, VorticityTold, TendenciesTold, stateIn, roundable, Rounded};
 use integers::Range;
 use model::Beside;
 use model::Field;
+use model::FillAnswer;
 use model::Parameters;
 use model::Refusal;
 use model::TestAnswer;
@@ -64,7 +65,7 @@ fn field_number(field: Field) -> u64
 
 // 01's number of a refusal, and the values returned with it.
 fn tell_refusal(answer: &mut [u64], refusal: Refusal) -> u64
-    ensures { λ r. ⌜ Told (number refusal ∷ values refusal) (now (answer .entry)) r (now (answer .exit)) ⌝ }
+    ensures { λ r. ⌜ Told (refusalNumbers refusal) (now (answer .entry)) r (now (answer .exit)) ⌝ }
 {
     match refusal {
         Refusal::Grid => tell_one(answer, 1),
@@ -88,6 +89,15 @@ fn tell_test(answer: &mut [u64], test: TestAnswer) -> u64
     match test {
         TestAnswer::Passed => tell_one(answer, 0),
         TestAnswer::Refused(refusal) => tell_refusal(answer, refusal),
+    }
+}
+
+fn tell_fill(answer: &mut [u64], fill: FillAnswer) -> u64
+    ensures { λ r. ⌜ Told (fillNumbers fill) (now (answer .entry)) r (now (answer .exit)) ⌝ }
+{
+    match fill {
+        FillAnswer::Done => tell_one(answer, 0),
+        FillAnswer::Refused(refusal) => tell_refusal(answer, refusal),
     }
 }
 
@@ -220,6 +230,69 @@ pub extern "C" fn basin_test_run(
         answer,
         state::test_state(p, h, b, u, v, Beside::Run { steps, work }, inflow),
     )
+}
+
+// ---- potential vorticity and tendencies
+
+// Each is the proved call, its answer told as above. They rule out, for instance: done told as 1; du and dv swapped.
+
+#[no_mangle]
+pub extern "C" fn basin_potential_vorticity(
+    w: usize,
+    n: usize,
+    kind: u8,
+    g: i64,
+    c: i64,
+    r: i64,
+    h: &[i64],
+    b: &[i64],
+    u: &[i64],
+    v: &[i64],
+    q: &mut [i64],
+    answer: &mut [u64],
+) -> u64
+    ensures { λ k. ⌜ VorticityTold (stateIn w n kind g c r (now (h .entry)) (now (b .entry)) (now (u .entry)) (now (v .entry))) (now (q .entry)) (now (q .exit)) (now (answer .entry)) k (now (answer .exit)) ⌝ }
+{
+    let p = Parameters {
+        w,
+        n,
+        kind,
+        g,
+        c,
+        r,
+    };
+    tell_fill(answer, filling::potential_vorticity(p, h, b, u, v, q))
+}
+
+#[no_mangle]
+pub extern "C" fn basin_tendencies(
+    w: usize,
+    n: usize,
+    kind: u8,
+    g: i64,
+    c: i64,
+    r: i64,
+    h: &[i64],
+    b: &[i64],
+    u: &[i64],
+    v: &[i64],
+    q: &[i64],
+    dh: &mut [i64],
+    du: &mut [i64],
+    dv: &mut [i64],
+    answer: &mut [u64],
+) -> u64
+    ensures { λ k. ⌜ TendenciesTold (stateIn w n kind g c r (now (h .entry)) (now (b .entry)) (now (u .entry)) (now (v .entry))) (now (q .entry)) (now (dh .entry)) (now (du .entry)) (now (dv .entry)) (now (dh .exit)) (now (du .exit)) (now (dv .exit)) (now (answer .entry)) k (now (answer .exit)) ⌝ }
+{
+    let p = Parameters {
+        w,
+        n,
+        kind,
+        g,
+        c,
+        r,
+    };
+    tell_fill(answer, filling::tendencies(p, h, b, u, v, q, dh, du, dv))
 }
 
 // ---- rounding

@@ -1,7 +1,7 @@
 -- Cells and neighbours, as code finds them: without a division. Assumes nothing.
 use mathlib.Core.Path.{_≡_, ap, sym, _∙_}
 use Prim.Native.Nat.{ℕ, _+_, _-_, _*_, _/_, _%_, _≤_, _<_}
-use native.Mathlib.Nat.{mod-eq-of-lt, mod-self, add-mod-right, zero-add, mul-comm, suc-mul, mul-le-mul}
+use native.Mathlib.Nat.{mod-eq-of-lt, mod-lt, mod-self, mod-add-mod, add-mod-right, zero-add, mul-comm, suc-mul, mul-le-mul}
 use native.Mathlib.Numerals.{add-one}
 use native.Mathlib.Omega.{arith}
 use lib.Arith.{digits-lt, digits-div, digits-mod}
@@ -33,6 +33,12 @@ by-index {w = w} {i = i} f j p = ap (λ x. f x ((j * w + i) / w)) (digits-mod j 
 
 -- ---- neighbours
 
+pub next-lt : (w i : ℕ) → 0 < w → next w i < w
+next-lt w i p = mod-lt (i + 1) p
+
+pub previous-lt : (w i : ℕ) → 0 < w → previous w i < w
+previous-lt w i p = mod-lt (i + (w - 1)) p
+
 pub next-last : (w i : ℕ) → i + 1 ≡ w → next w i ≡ 0
 next-last w i e = ap (λ x. x % w) e ∙ mod-self w
 
@@ -47,3 +53,13 @@ previous-inner w i k l = ap (λ x. x % w) (around w i k l) ∙ add-mod-right (i 
   where
     around : (w i : ℕ) → 0 < i → i < w → i + (w - 1) ≡ i - 1 + w
     around w i k l = omega arith
+
+-- the place before one counted on without a wrap, and before the next one
+pub previous-after : {w i : ℕ} → i < w → previous w (i + 1) ≡ i
+previous-after {w} {i} p = ap (λ x. x % w) (on w i p) ∙ add-mod-right i w ∙ mod-eq-of-lt p
+  where
+    on : (w i : ℕ) → i < w → i + 1 + (w - 1) ≡ i + w
+    on w i p = omega arith
+
+pub previous-next : {w i : ℕ} → i < w → previous w (next w i) ≡ i
+previous-next {w} {i} p = mod-add-mod (i + 1) w (w - 1) ∙ previous-after p

@@ -3,6 +3,7 @@ pub mod Sums
 pub mod Torus
 -- cells and neighbours; fields filled cell by cell; loops that write a list, and parts of a work space; loops that scan
 pub mod Cells
+pub mod Stencils
 pub mod Fields
 pub mod Parts
 pub mod Writing

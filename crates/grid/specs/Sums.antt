@@ -1,7 +1,7 @@
 -- Sums of integers over a range and over a grid, and their invariance under a cyclic shift. Assumes nothing.
 use mathlib.Core.Path.{_≡_, refl, sym, _∙_, ap}
 use Prim.Native.Nat.{ℕ, zero, suc, _+_, _-_, _*_, _%_, _<_}
-use native.Mathlib.Nat.{mod-eq-of-lt, mod-self, mod-lt, mod-add-mod, add-mod-right, add-zero, add-suc, zero-mul, suc-mul}
+use native.Mathlib.Nat.{mod-eq-of-lt, mod-self, mod-add-mod, add-mod-right, add-zero, add-suc, zero-mul, suc-mul}
 use native.Mathlib.Omega.{arith}
 use lib.IntN.{ℤ, pos, _+ℤ_, _*ℤ_, +ℤ-assoc, +ℤ-comm, +ℤ-idr, zero-*ℤ, *ℤ-comm}
 pub use Rattle.model.specs.Grid.{sumTo, sumGrid as grid, next as east, previous as west}
@@ -100,6 +100,3 @@ unfolding sumTo grid
 sum-rows w zero f = ap (λ x. sumTo x f) (zero-mul w)
 sum-rows w (suc n) f =
     ap (λ x. sumTo x f) (suc-mul n w) ∙ sum-append (n * w) w f ∙ ap (λ x. x +ℤ sumTo w (λ i. f (n * w + i))) (sum-rows w n f)
-
-pub west-lt : (w i : ℕ) → 0 < w → west w i < w
-west-lt w i l = mod-lt (i + (w - 1)) l

@@ -63,21 +63,27 @@ module _ (w n : ℕ) (g : ℕ → ℕ → ℤ) where
   -- the inner loop, which finds d₀ and has written i cells of row j: it goes on from whatever list e the rows before were written over
   pub record RowWriting (a j : ℕ) (d₀ : List ℤ) (i : ℕ) (d : List ℤ) : Type 0 where
     pub so-far : i ≤ w
+    pub long : length d ≡ length d₀
     pub over : (e : List ℤ) → a + w * n ≤ length e → Writing a field e (j * w) d₀ → Writing a field e (j * w + i) d
 
   pub row-none : {a : ℕ} (j : ℕ) {d₀ : List ℤ} → RowWriting a j d₀ 0 d₀
-  row-none j = record { so-far = zero-le; over = λ e r h. writing-at h (omega arith) }
+  row-none j = record { so-far = zero-le; long = refl; over = λ e r h. writing-at h (omega arith) }
 
   pub row-more : {a i j : ℕ} {d₀ d : List ℤ} {v : ℤ} → RowWriting a j d₀ i d → i < w → j < n → v ≡ g i j → RowWriting a j d₀ (i + 1) (set d (a + (j * w + i)) v)
-  row-more {i = i} {j = j} h p q e =
+  row-more {a} {i} {j} {d₀} {d} {v} h p q e =
       record {
         so-far = omega arith;
+        long = length-set d (a + (j * w + i)) v ∙ h .long;
         over = λ l r o. writing-at (writing-more (pos 0) (h .over l r o) (cell-in p q) (rw (length-byCell w n g) r) (e ∙ sym (cell-value p q))) (omega arith);
       }
 
   -- the same where a field is filled from its front
   pub row-filled : {i j : ℕ} {d₀ d : List ℤ} {v : ℤ} → RowWriting 0 j d₀ i d → i < w → j < n → v ≡ g i j → RowWriting 0 j d₀ (i + 1) (set d (j * w + i) v)
   row-filled {i} {j} {d₀} {d} {v} h p q e = subst (λ (x : ℕ). RowWriting 0 j d₀ (i + 1) (set d x v)) (zero-add (j * w + i)) (row-more h p q e)
+
+  -- all columns have been written
+  pub row-whole : {a i j : ℕ} {d₀ d : List ℤ} → RowWriting a j d₀ i d → w ≤ i → RowWriting a j d₀ w d
+  row-whole {a} {i} {j} {d₀} {d} h l = subst (λ (i : ℕ). RowWriting a j d₀ i d) (le-antisymm (h .so-far) l) h
 
   pub row-done : {a i : ℕ} (j : ℕ) {e d₀ d : List ℤ} → RowWriting a j d₀ i d → w ≤ i → a + w * n ≤ length e → Writing a field e (j * w) d₀ → Writing a field e ((j + 1) * w) d
   row-done j {e = e} h l r o = writing-at (h .over e r o) (row-end j (le-antisymm (h .so-far) l))

@@ -6,9 +6,10 @@ ghost use lib.IntN.{pos};
 ghost use lib.ListN.{length, replicate};
 ghost use Rattle.model.specs.Grid;
 ghost use Rattle.model.specs.State;
-ghost use Rattle.model.specs.Grid.{at, filled};
+ghost use Rattle.model.specs.Grid.{filled};
 ghost use Rattle.model.specs.State.{boundaryOf, wallWest, wallSouth};
 ghost use Rattle.grid.specs.Cells.{Cell};
+ghost use Rattle.grid.specs.Stencils.{IsAround};
 ghost use Rattle.grid.specs.Parts.{part, replaced};
 use model::Boundary;
 use model::BoundaryByte;
@@ -79,7 +80,7 @@ pub fn previous(w: usize, i: usize) -> usize
     if i == 0 { w - 1 } else { i - 1 }
 }
 
-// The index of cell (i, j). It rules out, for instance: columns counted by n; an index past the field.
+// The index of cell (i, j). It rules out, for instance: rows and columns swapped; rows counted by n.
 pub fn cell_index(w: usize, n: usize, i: usize, j: usize) -> usize
     requires { ⌜ Cell w n i j ⌝ }
     ensures { λ r. ⌜ (r ≡ j * w + i) × (r < w * n) ⌝ }
@@ -87,13 +88,35 @@ pub fn cell_index(w: usize, n: usize, i: usize, j: usize) -> usize
     j * w + i
 }
 
-// What a field has at cell (i, j). It rules out, for instance: the number of cell (j, i); that of a neighbour.
-pub fn value_at(w: usize, n: usize, f: &[i64], i: usize, j: usize) -> i64
-    requires { ⌜ Cell w n i j × (length (now f) ≡ w * n) ⌝ }
-    ensures { λ r. ⌜ r ≡ at w (now (f .entry)) i j ⌝ }
+// The indices of a cell and of the cells around it, as far as the scheme reads them.
+pub struct Stencil {
+    pub here: usize,
+    pub east: usize,
+    pub west: usize,
+    pub north: usize,
+    pub south: usize,
+    pub northeast: usize,
+    pub southwest: usize,
+}
+
+// The cells around cell (i, j). It rules out, for instance: the cell itself for its east neighbour; the south for the north.
+pub fn around(w: usize, n: usize, i: usize, j: usize) -> Stencil
+    requires { ⌜ Cell w n i j ⌝ }
+    ensures { λ r. ⌜ IsAround w n i j r ⌝ }
 {
-    let k = cell_index(w, n, i, j);
-    f[k]
+    let east = next(w, i);
+    let west = previous(w, i);
+    let north = next(n, j);
+    let south = previous(n, j);
+    Stencil {
+        here: cell_index(w, n, i, j),
+        east: cell_index(w, n, east, j),
+        west: cell_index(w, n, west, j),
+        north: cell_index(w, n, i, north),
+        south: cell_index(w, n, i, south),
+        northeast: cell_index(w, n, east, north),
+        southwest: cell_index(w, n, west, south),
+    }
 }
 
 // The m numbers of a work space from place a on. It rules out, for instance: a part one place off; one that is too short.

@@ -166,12 +166,13 @@ abs-between (negsuc a) hi (negsuc n) p q = omega (arith, leb→le n a (p .le))
 pub abs-within : {l : Limits} {z : ℤ} {b : ℕ} → Within l z → T (leb (max (natAbs (l .least)) (natAbs (l .most))) b) → Abs z b
 abs-within {l} {z} {b} p t = record { abs = le-trans (abs-between (l .least) (l .most) z (p .low) (p .high)) (leb→le (max (natAbs (l .least)) (natAbs (l .most))) b t) }
 
+-- a number that is another has its size
+pub abs-as : {x y : ℤ} {b : ℕ} → x ≡ y → Abs y b → Abs x b
+abs-as {b = b} e h = subst (λ (z : ℤ). Abs z b) (sym e) h
+
 -- what a slice or a callee handed over, as the machine reads it
 pub held-is : (w : Width) {y z : ℤ} → mag y < 2 ^ hbits w → y ≡ z → held w y ≡ z
 held-is w p e = toZ-ofZ (record { sfits = p }) ∙ e
-
-pub abs-held : (w : Width) {y z : ℤ} {b : ℕ} → mag y < 2 ^ hbits w → y ≡ z → Abs z b → Abs (held w y) b
-abs-held w {y} {z} {b} p e h = subst (λ x. Abs x b) (sym (held-is w p e)) h
 
 -- a number that is not negative becomes an unsigned one
 pub unsigned : {z : ℤ} (n : ℕ) → z ≡ pos n → n < 2 ^ 64 → T (nonNeg z) × Fits w64 (natAbs z)

@@ -1,7 +1,7 @@
 -- The order of ℤ: its laws, and inequalities between polynomials by a certificate. A ≤ B follows where B - A is, by the laws of a
 -- ring, a sum of products of numbers that are not negative: what the hypotheses say, squares and numerals. Assumes nothing.
 use mathlib.Core.Path.{_≡_, refl, sym, _∙_, ap, ap₂, subst}
-use mathlib.Core.Bool.{Bool, true, false, not, cond}
+use mathlib.Core.Bool.{Bool, true, false, cond}
 use mathlib.Core.List.{List, [], _∷_}
 use Prim.Native.Nat.{ℕ, zero, suc, _+_, _-_, _*_, _≤_, _<_}
 use native.Mathlib.Omega.{arith}

@@ -56,20 +56,27 @@ values Destination = []
 abbrev whole : List ℕ → List ℤ
 whole l = map pos l
 
-abbrev pub told : Refusal → List ℤ
-told r = whole (number r ∷ values r)
+-- of a refusal; as naturals, which is what a caller of the C interface reads
+abbrev pub refusalNumbers : Refusal → List ℕ
+refusalNumbers r = number r ∷ values r
 
--- of the tests by themselves; as naturals, which is what a caller of the C interface reads
+abbrev pub told : Refusal → List ℤ
+told r = whole (refusalNumbers r)
+
+-- of the tests by themselves, and of a call that fills
 abbrev pub testNumbers : TestAnswer → List ℕ
 testNumbers Q.Passed = 0 ∷ []
-testNumbers (Q.Refused r) = number r ∷ values r
+testNumbers (Q.Refused r) = refusalNumbers r
 
 abbrev pub toldTest : TestAnswer → List ℤ
 toldTest a = whole (testNumbers a)
 
+abbrev pub fillNumbers : FillAnswer → List ℕ
+fillNumbers F.Done = 0 ∷ []
+fillNumbers (F.Refused r) = refusalNumbers r
+
 abbrev pub toldFill : FillAnswer → List ℤ
-toldFill F.Done = whole (0 ∷ [])
-toldFill (F.Refused r) = told r
+toldFill a = whole (fillNumbers a)
 
 -- refusal 6: pass, field, cell
 abbrev pub toldStep : StepAnswer → List ℤ

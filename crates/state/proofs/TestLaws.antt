@@ -3,14 +3,15 @@ use mathlib.Core.Path.{_≡_, refl, sym, ap, _∙_}
 use mathlib.Core.Bool.{Bool, true, false, _&&_}
 use mathlib.Core.List.{List, [], _∷_, _++_}
 use mathlib.Core.Option.{Option, none, some}
-use Prim.Native.Nat.{ℕ, _*_}
+use Prim.Native.Nat.{ℕ, _*_, _≤_, _<_}
 use lib.Dec.{T, eqb}
 use lib.IntN.{ℤ}
 use lib.ListN.{length}
+use borrow.Author.Tests.{lt-leb}
 use Rattle.model.specs.Numbers.{all}
 use Rattle.model.specs.Grid.{firstFrom}
 use Rattle.model.specs.State.{State, stateOf, cells, boundaryOf, closedWest, closedSouth}
-use Rattle.model.specs.Refusals.{_then_, placed, refusedAt, Taken, depthOf, bottomOf, uOf, vOf, fieldsOf, besideTaken, runShort, workEnough, long, gridKnown, constantsWithin, valueTest, edgeTest}
+use Rattle.model.specs.Refusals.{_then_, placed, refusedAt, Taken, depthOf, bottomOf, uOf, vOf, fieldsOf, besideTaken, runShort, workEnough, long, gridKnown, constantsWithin, valueTest, edgeTest, roomTest}
 use Rattle.model.specs.Answers.{toldTest}
 use Rattle.model.specs.Promises.{testOf, testAnswer, TestPromise}
 use Rattle.model.specs.declared.Parameters.{Parameters}
@@ -18,11 +19,12 @@ use Rattle.model.specs.declared.BoundaryByte.{BoundaryByte}
 use Rattle.model.specs.declared.Field.{Field}
 use Rattle.model.specs.declared.Field.the-variants.{VelocityU, VelocityV}
 use Rattle.model.specs.declared.Refusal.{Refusal}
-use Rattle.model.specs.declared.Refusal.the-variants.{Grid, Lengths, Constants, ClosedEdge}
+use Rattle.model.specs.declared.Refusal.the-variants.{Grid, Lengths, Constants, ClosedEdge, Destination}
 use Rattle.model.specs.declared.Beside.{Beside}
 use Rattle.model.specs.declared.TestAnswer.{TestAnswer}
 use Rattle.model.specs.declared.TestAnswer.the-variants.{Passed, Refused}
 use Rattle.theorems.specs.Tests.{and-iff, eq-iff, differ}
+use Rattle.theorems.specs.Limits.{room-iff}
 use Rattle.theorems.specs.Tested.{in-order, placed-then, value-append}
 use Rattle.state.specs.declared.Found.the-variants.{At, Nowhere}
 use Rattle.state.specs.declared.Fault.{Fault}
@@ -44,7 +46,7 @@ and-fails b e f = f ∙ ap (λ a. a && b) (sym f ∙ e)
 
 -- ---- one test after another
 
-found-answer : (o : Option Refusal) → foundIn (testAnswer o) ≡ o
+pub found-answer : (o : Option Refusal) → foundIn (testAnswer o) ≡ o
 found-answer none = refl
 found-answer (some r) = refl
 
@@ -59,6 +61,15 @@ passed-then p e = sym (ap (λ a. testAnswer (foundIn a then p)) e)
 -- a test p after an answer that stands for o
 pub after : {a r : TestAnswer} (o p : Option Refusal) → a ≡ testAnswer o → r ≡ testAnswer (foundIn a then p) → r ≡ testAnswer (o then p)
 after o p e f = f ∙ ap (λ a. testAnswer (foundIn a then p)) e ∙ ap (λ q. testAnswer (q then p)) (found-answer o)
+
+-- ---- a destination
+
+pub room-short : {m room : ℕ} → room < m → Refused Destination ≡ testAnswer (roomTest m (room ∷ []))
+unfolding roomTest
+room-short {m} {room} h = rw (lt-leb m room h)
+
+pub room-enough : {m room : ℕ} → m ≤ room → Passed ≡ testAnswer (roomTest m (room ∷ []))
+room-enough {m} {room} h = sym (ap testAnswer (room-iff m (room ∷ []) .1 (h, tt)))
 
 -- ---- cells
 

@@ -1,4 +1,5 @@
-// 01's refusals 1 to 5 as proved code: one function, test_state, serves every call that takes a state.
+// 01's refusals 1 to 5 as proved code: one function, test_state, serves every call that takes a state. test_room is refusal 8 of the
+// calls that fill a field.
 ghost use mathlib.Core.Path.{_≡_};
 ghost use mathlib.Core.Bool.{_&&_};
 ghost use mathlib.Core.List.{List, [], _∷_, _++_};
@@ -9,7 +10,7 @@ ghost use lib.ListN.{length};
 ghost use Rattle.model.specs.Numbers.{all, longestSide};
 ghost use Rattle.model.specs.Grid.{firstFrom};
 ghost use Rattle.model.specs.State.{stateOf};
-ghost use Rattle.model.specs.Refusals.{_then_, fieldsOf, besideTaken, runShort, workEnough, long, gridKnown, constantsWithin, valueTest, edgeTest};
+ghost use Rattle.model.specs.Refusals.{_then_, fieldsOf, besideTaken, runShort, workEnough, long, gridKnown, constantsWithin, valueTest, edgeTest, roomTest};
 ghost use Rattle.model.specs.Promises.{testAnswer, TestPromise};
 ghost use Rattle.integers.specs.Ranges.{between};
 ghost use Rattle.state.specs.Faults.{limitsOf, badAt, badIn, foundBy, refusalBy, cellTest, foundIn};
@@ -334,4 +335,28 @@ pub fn test_state(
         return TestAnswer::Refused(Refusal::Constants);
     }
     test_cells(p, h, b, u, v, beside, x)
+}
+
+// Test 8 of a destination that a field is to be filled into. The product w·n is formed only where test 1 passes; elsewhere a call is
+// refused with 1 whatever is found here. It rules out, for instance: a destination that is just long enough refused; w·w places asked.
+pub fn test_room(p: Parameters, room: usize) -> TestAnswer
+    ensures { λ r. ⌜ ((h b u v : List ℤ) → T (gridKnown (stateOf p h b u v)) → r ≡ testAnswer (roomTest (p .w * p .n) (room ∷ []))) ⌝ }
+{
+    if !grid_known(p) {
+        return TestAnswer::Passed;
+    }
+    if room < p.w * p.n {
+        return TestAnswer::Refused(Refusal::Destination);
+    }
+    TestAnswer::Passed
+}
+
+// The first refusal of two tests. It rules out, for instance: the later one told; the later one lost.
+pub fn first_of(earlier: TestAnswer, later: TestAnswer) -> TestAnswer
+    ensures { λ r. ⌜ r ≡ testAnswer (foundIn earlier then foundIn later) ⌝ }
+{
+    match earlier {
+        TestAnswer::Passed => later,
+        TestAnswer::Refused(_) => earlier,
+    }
 }

@@ -4,6 +4,7 @@ use mathlib.Core.List.{List, [], _∷_}
 use Prim.Native.Nat.{ℕ, _<_}
 use native.Mathlib.Omega.{arith}
 use lib.IntN.{ℤ, pos, negℤ, _+ℤ_, _-ℤ_, _*ℤ_, +ℤ-idl}
+use Rattle.grid.specs.Cells.{previous-lt}
 use Rattle.model.specs.Grid.{at}
 use Rattle.model.specs.State.{State}
 use Rattle.model.specs.Scheme.{toWest, toSouth, fluxU, fluxV, B}
@@ -11,7 +12,7 @@ use Rattle.model.specs.Totals.{energyAt, energy4}
 use Rattle.model.specs.Rates.{energyRate}
 use Rattle.model.specs.Claims.{changed, EnergyRateClaim}
 use Rattle.integers.specs.Ring.{Expr}
-use Rattle.grid.specs.Sums.{grid, grid-cong, grid-add, grid-scale, west-lt}
+use Rattle.grid.specs.Sums.{grid, grid-cong, grid-add, grid-scale}
 use Rattle.grid.specs.Torus.{scalar, field, grid-same}
 use Rattle.theorems.specs.Conservation.{Alg, ints, exprs, Near, near}
 use Rattle.grid.specs.Fields.{at-byCell}
@@ -90,8 +91,8 @@ module _ (s : State) (dh du dv : List ℤ) (e : ℤ) where
     changed-at =
         let H : ℕ → ℕ → ℤ = λ i j. fld (s .h) i j +ℤ e *ℤ (pos 1572864 *ℤ fld dh i j) in
         let here = at-byCell (s .w) (s .n) H i j p r in
-        let to-west = at-byCell (s .w) (s .n) H (toWest s i) j (west-lt (s .w) i (some i (s .w) p)) r in
-        let to-south = at-byCell (s .w) (s .n) H i (toSouth s j) p (west-lt (s .n) j (some j (s .n) r)) in
+        let to-west = at-byCell (s .w) (s .n) H (toWest s i) j (previous-lt (s .w) i (some i (s .w) p)) r in
+        let to-south = at-byCell (s .w) (s .n) H i (toSouth s j) p (previous-lt (s .n) j (some j (s .n) r)) in
         let u = at-byCell (s .w) (s .n) (λ i j. fld (s .u) i j +ℤ e *ℤ fld du i j) i j p r in
         let v = at-byCell (s .w) (s .n) (λ i j. fld (s .v) i j +ℤ e *ℤ fld dv i j) i j p r in
         λ k.

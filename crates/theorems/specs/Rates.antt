@@ -5,13 +5,14 @@ use Prim.Native.Nat.{ℕ, _<_}
 use native.Mathlib.Omega.{arith}
 use lib.Dec.{T}
 use lib.IntN.{ℤ, pos, negℤ, _+ℤ_, _-ℤ_, _*ℤ_, zero-*ℤ, negℤ-negℤ}
+use Rattle.grid.specs.Cells.{previous-lt}
 use Rattle.model.specs.Grid.{at}
 use Rattle.model.specs.State.{State, boundaryOf, closedWest, closedSouth, WithinLimits, OpenEverywhere}
 use Rattle.model.specs.Scheme.{toWest, toSouth, fluxU, fluxV, D, B, corner, weight, Tu, Tv, tendencyU, tendencyV}
 use Rattle.model.specs.Rates.{energyRate, vorticityTendency, D4, enstrophyRate}
 use Rattle.model.specs.Claims.{EnergyClaim, EnstrophyClaim, PeriodicEnstrophyClaim}
 use Rattle.model.specs.declared.FillAnswer.the-variants.{Done}
-use Rattle.grid.specs.Sums.{grid-cong, west-lt}
+use Rattle.grid.specs.Sums.{grid-cong}
 use Rattle.theorems.specs.Conservation.{energy-law, enstrophy-law}
 use Rattle.theorems.specs.Filling.{tendencies-accepted, tendencies-fill}
 
@@ -50,8 +51,8 @@ enstrophy-zero s q dh du dv dh′ du′ dv′ o t =
     let v : (i j : ℕ) → i < s .w → j < s .n → at (s .w) dv′ i j ≡ Tv s q i j = λ i j p r. f .2 i j p r ∙ ap (λ c. cond c (pos 0) (Tv s q i j)) (o .south i j p r) in
     let d : (i j : ℕ) → i < s .w → j < s .n → negℤ (at (s .w) dh′ i j) ≡ D s i j = λ i j p r. ap negℤ (f .0 i j p r) ∙ negℤ-negℤ (D s i j) in
     grid-cong (s .w) (s .n) (λ i j p r.
-    let p′ = west-lt (s .w) i (some i (s .w) p) in
-    let r′ = west-lt (s .n) j (some j (s .n) r) in
+    let p′ = previous-lt (s .w) i (some i (s .w) p) in
+    let r′ = previous-lt (s .n) j (some j (s .n) r) in
     λ k.
     corner s q i j *ℤ (v i j p r k -ℤ v (toWest s i) j p′ r k +ℤ u i (toSouth s j) p r′ k -ℤ u i j p r k)
     +ℤ pos 3 *ℤ corner s q i j *ℤ corner s q i j *ℤ (d i j p r k +ℤ d (toWest s i) j p′ r k +ℤ d i (toSouth s j) p r′ k +ℤ d (toWest s i) (toSouth s j) p′ r′ k))

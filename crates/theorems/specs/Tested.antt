@@ -91,11 +91,11 @@ in-order s beside x =
 
 -- ---- where nothing is refused
 
-passed-none : (o : Option Refusal) → Passed ≡ testAnswer o → o ≡ none
+pub passed-none : (o : Option Refusal) → Passed ≡ testAnswer o → o ≡ none
 passed-none none e = refl
 passed-none (some r) e = differ (cc e)
 
-refused-some : (o : Option Refusal) (r : Refusal) → Refused r ≡ testAnswer o → o ≡ some r
+pub refused-some : (o : Option Refusal) (r : Refusal) → Refused r ≡ testAnswer o → o ≡ some r
 refused-some none r e = differ (cc e)
 refused-some (some x) r e = let h : x ≡ r = cc e in ap some h
 

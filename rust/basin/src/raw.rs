@@ -4,13 +4,58 @@
 //! Every function of the library takes any numbers and any lengths, reads and
 //! writes only within the slices it is lent, and keeps none of them.
 
-// A call takes a whole state as separate fields.
-#![allow(clippy::too_many_arguments)]
-
 use crate::Parameters;
 
 extern "C" {
     fn basin_rnd(a: i64, b: i64, rounded: *mut i64, rounded_len: usize) -> u64;
+
+    fn basin_potential_vorticity(
+        w: usize,
+        n: usize,
+        kind: u8,
+        g: i64,
+        c: i64,
+        r: i64,
+        h: *const i64,
+        h_len: usize,
+        b: *const i64,
+        b_len: usize,
+        u: *const i64,
+        u_len: usize,
+        v: *const i64,
+        v_len: usize,
+        q: *mut i64,
+        q_len: usize,
+        answer: *mut u64,
+        answer_len: usize,
+    ) -> u64;
+
+    fn basin_tendencies(
+        w: usize,
+        n: usize,
+        kind: u8,
+        g: i64,
+        c: i64,
+        r: i64,
+        h: *const i64,
+        h_len: usize,
+        b: *const i64,
+        b_len: usize,
+        u: *const i64,
+        u_len: usize,
+        v: *const i64,
+        v_len: usize,
+        q: *const i64,
+        q_len: usize,
+        dh: *mut i64,
+        dh_len: usize,
+        du: *mut i64,
+        du_len: usize,
+        dv: *mut i64,
+        dv_len: usize,
+        answer: *mut u64,
+        answer_len: usize,
+    ) -> u64;
 
     fn basin_test_state(
         w: usize,
@@ -118,8 +163,74 @@ pub fn rnd(a: i64, b: i64, rounded: &mut [i64]) -> u64 {
     unsafe { basin_rnd(a, b, rounded.as_mut_ptr(), rounded.len()) }
 }
 
-/// The number of the refusal; `answer` begins with the number and the values
-/// told with it, as far as there is room.
+/// The number of the refusal, 0 where `q` is filled; `answer` begins with the
+/// number and the values told with it, as far as there is room.
+pub fn potential_vorticity(
+    p: &Parameters,
+    h: &[i64],
+    b: &[i64],
+    u: &[i64],
+    v: &[i64],
+    q: &mut [i64],
+    answer: &mut [u64],
+) -> u64 {
+    // SAFETY: each pointer and the length after it are those of one slice.
+    // `q` and `answer`, which are written, are borrowed apart from each other
+    // and from the others.
+    unsafe {
+        on_state!(basin_potential_vorticity(
+            p,
+            h,
+            b,
+            u,
+            v,
+            q.as_mut_ptr(),
+            q.len(),
+            answer.as_mut_ptr(),
+            answer.len()
+        ))
+    }
+}
+
+/// The number of the refusal, 0 where `dh`, `du` and `dv` are filled; `answer`
+/// as above.
+pub fn tendencies(
+    p: &Parameters,
+    h: &[i64],
+    b: &[i64],
+    u: &[i64],
+    v: &[i64],
+    q: &[i64],
+    dh: &mut [i64],
+    du: &mut [i64],
+    dv: &mut [i64],
+    answer: &mut [u64],
+) -> u64 {
+    // SAFETY: each pointer and the length after it are those of one slice.
+    // `dh`, `du`, `dv` and `answer`, which are written, are borrowed apart from
+    // each other and from the others.
+    unsafe {
+        on_state!(basin_tendencies(
+            p,
+            h,
+            b,
+            u,
+            v,
+            q.as_ptr(),
+            q.len(),
+            dh.as_mut_ptr(),
+            dh.len(),
+            du.as_mut_ptr(),
+            du.len(),
+            dv.as_mut_ptr(),
+            dv.len(),
+            answer.as_mut_ptr(),
+            answer.len()
+        ))
+    }
+}
+
+/// The number of the refusal of tests 1 to 5; `answer` as above.
 pub fn test_state(
     p: &Parameters,
     h: &[i64],

@@ -67,7 +67,8 @@ impl fmt::Display for Field {
 pub enum Refusal {
     /// 1: w, n or kind unknown, or a run too long.
     Grid,
-    /// 2: a field does not have w·n numbers, or the work space is short.
+    /// 2: a field to be read does not have w·n numbers, or the work space is
+    /// short.
     Lengths,
     /// 3: G, c or R outside its bounds.
     Constants,
@@ -75,6 +76,8 @@ pub enum Refusal {
     Value { field: Field, cell: usize },
     /// 5: a velocity on a closed edge.
     ClosedEdge { field: Field, cell: usize },
+    /// 8: a field to be filled has fewer than w·n places.
+    Destination,
 }
 
 impl Refusal {
@@ -86,6 +89,7 @@ impl Refusal {
             Refusal::Constants => 3,
             Refusal::Value { .. } => 4,
             Refusal::ClosedEdge { .. } => 5,
+            Refusal::Destination => 8,
         }
     }
 
@@ -110,6 +114,7 @@ impl Refusal {
                 field: Field::from_number(field),
                 cell,
             },
+            8 => Refusal::Destination,
             _ => panic!("libbasin.a told refusal {number}, which is none"),
         })
     }
@@ -126,6 +131,7 @@ impl fmt::Display for Refusal {
             Refusal::ClosedEdge { field, cell } => {
                 write!(to, "{field} on a closed edge, cell {cell}")
             }
+            Refusal::Destination => to.write_str("a field to be filled is too short"),
         }
     }
 }

@@ -25,15 +25,17 @@ pub const WEIGHTS: [[i64; 4]; 4] = [[2, 1, 2, 1], [1, 2, 1, 2], [1, 1, -1, -1], 
 
 /// 01's rnd(a/b): the nearest whole number, halves away from zero; b must be
 /// above 0.
+///
+/// It divides sizes, and takes which way to round as a number: an unsigned
+/// division is quicker, and neither a sign nor a rest can be predicted.
 #[inline]
 pub fn round_div(a: i64, b: i64) -> i64 {
-    let (quotient, rest) = (a / b, (a % b).abs());
+    let (size, b) = (a.unsigned_abs(), b.unsigned_abs());
+    let (quotient, rest) = (size / b, size % b);
     // 2·rest >= b, put so that it cannot overflow.
-    if rest >= b - rest {
-        quotient + a.signum()
-    } else {
-        quotient
-    }
+    let up = u64::from(rest >= b - rest);
+    // 2^63, which only i64::MIN gives, wraps to that number twice.
+    a.signum().wrapping_mul((quotient + up) as i64)
 }
 
 /// Fills `out` with the potential vorticity of a state.

@@ -1,11 +1,15 @@
-//! Calls of the tests, made at random: a state within the limits and what is
-//! taken beside it, with faults put into some.
+//! Calls made at random: a state within the limits, what is taken beside it
+//! and what is lent to be filled, with faults put into some.
 
+// Each file of tests uses a part.
+#![allow(dead_code)]
+
+pub mod calls;
 // The generator of random states is shared with the reference's own tests.
 #[path = "../../../reference/tests/common/mod.rs"]
 pub mod common;
 
-use common::{numbers, random_state, Random, SPREADS};
+use common::{literal, numbers, random_state, Random, SPREADS};
 use reference::{Parameters, State};
 
 /// The places of the fields in [`Case::fields`], which are 01's numbers.
@@ -28,38 +32,56 @@ pub const BOUNDS: [(i64, i64); 6] = [
 /// For each field a number within its bounds that closed edges allow too.
 const HARMLESS: [i64; 6] = [1_000, 0, 0, 0, 0, 0];
 
-/// What a call takes beside its state.
+/// The calls on a state.
 #[derive(Clone, Copy, Debug, PartialEq)]
-pub enum Taking {
-    Nothing,
-    Vorticity,
-    Inflow,
-    Run,
+pub enum Call {
+    /// The tests of a state by themselves, and of what some calls take beside
+    /// it.
+    TestState,
+    TestVorticity,
+    TestStep,
+    TestRun,
+    PotentialVorticity,
+    Tendencies,
 }
 
-pub const TAKING: [Taking; 4] = [
-    Taking::Nothing,
-    Taking::Vorticity,
-    Taking::Inflow,
-    Taking::Run,
+pub const CALLS: [Call; 6] = [
+    Call::TestState,
+    Call::TestVorticity,
+    Call::TestStep,
+    Call::TestRun,
+    Call::PotentialVorticity,
+    Call::Tendencies,
 ];
 
-impl Taking {
-    /// The fields that such a call takes.
+/// Those of them that fill destinations.
+pub const FILLING: [Call; 2] = [Call::PotentialVorticity, Call::Tendencies];
+
+impl Call {
+    /// The fields that the call takes.
     pub fn fields(self) -> &'static [usize] {
         match self {
-            Taking::Nothing => &[0, 1, 2, 3],
-            Taking::Vorticity => &[0, 1, 2, 3, Q],
-            Taking::Inflow | Taking::Run => &[0, 1, 2, 3, S],
+            Call::TestState | Call::PotentialVorticity => &[0, 1, 2, 3],
+            Call::TestVorticity | Call::Tendencies => &[0, 1, 2, 3, Q],
+            Call::TestStep | Call::TestRun => &[0, 1, 2, 3, S],
         }
     }
 
     pub fn has_work_space(self) -> bool {
-        matches!(self, Taking::Inflow | Taking::Run)
+        matches!(self, Call::TestStep | Call::TestRun)
+    }
+
+    /// How many destinations the call is lent.
+    pub fn destinations(self) -> usize {
+        match self {
+            Call::TestState | Call::TestVorticity | Call::TestStep | Call::TestRun => 0,
+            Call::PotentialVorticity => 1,
+            Call::Tendencies => 3,
+        }
     }
 }
 
-/// All that the four calls of the tests can be given.
+/// All that the calls can be lent.
 #[derive(Clone, Debug, PartialEq)]
 pub struct Case {
     pub p: Parameters,
@@ -67,6 +89,10 @@ pub struct Case {
     pub fields: [Vec<i64>; 6],
     pub steps: u64,
     pub work: usize,
+    /// Lengths of the destinations: q, or dh, du, dv.
+    pub destinations: [usize; 3],
+    /// Places for the answer.
+    pub room: usize,
 }
 
 impl Case {
@@ -79,13 +105,52 @@ impl Case {
             u,
             v,
         } = state;
-        let work = 8 * h.len();
+        let cells = h.len();
         Case {
             p: parameters,
             fields: [h, b, u, v, q, inflow],
             steps: 3,
-            work,
+            work: 8 * cells,
+            destinations: [cells; 3],
+            room: 3,
         }
+    }
+
+    /// Worked example 2 of 01: one cell.
+    pub fn example_2() -> Self {
+        let parameters = Parameters {
+            w: 1,
+            n: 1,
+            kind: 0,
+            g: 9_810,
+            c: 10,
+            r: 1_000,
+        };
+        let state = State {
+            parameters,
+            h: vec![2_000],
+            b: vec![0],
+            u: vec![100],
+            v: vec![-50],
+        };
+        Case::beside(state, vec![328], vec![0])
+    }
+
+    /// Worked example 4 of 01: two cells.
+    pub fn example_4() -> Self {
+        let parameters = Parameters {
+            w: 2,
+            c: 0,
+            ..Case::example_2().p
+        };
+        let state = State {
+            parameters,
+            h: vec![2_000, 3_000],
+            b: vec![0, 0],
+            u: vec![10, 0],
+            v: vec![0, 0],
+        };
+        Case::beside(state, vec![0, 0], vec![0, 0])
     }
 
     /// A closed basin of 3 by 2 cells that every call accepts.
@@ -115,15 +180,37 @@ impl Case {
     }
 
     pub fn good_of_size(random: &mut Random, size: (usize, usize)) -> Self {
-        let spread = random.pick(&SPREADS);
         let kind = random.below(3) as u8;
+        Case::good_of_kind(random, size, kind)
+    }
+
+    pub fn good_of_kind(random: &mut Random, size: (usize, usize), kind: u8) -> Self {
+        let spread = random.pick(&SPREADS);
         let state = random_state(random, spread, size, kind);
         let cells = state.h.len();
         let mut field = |k: usize| numbers(random, spread, cells, BOUNDS[k].0, BOUNDS[k].1);
-        let (q, inflow) = (field(Q), field(S));
+        let (mut q, inflow) = (field(Q), field(S));
+        // Any q may be lent; the state's own is one.
+        if random.once_in(4) {
+            q = literal::PAPER.vorticity(&state);
+        }
         let mut case = Case::beside(state, q, inflow);
         case.steps = random.pick(&[0, 1, 2, 9_999, 10_000]);
+        case.destinations = [(); 3].map(|()| cells + random.pick(&[0, 0, 1, 5]));
+        case.room = random.below(5);
         case
+    }
+
+    /// The state by itself.
+    pub fn state(&self) -> State {
+        let [h, b, u, v, ..] = self.fields.clone();
+        State {
+            parameters: self.p,
+            h,
+            b,
+            u,
+            v,
+        }
     }
 
     /// Whether a velocity other than 0 at this place is a refusal 5, as 01's
@@ -137,7 +224,7 @@ impl Case {
         }
     }
 
-    fn clear_closed_edges(&mut self) {
+    pub fn clear_closed_edges(&mut self) {
         for field in [U, V] {
             for cell in 0..self.fields[field].len() {
                 if self.is_closed(field, cell) {
@@ -168,14 +255,15 @@ impl Case {
             [4 | 5, field, cell] => {
                 self.fields[field as usize][cell as usize] = HARMLESS[field as usize]
             }
-            _ => panic!("{told:?} is no refusal of the tests: {self:?}"),
+            [8] => self.destinations = [self.p.w * self.p.n; 3],
+            _ => panic!("{told:?} is no refusal of these calls: {self:?}"),
         }
     }
 }
 
 /// Width and height: mostly small, with single cells, rows and columns, and up
 /// to 64 by 64 now and then.
-fn random_size(random: &mut Random) -> (usize, usize) {
+pub fn random_size(random: &mut Random) -> (usize, usize) {
     match random.below(100) {
         0 => (64, 64),
         1 => (1 + random.below(64), 1 + random.below(64)),
@@ -218,6 +306,10 @@ pub enum Fault {
     Steps,
     /// Another length of the work space, short or long.
     Work,
+    /// A destination one place too short, or empty.
+    ShortDestination,
+    /// Destinations of any lengths up to what is needed.
+    OtherDestinations,
     /// A velocity on a closed edge.
     ClosedEdge,
     /// Velocities on some closed edges of u and v.
@@ -228,7 +320,7 @@ pub enum Fault {
     ClosedEdgePast,
 }
 
-pub const FAULTS: [Fault; 18] = [
+pub const FAULTS: [Fault; 20] = [
     Fault::OnePast,
     Fault::FarPast,
     Fault::SeveralPast,
@@ -243,6 +335,8 @@ pub const FAULTS: [Fault; 18] = [
     Fault::Kind,
     Fault::Steps,
     Fault::Work,
+    Fault::ShortDestination,
+    Fault::OtherDestinations,
     Fault::ClosedEdge,
     Fault::ClosedEdges,
     Fault::OpenEdges,
@@ -327,7 +421,9 @@ impl Fault {
                     (case.p.w, case.p.n) = random.pick(&to_0);
                     case.fields.iter_mut().for_each(Vec::clear);
                 }
-                case.work = 8 * case.fields[H].len();
+                let length = case.fields[H].len();
+                case.work = 8 * length;
+                case.destinations = [length; 3];
             }
             Fault::LongSides => {
                 let sides = [
@@ -344,6 +440,7 @@ impl Fault {
                     field.resize(w * n, number);
                 }
                 case.work = 8 * w * n;
+                case.destinations = [w * n; 3];
             }
             Fault::Kind => case.p.kind = random.next() as u8,
             Fault::Steps => {
@@ -370,6 +467,15 @@ impl Fault {
                     ]),
                     _ => random.below(needed.saturating_mul(2).max(1)),
                 };
+            }
+            Fault::ShortDestination => {
+                let last = destination_needed(case).saturating_sub(1);
+                case.destinations[random.below(3)] = random.pick(&[0, last, last]);
+            }
+            Fault::OtherDestinations => {
+                let needed = destination_needed(case);
+                let lengths = [0, needed, random.below(needed + 1)];
+                case.destinations = [(); 3].map(|()| random.pick(&lengths));
             }
             Fault::ClosedEdge => put_on_edges(random, case, 1, velocity),
             Fault::ClosedEdges => {
@@ -400,6 +506,34 @@ impl Fault {
             }
         }
     }
+}
+
+/// A good case with some faults put into it.
+pub fn random_case(random: &mut Random) -> (Case, Vec<Fault>) {
+    let mut case = Case::good(random);
+    let times = match random.below(20) {
+        0..=4 => 0,
+        5..=12 => 1,
+        13..=16 => 2,
+        _ => 3 + random.below(3),
+    };
+    let faults: Vec<_> = (0..times).map(|_| random.pick(&FAULTS)).collect();
+    for fault in &faults {
+        fault.put(random, &mut case);
+    }
+    (case, faults)
+}
+
+/// Adds one to the counts of what happened.
+pub fn add<const N: usize>(counts: &mut [usize; N], happened: [bool; N]) {
+    for (count, happened) in counts.iter_mut().zip(happened) {
+        *count += usize::from(happened);
+    }
+}
+
+/// Places that a destination has to have, in a grid that can be known.
+fn destination_needed(case: &Case) -> usize {
+    case.p.w.wrapping_mul(case.p.n).min(64 * 64)
 }
 
 /// The inverse of an odd number, modulo 2^64.

@@ -1,0 +1,2 @@
+-- what a row hands on, and the room of the destinations
+pub mod Handing

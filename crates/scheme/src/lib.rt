@@ -1,0 +1,268 @@
+// The scheme of Arakawa and Lamb (1981) at a cell, in whole numbers: potential vorticity, weights, fluxes, Bernoulli function.
+//
+// A tendency sums what the two cells beside an edge give to it. So a cell is worked out once: its weights, fluxes and Bernoulli value
+// give a share to each of its four edges, and whoever fills a field hands on those of the cell to the west and of the cell to the
+// south. The functions here serve the calls of the crates above, and require what those have tested.
+ghost use mathlib.Core.Path.{_≡_};
+ghost use mathlib.Core.Bool.{cond};
+ghost use mathlib.Core.List.{[]};
+ghost use Prim.Native.Nat.{_<_};
+ghost use lib.IntN.{pos, negℤ, _+ℤ_, _-ℤ_, _*ℤ_};
+ghost use lib.ListN.{length, getD};
+ghost use Rattle.model.specs.Numbers.{Within, gravityLimits, coriolisLimits, depthLimits, bottomLimits, velocityLimits};
+ghost use Rattle.model.specs.State.{stateOf, FieldWithin};
+ghost use Rattle.model.specs.Weights.{weightAt};
+ghost use Rattle.model.specs.Scheme.{vorticityAt};
+ghost use Rattle.integers.specs.Bounds.{Abs};
+ghost use Rattle.scheme.specs.Reading.{ReadsAt, VorticityReady, Flow, TendenciesReady};
+ghost use Rattle.scheme.specs.Shares.{mostFlux, mostBernoulli, mostShare, weightedBy, CornersWithin, squaresAt, fluxAt, geopotentialAt, westShare, eastShare, southShare, northShare, Fit, IsShares, AreShares};
+use grid::Stencil;
+use model::Parameters;
+
+// ---- potential vorticity
+
+// The depth of the four cells around a corner: 01's H.
+fn depth_around(h: &[i64], here: usize, west: usize, south: usize, southwest: usize) -> i64
+    requires { ⌜ ReadsAt depthLimits (now h) here × ReadsAt depthLimits (now h) west × ReadsAt depthLimits (now h) south × ReadsAt depthLimits (now h) southwest ⌝ }
+    ensures { λ r. ⌜ r ≡ getD (now (h .entry)) here (pos 0) +ℤ getD (now (h .entry)) west (pos 0) +ℤ getD (now (h .entry)) south (pos 0) +ℤ getD (now (h .entry)) southwest (pos 0) ⌝ }
+{
+    h[here] + h[west] + h[south] + h[southwest]
+}
+
+// The absolute vorticity at a corner, times spacing: 01's Z.
+fn absolute_vorticity(c: i64, u: &[i64], v: &[i64], here: usize, west: usize, south: usize) -> i64
+    requires { ⌜ Within coriolisLimits c × ReadsAt velocityLimits (now v) here × ReadsAt velocityLimits (now v) west × ReadsAt velocityLimits (now u) south × ReadsAt velocityLimits (now u) here ⌝ }
+    ensures { λ r. ⌜ r ≡ c +ℤ getD (now (v .entry)) here (pos 0) -ℤ getD (now (v .entry)) west (pos 0) +ℤ getD (now (u .entry)) south (pos 0) -ℤ getD (now (u .entry)) here (pos 0) ⌝ }
+{
+    c + v[here] - v[west] + u[south] - u[here]
+}
+
+// The potential vorticity at a cell's southwest corner. The bottom does not enter: in the contract it has no cells. It rules out, for
+// instance: one of the four depths left out; the difference of v taken backwards.
+pub fn vorticity_at(p: Parameters, h: &[i64], u: &[i64], v: &[i64], i: usize, j: usize) -> i64
+    requires { ⌜ VorticityReady p (now h) (now u) (now v) × (i < p .w) × (j < p .n) ⌝ }
+    ensures { λ r. ⌜ r ≡ vorticityAt (stateOf p (now (h .entry)) [] (now (u .entry)) (now (v .entry))) i j ⌝ }
+{
+    let a = grid::around(p.w, p.n, i, j);
+    let z = absolute_vorticity(p.c, u, v, a.here, a.west, a.south);
+    let depth = depth_around(h, a.here, a.west, a.south, a.southwest);
+    integers::rnd(262144 * z, depth)
+}
+
+// ---- weights
+
+// 01's corner weights, which are the paper's times 24: rows P, M, E, F over a cell's corners ne, nw, sw, se.
+const WEIGHTS: [[i64; 4]; 4] = [[2, 1, 2, 1], [1, 2, 1, 2], [1, 1, -1, -1], [-1, 1, 1, -1]];
+
+// The weight of a row at a corner: the model's table. It rules out, for instance: P and M swapped; E without its signs.
+fn weight_at(row: usize, corner: usize) -> i64
+    requires { ⌜ (row < 4) × (corner < 4) ⌝ }
+    ensures { λ r. ⌜ r ≡ weightAt row corner ⌝ }
+{
+    WEIGHTS[row][corner]
+}
+
+// A potential vorticity at the corners of a cell.
+pub struct Corners {
+    pub ne: i64,
+    pub nw: i64,
+    pub sw: i64,
+    pub se: i64,
+}
+
+// Each is held at the southwest corner of its cell.
+fn corners_at(q: &[i64], ne: usize, nw: usize, sw: usize, se: usize) -> Corners
+    requires { ⌜ (ne < length (now q)) × (nw < length (now q)) × (sw < length (now q)) × (se < length (now q)) ⌝ }
+    ensures { λ r. ⌜ (r .ne ≡ getD (now (q .entry)) ne (pos 0)) × (r .nw ≡ getD (now (q .entry)) nw (pos 0)) × (r .sw ≡ getD (now (q .entry)) sw (pos 0)) × (r .se ≡ getD (now (q .entry)) se (pos 0)) ⌝ }
+{
+    Corners {
+        ne: q[ne],
+        nw: q[nw],
+        sw: q[sw],
+        se: q[se],
+    }
+}
+
+// A row's weights over the corners.
+fn weighted(row: usize, c: Corners) -> i64
+    requires { ⌜ (row < 4) × CornersWithin c ⌝ }
+    ensures { λ r. ⌜ r ≡ weightedBy row c ⌝ }
+{
+    let ne = weight_at(row, 0);
+    let nw = weight_at(row, 1);
+    let sw = weight_at(row, 2);
+    let se = weight_at(row, 3);
+    ne * c.ne + nw * c.nw + sw * c.sw + se * c.se
+}
+
+// 01's P, M, E and F of a cell.
+pub struct Weights {
+    pub p: i64,
+    pub m: i64,
+    pub e: i64,
+    pub f: i64,
+}
+
+fn weights_of(c: Corners) -> Weights
+    requires { ⌜ CornersWithin c ⌝ }
+    ensures { λ r. ⌜ (r .p ≡ weightedBy 0 c) × (r .m ≡ weightedBy 1 c) × (r .e ≡ weightedBy 2 c) × (r .f ≡ weightedBy 3 c) ⌝ }
+{
+    Weights {
+        p: weighted(0, c),
+        m: weighted(1, c),
+        e: weighted(2, c),
+        f: weighted(3, c),
+    }
+}
+
+// ---- fluxes
+
+// The mass flux through an edge, from the velocity x there and the depths of the cells k and l beside it.
+fn flux_at(x: &[i64], h: &[i64], k: usize, l: usize) -> i64
+    requires { ⌜ ReadsAt velocityLimits (now x) k × ReadsAt depthLimits (now h) l × ReadsAt depthLimits (now h) k ⌝ }
+    ensures { λ r. ⌜ r ≡ fluxAt (now (x .entry)) (now (h .entry)) k l ⌝ }
+{
+    x[k] * (h[l] + h[k])
+}
+
+// The mass fluxes through the four edges of a cell: 01's U and V, here and at the next cell.
+pub struct Fluxes {
+    pub west: i64,
+    pub east: i64,
+    pub south: i64,
+    pub north: i64,
+}
+
+// The functions that read around a cell take no w and n: the cells are counted by the length of h.
+fn fluxes_at(h: &[i64], u: &[i64], v: &[i64], a: Stencil) -> Fluxes
+    requires { ⌜ Flow (length (now h)) (now h) (now u) (now v) a ⌝ }
+    ensures { λ r. ⌜ (r .west ≡ fluxAt (now (u .entry)) (now (h .entry)) (a .here) (a .west)) × (r .east ≡ fluxAt (now (u .entry)) (now (h .entry)) (a .east) (a .here)) × (r .south ≡ fluxAt (now (v .entry)) (now (h .entry)) (a .here) (a .south)) × (r .north ≡ fluxAt (now (v .entry)) (now (h .entry)) (a .north) (a .here)) ⌝ }
+{
+    Fluxes {
+        west: flux_at(u, h, a.here, a.west),
+        east: flux_at(u, h, a.east, a.here),
+        south: flux_at(v, h, a.here, a.south),
+        north: flux_at(v, h, a.north, a.here),
+    }
+}
+
+// What flows into a cell: 01's -D.
+fn convergence(f: Fluxes) -> i64
+    requires { ⌜ Abs (f .west) mostFlux × Abs (f .east) mostFlux × Abs (f .south) mostFlux × Abs (f .north) mostFlux ⌝ }
+    ensures { λ r. ⌜ r ≡ negℤ (f .east -ℤ f .west +ℤ f .north -ℤ f .south) ⌝ }
+{
+    -(f.east - f.west + f.north - f.south)
+}
+
+// ---- Bernoulli function
+
+// The squares of the velocities at two opposite edges of a cell.
+fn squares(x: &[i64], k: usize, l: usize) -> i64
+    requires { ⌜ ReadsAt velocityLimits (now x) k × ReadsAt velocityLimits (now x) l ⌝ }
+    ensures { λ r. ⌜ r ≡ squaresAt (now (x .entry)) k l ⌝ }
+{
+    let one = x[k];
+    let other = x[l];
+    one * one + other * other
+}
+
+// Gravity times the level of a cell, times 4: the second part of 01's B.
+fn geopotential(g: i64, h: &[i64], b: &[i64], k: usize) -> i64
+    requires { ⌜ Within gravityLimits g × ReadsAt depthLimits (now h) k × ReadsAt bottomLimits (now b) k ⌝ }
+    ensures { λ r. ⌜ r ≡ geopotentialAt g (now (h .entry)) (now (b .entry)) k ⌝ }
+{
+    4 * g * (h[k] + b[k])
+}
+
+// 01's B of a cell.
+fn bernoulli_at(g: i64, h: &[i64], b: &[i64], u: &[i64], v: &[i64], a: Stencil) -> i64
+    requires { ⌜ Within gravityLimits g × Flow (length (now h)) (now h) (now u) (now v) a × FieldWithin bottomLimits (length (now h)) (now b) ⌝ }
+    ensures { λ r. ⌜ r ≡ squaresAt (now (u .entry)) (a .here) (a .east) +ℤ squaresAt (now (v .entry)) (a .here) (a .north) +ℤ geopotentialAt g (now (h .entry)) (now (b .entry)) (a .here) ⌝ }
+{
+    squares(u, a.here, a.east) + squares(v, a.here, a.north) + geopotential(g, h, b, a.here)
+}
+
+// ---- shares
+
+// What a cell gives to the tendency of each of its edges; `head` is its Bernoulli value, scaled as the tendencies are.
+fn west_share(w: Weights, f: Fluxes, head: i64) -> i64
+    requires { ⌜ Fit w f head ⌝ }
+    ensures { λ r. ⌜ r ≡ westShare w f head ⌝ }
+{
+    w.p * f.north + w.m * f.south - w.e * f.east - head
+}
+
+fn east_share(w: Weights, f: Fluxes, head: i64) -> i64
+    requires { ⌜ Fit w f head ⌝ }
+    ensures { λ r. ⌜ r ≡ eastShare w f head ⌝ }
+{
+    w.m * f.north + w.p * f.south + w.e * f.west + head
+}
+
+fn south_share(w: Weights, f: Fluxes, head: i64) -> i64
+    requires { ⌜ Fit w f head ⌝ }
+    ensures { λ r. ⌜ r ≡ southShare w f head ⌝ }
+{
+    -(w.p * f.east) - w.m * f.west - w.f * f.north - head
+}
+
+fn north_share(w: Weights, f: Fluxes, head: i64) -> i64
+    requires { ⌜ Fit w f head ⌝ }
+    ensures { λ r. ⌜ r ≡ northShare w f head ⌝ }
+{
+    -(w.p * f.west) - w.m * f.east + w.f * f.south + head
+}
+
+// A cell's depth tendency (01: -D), and its shares.
+pub struct Shares {
+    pub depth: i64,
+    pub west: i64,
+    pub east: i64,
+    pub south: i64,
+    pub north: i64,
+}
+
+fn shares_of(w: Weights, f: Fluxes, bernoulli: i64) -> Shares
+    requires { ⌜ Fit w f (pos 786432 *ℤ bernoulli) × Abs bernoulli mostBernoulli ⌝ }
+    ensures { λ r. ⌜ AreShares w f (pos 786432 *ℤ bernoulli) r ⌝ }
+{
+    let head = 786432 * bernoulli;
+    Shares {
+        depth: convergence(f),
+        west: west_share(w, f, head),
+        east: east_share(w, f, head),
+        south: south_share(w, f, head),
+        north: north_share(w, f, head),
+    }
+}
+
+// The same of cell (i, j). It rules out, for instance: two corners swapped; a flux with one depth twice.
+pub fn shares_at(
+    p: Parameters,
+    h: &[i64],
+    b: &[i64],
+    u: &[i64],
+    v: &[i64],
+    q: &[i64],
+    i: usize,
+    j: usize,
+) -> Shares
+    requires { ⌜ TendenciesReady (stateOf p (now h) (now b) (now u) (now v)) (now q) × (i < p .w) × (j < p .n) ⌝ }
+    ensures { λ r. ⌜ IsShares (stateOf p (now (h .entry)) (now (b .entry)) (now (u .entry)) (now (v .entry))) (now (q .entry)) i j r ⌝ }
+{
+    let a = grid::around(p.w, p.n, i, j);
+    let weights = weights_of(corners_at(q, a.northeast, a.north, a.here, a.east));
+    let fluxes = fluxes_at(h, u, v, a);
+    let bernoulli = bernoulli_at(p.g, h, b, u, v, a);
+    shares_of(weights, fluxes, bernoulli)
+}
+
+// The tendency at an edge, from the shares of the cells beside it; on a closed edge it is 0. It rules out, for instance: the mask
+// forgotten; the edge's own share twice.
+pub fn edge_tendency(closed: bool, own: i64, other: i64) -> i64
+    requires { ⌜ Abs own mostShare × Abs other mostShare ⌝ }
+    ensures { λ r. ⌜ r ≡ cond closed (pos 0) (own +ℤ other) ⌝ }
+{
+    let sum = own + other;
+    if closed { 0 } else { sum }
+}

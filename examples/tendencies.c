@@ -1,0 +1,69 @@
+/*
+ * Works out the potential vorticity and the tendencies of three states of
+ * document 01 with the proved core, and prints them cell by cell, or the
+ * number of the refusal and with 4 and 5 the field and the cell. From the
+ * repository, after `rt staticlib basin`:
+ *
+ *   gcc -std=c99 -Wall -Wextra -Werror -Iinclude examples/tendencies.c \
+ *       target/staticlib/libbasin.a -o target/tendencies
+ *   target/tendencies | diff - examples/tendencies.out
+ */
+#include <inttypes.h>
+#include <stdio.h>
+
+#include "basin.h"
+
+/* A state of up to two cells. */
+struct state {
+    size_t w, n;
+    uint8_t kind;
+    int64_t g, c, r;
+    int64_t h[2], b[2], u[2], v[2];
+};
+
+static void print_tendencies(const char *name, const struct state *s)
+{
+    size_t cells = s->w * s->n;
+    int64_t q[2], dh[2], du[2], dv[2];
+    uint64_t answer[3];
+    uint64_t number = basin_potential_vorticity(s->w, s->n, s->kind,
+                                                s->g, s->c, s->r,
+                                                s->h, cells, s->b, cells,
+                                                s->u, cells, s->v, cells,
+                                                q, 2, answer, 3);
+    if (number == 0)
+        number = basin_tendencies(s->w, s->n, s->kind, s->g, s->c, s->r,
+                                  s->h, cells, s->b, cells,
+                                  s->u, cells, s->v, cells, q, cells,
+                                  dh, 2, du, 2, dv, 2, answer, 3);
+    if (number != 0) {
+        printf("%s: refused %" PRIu64, name, number);
+        if (number == 4 || number == 5)
+            printf(" field %" PRIu64 " cell %" PRIu64, answer[1], answer[2]);
+        printf("\n");
+        return;
+    }
+    for (size_t k = 0; k < cells; k++)
+        printf("%s cell %zu: q %" PRId64 " dh %" PRId64 " du %" PRId64
+               " dv %" PRId64 "\n", name, k, q[k], dh[k], du[k], dv[k]);
+}
+
+int main(void)
+{
+    struct state example_2 = {
+        .w = 1, .n = 1, .kind = 0, .g = 9810, .c = 10, .r = 1000,
+        .h = {2000}, .b = {0}, .u = {100}, .v = {-50},
+    };
+    struct state example_4 = {
+        .w = 2, .n = 1, .kind = 0, .g = 9810, .c = 0, .r = 1000,
+        .h = {2000, 3000}, .b = {0, 0}, .u = {10, 0}, .v = {0, 0},
+    };
+    /* Example 6 is example 4 with kind 2, which closes the edge of u[0]. */
+    struct state example_6 = example_4;
+    example_6.kind = 2;
+
+    print_tendencies("example 2", &example_2);
+    print_tendencies("example 4", &example_4);
+    print_tendencies("example 6", &example_6);
+    return 0;
+}

@@ -1,0 +1,205 @@
+//! What potential vorticity and tendencies fill in: the numbers of the worked
+//! examples (their refusals are in comparison.rs), fields at their bounds in
+//! eight patterns each, and random grids. In these one tendency is then put off
+//! by one: the energy rate shows it always in dh and mostly in du and dv, the
+//! enstrophy rate, where there is no wall, mostly in each of the three.
+//!
+//! Every comparison is with the independent version, and every accepted one of
+//! tendencies asks for the rates that are 0 ([`cases::calls`]).
+
+mod cases;
+
+use cases::calls::{compare, rates};
+use cases::common::Random;
+use cases::{add, random_size, Call, Case, BOUNDS, Q, U, V};
+
+/// What both fill in, where both accept.
+fn filled(case: &Case, call: Call, at: &str) -> [Vec<i64>; 3] {
+    let outcome = compare(case, call, at);
+    assert_eq!(outcome.told, [0], "{at}: {call:?} {case:?}");
+    outcome.destinations
+}
+
+// ---- the worked examples
+
+#[test]
+fn example_2_one_cell() {
+    let case = Case::example_2();
+    let [q, ..] = filled(&case, Call::PotentialVorticity, "example 2");
+    assert_eq!(q, [328]);
+    let [dh, du, dv] = filled(&case, Call::Tendencies, "example 2");
+    assert_eq!((dh[0], du[0], dv[0]), (0, -1_574_400_000, -3_148_800_000));
+}
+
+#[test]
+fn example_4_two_cells() {
+    let case = Case::example_4();
+    let [q, ..] = filled(&case, Call::PotentialVorticity, "example 4");
+    assert_eq!(q, [0, 0]);
+    let [dh, du, dv] = filled(&case, Call::Tendencies, "example 4");
+    assert_eq!(dh, [50_000, -50_000]);
+    assert_eq!(du, [30_859_591_680_000, -30_859_591_680_000]);
+    assert_eq!(dv, [0, 0]);
+}
+
+#[test]
+fn example_8_greatest_vorticity() {
+    let mut case = Case::example_2();
+    (case.p.w, case.p.n, case.p.c) = (2, 2, 10_000);
+    case.fields = [
+        vec![1_000; 4],
+        vec![0; 4],
+        vec![-5_000, 0, 5_000, 0],
+        vec![5_000, -5_000, 0, 0],
+        vec![0; 4],
+        vec![0; 4],
+    ];
+    case.destinations = [4; 3];
+    let [q, ..] = filled(&case, Call::PotentialVorticity, "example 8");
+    assert_eq!(q[0], 1_966_080);
+}
+
+// ---- numbers at their bounds
+
+/// Which cells of a field have its upper bound; the others have its lower.
+type Pattern = fn(usize, usize) -> bool;
+
+const PATTERNS: [Pattern; 8] = [
+    |_, _| true,
+    |_, _| false,
+    |i, _| i % 2 == 0,
+    |i, _| i % 2 == 1,
+    |_, j| j % 2 == 0,
+    |_, j| j % 2 == 1,
+    |i, j| (i + j) % 2 == 0,
+    |i, j| (i + j) % 2 == 1,
+];
+
+/// Least and greatest of what was filled in.
+#[derive(Debug)]
+struct Ends(i64, i64);
+
+impl Ends {
+    fn widen(&mut self, numbers: &[i64]) {
+        for &x in numbers {
+            *self = Ends(self.0.min(x), self.1.max(x));
+        }
+    }
+
+    fn reach(&self, most: i64) -> bool {
+        self.0 <= -most && self.1 >= most
+    }
+}
+
+#[test]
+fn fields_at_their_bounds_in_eight_patterns_each() {
+    let sizes = [
+        (4, 4),
+        (2, 2),
+        (6, 2),
+        (2, 4),
+        (3, 5),
+        (1, 4),
+        (4, 1),
+        (1, 1),
+    ];
+    let mut random = Random::new(21);
+    let mut ends = [(); 4].map(|()| Ends(0, 0));
+    let mut kinds = [0; 3];
+    // Every pattern of h, u, v and q beside every other; one of b at random.
+    for number in 0..3 * 8usize.pow(4) {
+        let kind = number % 3;
+        let octal = |digit: u32| number / 3 / 8usize.pow(digit) % 8;
+        let patterns = [octal(0), random.below(8), octal(1), octal(2), octal(3), 0];
+        let (w, n) = if random.once_in(2) {
+            sizes[0]
+        } else {
+            random.pick(&sizes)
+        };
+        let mut case = Case::good_of_kind(&mut random, (w, n), kind as u8);
+        case.p.g = random.pick(&[1, 10_000]);
+        case.p.c = random.pick(&[-10_000, 10_000]);
+        case.p.r = random.pick(&[1_000, 1_000_000]);
+        for ((field, pattern), (low, high)) in case.fields.iter_mut().zip(patterns).zip(BOUNDS) {
+            for (cell, place) in field.iter_mut().enumerate() {
+                let upper = PATTERNS[pattern](cell % w, cell / w);
+                *place = if upper { high } else { low };
+            }
+        }
+        case.clear_closed_edges();
+        kinds[kind] += 1;
+        let at = format!("patterns {patterns:?}");
+        let [q, ..] = filled(&case, Call::PotentialVorticity, &at);
+        let tendencies = filled(&case, Call::Tendencies, &at);
+        ends[0].widen(&q[..w * n]);
+        for (ends, numbers) in ends[1..].iter_mut().zip(&tendencies) {
+            ends.widen(&numbers[..w * n]);
+        }
+    }
+    println!("{ends:?}");
+    assert_eq!(kinds, [4_096; 3]);
+    // The greatest q of 01's example 8; four fluxes of 5,000 mm/s by 200,000 mm
+    // out of one cell; and four such fluxes times weights of 6 by 2,000,000,
+    // beside a step of the bottom of 100,000 mm.
+    let momentum = 48_000_000_000_000_000 + 786_432 * 4 * 10_000 * 100_000;
+    let most = [1_966_080, 4_000_000_000, momentum, momentum];
+    for (ends, most) in ends.iter().zip(most) {
+        assert!(ends.reach(most), "{ends:?} {most}");
+    }
+}
+
+// ---- random grids
+
+#[test]
+fn random_grids_keep_energy_and_without_walls_enstrophy() {
+    let (mut grids, mut lent_own) = (0, 0);
+    // Enstrophy rates other than 0, by kind.
+    let mut changing = [0; 3];
+    // Of tendencies off by one, in dh, du, dv: how many; seen by the energy
+    // rate; of kind 0; seen by the enstrophy rate.
+    let mut off_by_one = [[0; 4]; 3];
+    for (kind, changing) in changing.iter_mut().enumerate() {
+        let seed = 31 + kind as u64;
+        let mut random = Random::new(seed);
+        for number in 0..2_000 {
+            let at = format!("seed {seed}, case {number}");
+            let size = random_size(&mut random);
+            let mut case = Case::good_of_kind(&mut random, size, kind as u8);
+            let cells = size.0 * size.1;
+            let [q, ..] = filled(&case, Call::PotentialVorticity, &at);
+            if random.once_in(4) {
+                // What one call fills can be lent to the other.
+                case.fields[Q] = q[..cells].to_vec();
+                lent_own += 1;
+            }
+            let tendencies = filled(&case, Call::Tendencies, &at);
+            for (field, numbers) in [(U, &tendencies[1]), (V, &tendencies[2])] {
+                let closed = (0..cells).filter(|&cell| case.is_closed(field, cell));
+                let moving = closed.filter(|&cell| numbers[cell] != 0).count();
+                assert_eq!(moving, 0, "{at}: {case:?}");
+            }
+            grids += 1;
+            let (_, enstrophy) = rates(&case, &tendencies);
+            *changing += usize::from(enstrophy != 0);
+
+            let mut wrong = tendencies;
+            let (which, cell) = (random.below(3), random.below(cells));
+            wrong[which][cell] += random.pick(&[-1, 1]);
+            let (energy, enstrophy) = rates(&case, &wrong);
+            // The Bernoulli function is above 0, a flux need not be.
+            assert!(which != 0 || energy != 0, "{at}: {case:?}");
+            let open = kind == 0;
+            let seen = [true, energy != 0, open, open && enstrophy != 0];
+            add(&mut off_by_one[which], seen);
+        }
+    }
+    println!("{changing:?} {off_by_one:?} {lent_own}");
+    assert_eq!(grids, 6_000);
+    assert!(lent_own > 1_000, "{lent_own}");
+    assert_eq!(changing[0], 0);
+    assert!(changing[1..].iter().all(|&k| k > 500), "{changing:?}");
+    for [times, by_energy, open, by_enstrophy] in off_by_one {
+        assert!(times > 1_500 && by_energy * 2 > times, "{off_by_one:?}");
+        assert!(open > 500 && by_enstrophy * 2 > open, "{off_by_one:?}");
+    }
+}

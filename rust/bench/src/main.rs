@@ -1,0 +1,213 @@
+//! Times the calls of the proved library and those of the independent version
+//! in one run, on the same closed basins:
+//!
+//! ```sh
+//! cargo run --release --offline --manifest-path rust/Cargo.toml -p bench
+//! ```
+//!
+//! Rounds of the two take turns, and the least time of each counts: whatever
+//! else the machine does can only add to it.
+
+// The generator of random states is shared with the tests.
+#[path = "../../reference/tests/common/mod.rs"]
+mod common;
+
+use std::hint::black_box;
+use std::time::{Duration, Instant};
+
+use common::{random_q, random_state, Random, Spread};
+use reference::{FillAnswer, State};
+
+const GRIDS: [(usize, usize); 2] = [(16, 16), (64, 64)];
+const KIND: u8 = 2;
+/// Cells of all the states that a call is timed on, one after the other: the
+/// branches of a single one are learnt by the processor, more or less by chance.
+const CELLS: usize = 4 * 64 * 64;
+const ROUNDS: usize = 31;
+/// What a round takes at least, with either version, in the warm-up.
+const ROUND: Duration = Duration::from_millis(4);
+
+/// A call of both versions. Each says whether it was accepted.
+struct Call {
+    name: &'static str,
+    proved: Version,
+    independent: Version,
+}
+
+type Version = fn(&mut Lent) -> bool;
+
+/// A name, and the function of that name in both versions, or that of each,
+/// with what it takes after the parameters.
+macro_rules! call {
+    ($name:literal, |$l:ident| $function:ident($($lent:expr),*)) => {
+        call!($name, |$l| $function($($lent),*) | $function($($lent),*))
+    };
+    ($name:literal, |$l:ident| $proved:ident($($a:expr),*) | $independent:ident($($b:expr),*)) => {
+        Call {
+            name: $name,
+            proved: |$l| basin::$proved(&$l.proved_parameters, $($a),*).accepted(),
+            independent: |$l| {
+                reference::$independent(&$l.independent_parameters, $($b),*).accepted()
+            },
+        }
+    };
+}
+
+#[rustfmt::skip]
+const CALLS: [Call; 3] = [
+    call!("tests of a state", |l| test_state(&l.h, &l.b, &l.u, &l.v, basin::Beside::Nothing)
+                                | test_call(&l.h, &l.b, &l.u, &l.v, reference::Beside::Nothing)),
+    call!("potential vorticity", |l| potential_vorticity(&l.h, &l.b, &l.u, &l.v, &mut l.own_q)),
+    call!("tendencies", |l| tendencies(&l.h, &l.b, &l.u, &l.v, &l.q, &mut l.dh, &mut l.du, &mut l.dv)),
+];
+
+/// All that the calls can be lent.
+#[derive(PartialEq)]
+struct Lent {
+    proved_parameters: basin::Parameters,
+    independent_parameters: reference::Parameters,
+    h: Vec<i64>,
+    b: Vec<i64>,
+    u: Vec<i64>,
+    v: Vec<i64>,
+    q: Vec<i64>,
+    /// Filled with the state's own potential vorticity.
+    own_q: Vec<i64>,
+    dh: Vec<i64>,
+    du: Vec<i64>,
+    dv: Vec<i64>,
+}
+
+impl Lent {
+    /// Random basins of this size.
+    fn all(size: (usize, usize)) -> Vec<Self> {
+        let mut random = Random::new(1);
+        let number = CELLS / (size.0 * size.1);
+        (0..number).map(|_| Lent::new(&mut random, size)).collect()
+    }
+
+    fn new(random: &mut Random, size: (usize, usize)) -> Self {
+        let state = random_state(random, Spread::Even, size, KIND);
+        let cells = size.0 * size.1;
+        let q = random_q(random, Spread::Even, cells);
+        let State {
+            parameters,
+            h,
+            b,
+            u,
+            v,
+        } = state;
+        let reference::Parameters {
+            w,
+            n,
+            kind,
+            g,
+            c,
+            r,
+        } = parameters;
+        Lent {
+            proved_parameters: basin::Parameters {
+                w,
+                n,
+                kind,
+                g,
+                c,
+                r,
+            },
+            independent_parameters: parameters,
+            h,
+            b,
+            u,
+            v,
+            q,
+            own_q: vec![0; cells],
+            dh: vec![0; cells],
+            du: vec![0; cells],
+            dv: vec![0; cells],
+        }
+    }
+}
+
+trait Answer {
+    fn accepted(&self) -> bool;
+}
+
+impl<E> Answer for Result<(), E> {
+    fn accepted(&self) -> bool {
+        self.is_ok()
+    }
+}
+
+impl Answer for FillAnswer {
+    fn accepted(&self) -> bool {
+        *self == FillAnswer::Done
+    }
+}
+
+/// How long it takes to call the version on each of these so many times.
+fn time(version: Version, lent: &mut [Lent], repeats: u32) -> Duration {
+    let start = Instant::now();
+    for _ in 0..repeats {
+        for lent in &mut *lent {
+            assert!(black_box(version(black_box(lent))), "refused");
+        }
+    }
+    start.elapsed()
+}
+
+/// Both versions leave the same numbers.
+fn check(call: &Call, size: (usize, usize)) {
+    let [proved, independent] = [call.proved, call.independent].map(|version| {
+        let mut lent = Lent::all(size);
+        time(version, &mut lent, 1);
+        lent
+    });
+    let same = proved == independent;
+    assert!(same, "{} gives different numbers", call.name);
+}
+
+/// The least nanoseconds per cell of both versions.
+fn compare(call: &Call, size: (usize, usize)) -> [f64; 2] {
+    let versions = [call.proved, call.independent];
+    // The same places in memory for both: times depend on these.
+    let mut lent = Lent::all(size);
+    // Both warm up until a round is long enough for either.
+    let mut repeats = 1;
+    while versions.map(|version| time(version, &mut lent, repeats) >= ROUND) != [true; 2] {
+        repeats *= 2;
+    }
+    let mut least = [Duration::MAX; 2];
+    for round in 0..ROUNDS {
+        // Each goes first in every second round.
+        for k in [round % 2, 1 - round % 2] {
+            least[k] = least[k].min(time(versions[k], &mut lent, repeats));
+        }
+    }
+    let cells = f64::from(repeats) * CELLS as f64;
+    least.map(|time| time.as_nanos() as f64 / cells)
+}
+
+fn main() {
+    if cfg!(debug_assertions) {
+        eprintln!("not a release build: the independent version is not optimised");
+    }
+    println!("ns per cell          grid    proved  independent  ratio");
+    for call in &CALLS {
+        for (w, n) in GRIDS {
+            check(call, (w, n));
+            let [proved, independent] = compare(call, (w, n));
+            let (name, ratio) = (call.name, proved / independent);
+            let grid = format!("{w}x{n}");
+            println!("{name:<20} {grid:<6} {proved:>7.2}  {independent:>11.2}  {ratio:>5.2}");
+        }
+    }
+}
+
+#[test]
+fn both_versions_leave_the_same_numbers() {
+    for call in &CALLS {
+        for size in GRIDS {
+            check(call, size);
+        }
+    }
+}
