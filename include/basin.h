@@ -1,8 +1,8 @@
 /*
  * The proved basin core (document 01), for C and C++ on x86-64. Link
- * target/staticlib/libbasin.a, which `rt staticlib basin` writes. So far:
- * potential vorticity and tendencies of a state, the tests that a call on a
- * state begins with, by themselves, and rounding.
+ * target/staticlib/libbasin.a, which `rt staticlib basin` writes. So far: the
+ * step of a state and runs of it, totals, potential vorticity and tendencies,
+ * the tests that a call on a state begins with, by themselves, and rounding.
  *
  * Every function takes any numbers and any lengths, and always returns. A
  * field is lent as a pointer and the number of its elements. What is asked of
@@ -19,16 +19,23 @@
  *
  * Answers. A call on a state returns the number of its refusal, 0 for none.
  * answer holds the same number and then what is told with it, as far as there
- * is room (3 places are enough); its other places are untouched. A refused
- * call leaves everything else that was lent to it untouched.
+ * is room (5 places are enough); its other places are untouched. A refused
+ * call leaves everything else that was lent to it untouched, but for the work
+ * space, and for the state of a run that 6 stops, which is left as it is after
+ * the steps done.
+ *
+ * Work space. A step or run is lent work, of at least 8*w*n numbers, whatever
+ * they are. After refusals 1 and 2 it is untouched. Otherwise, refused or not,
+ * its first 8*w*n numbers are 0 after the call and the rest are untouched.
  *
  * Refusals. The causes are tested in this order and the first is told:
  *
  *   number  cause                                             told with it
- *   0       none
+ *   0       none                                              (a run: steps)
  *   1       w or n not 1 to 64; kind not 0, 1 or 2;
  *           steps above 10,000
- *   2       a field to be read does not have w*n numbers;
+ *   2       a field to be read or stepped does not have
+ *           w*n numbers;
  *           work_len below 8*w*n
  *   3       g not 1 to 10,000; c not -10,000 to 10,000;
  *           r not 1,000 to 1,000,000
@@ -36,6 +43,8 @@
  *           cell first
  *   5       a velocity other than 0 on a closed edge, u       field, cell
  *           before v, lowest cell first
+ *   6       a pass of the step, 1 or 2, leaves the bounds     pass, field, cell
+ *           of h, u or v, in this order, lowest cell first    (a run: steps too)
  *   8       a field to be filled has fewer than w*n places
  *
  *   field   bounds
@@ -98,6 +107,61 @@ uint64_t basin_tendencies(size_t w, size_t n, uint8_t kind,
                           int64_t *du, size_t du_len,
                           int64_t *dv, size_t dv_len,
                           uint64_t *answer, size_t answer_len);
+
+/*
+ * One step with an inflow for each cell. Tests 1 to 5, the inflow among the
+ * fields, then 6. Where none refuses, h, u and v are stepped in place.
+ */
+uint64_t basin_step(size_t w, size_t n, uint8_t kind,
+                    int64_t g, int64_t c, int64_t r,
+                    int64_t *h, size_t h_len,
+                    const int64_t *b, size_t b_len,
+                    int64_t *u, size_t u_len,
+                    int64_t *v, size_t v_len,
+                    const int64_t *inflow, size_t inflow_len,
+                    int64_t *work, size_t work_len,
+                    uint64_t *answer, size_t answer_len);
+
+/*
+ * Up to so many steps with the same inflow. Tests 1 to 5 as a step, with the
+ * number of steps too. Where none refuses, h, u and v are stepped in place
+ * until all steps are done, and told are 0 and their number; or until the next
+ * one would be refused with 6, and told are 6, pass, field, cell and the number
+ * of steps done.
+ */
+uint64_t basin_run(size_t w, size_t n, uint8_t kind,
+                   int64_t g, int64_t c, int64_t r,
+                   int64_t *h, size_t h_len,
+                   const int64_t *b, size_t b_len,
+                   int64_t *u, size_t u_len,
+                   int64_t *v, size_t v_len,
+                   const int64_t *inflow, size_t inflow_len,
+                   uint64_t steps,
+                   int64_t *work, size_t work_len,
+                   uint64_t *answer, size_t answer_len);
+
+/*
+ * Total depth, the sum of h. Tests 1 to 5. Where none refuses and total_len is
+ * at least 1, total[0] is the result; the rest of total is untouched.
+ */
+uint64_t basin_total_depth(size_t w, size_t n, uint8_t kind,
+                           int64_t g, int64_t c, int64_t r,
+                           const int64_t *h, size_t h_len,
+                           const int64_t *b, size_t b_len,
+                           const int64_t *u, size_t u_len,
+                           const int64_t *v, size_t v_len,
+                           int64_t *total, size_t total_len,
+                           uint64_t *answer, size_t answer_len);
+
+/* The same of four times total energy. */
+uint64_t basin_total_energy(size_t w, size_t n, uint8_t kind,
+                            int64_t g, int64_t c, int64_t r,
+                            const int64_t *h, size_t h_len,
+                            const int64_t *b, size_t b_len,
+                            const int64_t *u, size_t u_len,
+                            const int64_t *v, size_t v_len,
+                            int64_t *total, size_t total_len,
+                            uint64_t *answer, size_t answer_len);
 
 /*
  * Tests 1 to 5 of a state by themselves: 0 where a call that takes it is

@@ -26,7 +26,7 @@ use Rattle.basin.proofs.basin_tendencies.Kinds.{ps, r}
 use Rattle.basin.proofs.basin_tendencies.Reads.{Learnt}
 
 -- 0 is told of nothing else
-from-one : (x : Refusal) → 1 ≤ number x
+pub from-one : (x : Refusal) → 1 ≤ number x
 from-one Grid = lit≤ tt
 from-one Lengths = lit≤ tt
 from-one Constants = lit≤ tt

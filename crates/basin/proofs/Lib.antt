@@ -1,3 +1,4 @@
 pub mod Tells
 -- the theorems speak of the C interface
 pub mod Applied
+pub mod Balance

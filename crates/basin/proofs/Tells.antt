@@ -1,49 +1,47 @@
--- What is told, by equal numbers and of an equal state. Assumes nothing.
-use mathlib.Core.Path.{_≡_, sym, subst, ap}
-use mathlib.Core.List.{List}
-use Prim.Native.Nat.{ℕ}
+-- How numbers are told one after the other, and an answer of the tests. Assumes nothing.
+use mathlib.Core.Path.{_≡_, refl, subst, ap, _∙_}
+use mathlib.Core.List.{List, [], _∷_, _++_}
+use Prim.Native.Nat.{ℕ, suc, _+_, _<_, _≤_, zero-le}
+use native.Mathlib.Numerals.{add-one}
+use native.Mathlib.Omega.{arith}
 use lib.IntN.{ℤ}
-use mir.Facts.{toZ-ofZ}
-use mir.Syntax.{w64}
-use mir.Val.{SFits}
-use Rattle.integers.specs.Bounds.{held}
+use lib.ListN.{length, take, getD, set}
+use lib.Seq.{sets, length-sets, take-all, take-suc, length-take-le}
 use Rattle.model.specs.State.{State}
-use Rattle.model.specs.Answers.{testNumbers, fillNumbers}
-use Rattle.model.specs.Promises.{TestPromise, VorticityPromise, TendenciesPromise}
+use Rattle.model.specs.Answers.{testNumbers}
+use Rattle.model.specs.Promises.{TestPromise}
 use Rattle.model.specs.declared.Beside.{Beside}
 use Rattle.model.specs.declared.TestAnswer.{TestAnswer}
-use Rattle.model.specs.declared.FillAnswer.{FillAnswer}
-use Rattle.basin.specs.Told.{Told, TestTold, VorticityTold, TendenciesTold, stateIn}
+use Rattle.basin.specs.Told.{Told, TestTold}
 
-pub told-as : {l m entry exit : List ℕ} {r : ℕ} → l ≡ m → Told m entry r exit → Told l entry r exit
-told-as {entry = entry} {exit = exit} {r = r} e t = subst (λ l. Told l entry r exit) (sym e) t
+-- ---- the numbers l stored one after the other, from d's first place on
 
--- what holds of a state whose constants are as the machine holds them holds of the constants that were passed
-pub as-passed : {w n kind : ℕ} {g c r : ℤ} {h b u v : List ℤ} (P : State → Type 0) → SFits w64 g → SFits w64 c → SFits w64 r
-    → P (stateIn w n kind (held w64 g) (held w64 c) (held w64 r) h b u v) → P (stateIn w n kind g c r h b u v)
-as-passed {w} {n} {kind} {g} {c} {r} {h} {b} {u} {v} P p q o x =
-    subst (λ r. P (stateIn w n kind g c r h b u v)) (toZ-ofZ o)
-    (subst (λ c. P (stateIn w n kind g c (held w64 r) h b u v)) (toZ-ofZ q)
-    (subst (λ g. P (stateIn w n kind g (held w64 c) (held w64 r) h b u v)) (toZ-ofZ p) x))
+-- one more, in the place n after those from place i on
+sets-more : (l d : List ℕ) (i n x : ℕ) → n ≡ i + length l → sets d i (l ++ (x ∷ [])) ≡ set (sets d i l) n x
+sets-more [] d i n x e = ap (λ n. set d n x) (omega arith)
+sets-more (a ∷ l) d i n x e = sets-more l (set d i a) (suc i) n x (omega arith)
 
--- an answer of the tests
-pub told-test : {w n kind : ℕ} {g c r : ℤ} {h b u v x : List ℤ} {beside : Beside} {t : TestAnswer} {entry exit : List ℕ} {k : ℕ}
-    → SFits w64 g → SFits w64 c → SFits w64 r
-    → TestPromise (stateIn w n kind (held w64 g) (held w64 c) (held w64 r) h b u v) beside x t → Told (testNumbers t) entry k exit
-    → TestTold (stateIn w n kind g c r h b u v) beside x entry k exit
-told-test {x = x} {beside} {entry = entry} {exit} {k} p q o a e =
-    as-passed (λ s. TestTold s beside x entry k exit) p q o (told-as (ap testNumbers (sym (a .answers))) e)
+-- the first k of them are stored
+pub record Storing (l d : List ℕ) (k : ℕ) (e : List ℕ) : Type 0 where
+  pub so-far : k ≤ length l
+  pub holds : e ≡ sets d 0 (take k l)
 
--- an answer of a call that fills
-pub told-vorticity : {w n kind : ℕ} {g c r : ℤ} {h b u v q q′ : List ℤ} {a : FillAnswer} {entry exit : List ℕ} {k : ℕ}
-    → SFits w64 g → SFits w64 c → SFits w64 r
-    → VorticityPromise (stateIn w n kind (held w64 g) (held w64 c) (held w64 r) h b u v) q a q′ → Told (fillNumbers a) entry k exit
-    → VorticityTold (stateIn w n kind g c r h b u v) q q′ entry k exit
-told-vorticity {q = q} {q′} {a} x y z p e = record { answer = a; promise = as-passed (λ s. VorticityPromise s q a q′) x y z p; told = e }
+pub storing-none : {l d : List ℕ} → Storing l d 0 d
+storing-none = record { so-far = zero-le; holds = refl }
 
-pub told-tendencies : {w n kind : ℕ} {g c r : ℤ} {h b u v q dh du dv dh′ du′ dv′ : List ℤ} {a : FillAnswer} {entry exit : List ℕ} {k : ℕ}
-    → SFits w64 g → SFits w64 c → SFits w64 r
-    → TendenciesPromise (stateIn w n kind (held w64 g) (held w64 c) (held w64 r) h b u v) q dh du dv a dh′ du′ dv′ → Told (fillNumbers a) entry k exit
-    → TendenciesTold (stateIn w n kind g c r h b u v) q dh du dv dh′ du′ dv′ entry k exit
-told-tendencies {q = q} {dh} {du} {dv} {dh′} {du′} {dv′} {a} x y z p e =
-    record { answer = a; promise = as-passed (λ s. TendenciesPromise s q dh du dv a dh′ du′ dv′) x y z p; told = e }
+pub storing-more : {l d e e′ : List ℕ} {k : ℕ} → k < length l → Storing l d k e → e′ ≡ set e k (getD l k 0) → Storing l d (k + 1) e′
+storing-more {l} {d} {e} {e′} {k} h p q =
+    let place : k ≡ 0 + length (take k l) = omega (arith, length-take-le k l (p .so-far)) in
+    record { so-far = omega arith; holds = q ∙ rw (add-one, take-suc l k 0, sets-more (take k l) d 0 k (getD l k 0) place, ← p .holds) }
+
+pub storing-long : {l d e : List ℕ} {k : ℕ} → Storing l d k e → length e ≡ length d
+storing-long {l} {d} {e} {k} p = ap length (p .holds) ∙ length-sets d 0 (take k l)
+
+pub storing-done : {l d e : List ℕ} {k : ℕ} → Storing l d k e → length l ≤ k → Told l d (getD l 0 0) e
+storing-done {l} {d} {e} {k} p h = record { returns = refl; holds = p .holds ∙ ap (sets d 0) (take-all k l h) }
+
+-- ---- an answer of the tests
+
+pub told-test : {s : State} {x : List ℤ} {beside : Beside} {t : TestAnswer} {entry exit : List ℕ} {k : ℕ}
+    → TestPromise s beside x t → Told (testNumbers t) entry k exit → TestTold s beside x entry k exit
+told-test {entry = entry} {exit} {k} a e = subst (λ t. Told (testNumbers t) entry k exit) (a .answers) e

@@ -10,10 +10,14 @@ use lib.ListN.{length, getD}
 use lib.Seq.{sets}
 use Rattle.model.specs.Numbers.{_to_, within, rnd}
 use Rattle.model.specs.State.{State, stateOf}
-use Rattle.model.specs.Answers.{testNumbers, fillNumbers}
-use Rattle.model.specs.Promises.{testOf, testAnswer, VorticityPromise, TendenciesPromise}
+use Rattle.model.specs.Answers.{refusalNumbers, testNumbers, fillNumbers, stepNumbers, runNumbers}
+use Rattle.model.specs.Promises.{testOf, testAnswer, VorticityPromise, TendenciesPromise, StepPromise, RunPromise}
 use Rattle.model.specs.declared.Beside.{Beside}
 use Rattle.model.specs.declared.FillAnswer.{FillAnswer}
+use Rattle.model.specs.declared.StepAnswer.{StepAnswer}
+use Rattle.model.specs.declared.RunAnswer.{RunAnswer}
+use Rattle.model.specs.declared.TotalAnswer.{TotalAnswer}
+use Rattle.model.specs.declared.TotalAnswer.the-variants as T
 
 -- a list of numbers is told: its first is returned, and all of them are in the answer, as far as there is room
 pub record Told (numbers entry : List ℕ) (r : ℕ) (exit : List ℕ) : Type 0 where
@@ -38,6 +42,36 @@ pub record TendenciesTold (s : State) (q dh du dv dh′ du′ dv′ : List ℤ) 
   pub answer : FillAnswer
   pub promise : TendenciesPromise s q dh du dv answer dh′ du′ dv′
   pub told : Told (fillNumbers answer) entry r exit
+
+-- step and run, from a state to the state that they leave
+pub record StepTold (s : State) (inflow work : List ℤ) (s′ : State) (work′ : List ℤ) (entry : List ℕ) (r : ℕ) (exit : List ℕ) : Type 0 where
+  pub answer : StepAnswer
+  pub promise : StepPromise s inflow work answer s′ work′
+  pub told : Told (stepNumbers answer) entry r exit
+
+pub record RunTold (s : State) (inflow : List ℤ) (m : ℕ) (work : List ℤ) (s′ : State) (work′ : List ℤ) (entry : List ℕ) (r : ℕ) (exit : List ℕ) : Type 0 where
+  pub answer : RunAnswer
+  pub promise : RunPromise s inflow m work answer s′ work′
+  pub told : Told (runNumbers answer) entry r exit
+
+-- ---- totals
+
+-- what is told of a total: it is not among the numbers, which have no sign
+abbrev pub totalNumbers : TotalAnswer → List ℕ
+totalNumbers (T.Total x) = 0 ∷ []
+totalNumbers (T.Refused r) = refusalNumbers r
+
+-- what stands from the first place of the lent slice on; a refusal leaves all as it was
+abbrev pub totalIn : TotalAnswer → List ℤ
+totalIn (T.Total x) = x ∷ []
+totalIn (T.Refused r) = []
+
+-- the promise of depth or of energy, of the answer that is told
+pub record TotalTold (promised : TotalAnswer → Type 0) (total total′ : List ℤ) (entry : List ℕ) (r : ℕ) (exit : List ℕ) : Type 0 where
+  pub answer : TotalAnswer
+  pub promise : promised answer
+  pub holds : total′ ≡ sets total 0 (totalIn answer)
+  pub told : Told (totalNumbers answer) entry r exit
 
 -- ---- rnd
 

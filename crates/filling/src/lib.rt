@@ -78,17 +78,16 @@ fn fill_row(
     requires { ⌜ (let s = stateOf p (now h) (now b) (now u) (now v) in TendenciesReady s (now q) × (j < p .n) × HandedNorth s (now q) (previous (p .n) j) (now handed) × Room (cells s) (now dh) (now du) (now dv)) ⌝ }
     ensures { λ _. ⌜ (let s = stateOf p (now (h .entry)) (now (b .entry)) (now (u .entry)) (now (v .entry)) in let q₀ = now (q .entry) in RowWriting (p .w) (p .n) (λ i j. negℤ (D s i j)) 0 j (now (dh .entry)) (p .w) (now (dh .exit)) × RowWriting (p .w) (p .n) (tendencyU s q₀) 0 j (now (du .entry)) (p .w) (now (du .exit)) × RowWriting (p .w) (p .n) (tendencyV s q₀) 0 j (now (dv .entry)) (p .w) (now (dv .exit)) × HandedNorth s q₀ j (now (handed .exit))) ⌝ }
 {
-    let e = grid::boundary_of(p.kind);
     let last = scheme::shares_at(p, h, b, u, v, q, p.w - 1, j);
     let mut from_west = last.east;
     for i in 0..p.w {
-        let own = scheme::shares_at(p, h, b, u, v, q, i, j);
+        let cell = scheme::tendencies_at(p, h, b, u, v, q, i, j, from_west, handed[i]);
         // what is stored below is copied first: the checker takes a local there
-        let depth = own.depth;
-        let east = own.east;
-        let north = own.north;
-        let at_west = scheme::edge_tendency(grid::wall_west(e, i), own.west, from_west);
-        let at_south = scheme::edge_tendency(grid::wall_south(e, j), own.south, handed[i]);
+        let depth = cell.depth;
+        let at_west = cell.u;
+        let at_south = cell.v;
+        let east = cell.east;
+        let north = cell.north;
         let k = j * p.w + i;
         dh[k] = depth;
         du[k] = at_west;
@@ -98,8 +97,8 @@ fn fill_row(
     }
 }
 
-// What the last row gives to row 0, which is to its north.
-fn hand_north(
+// What the last row gives to row 0, which is to its north. It rules out, for instance: what row 0 gives; the shares for the east.
+pub fn hand_north(
     p: Parameters,
     h: &[i64],
     b: &[i64],

@@ -1,11 +1,11 @@
 -- What stands in a field that was filled cell by cell, and past it. Assumes nothing.
-use mathlib.Core.Path.{_≡_, refl, ap, _∙_}
+use mathlib.Core.Path.{_≡_, refl, sym, ap, subst, _∙_}
 use mathlib.Core.List.{List}
 use Prim.Native.Nat.{ℕ, zero, suc, _*_, _/_, _%_, _+_, _<_}
-use native.Mathlib.Nat.{not-suc-le-zero, le-of-suc-le-suc}
+use native.Mathlib.Nat.{not-suc-le-zero, le-of-suc-le-suc, mod-lt, div-lt-iff-lt-mul, mul-comm}
 use lib.IntN.{ℤ, pos}
 use lib.ListN.{length, getD, take, drop, List·getD-append}
-use lib.Seq.{take-at, drop-at}
+use lib.Seq.{take-at, drop-at, ext-getD}
 use Rattle.model.specs.Grid.{tabulate, byCell, filled, at}
 use Rattle.grid.specs.Cells.{cell-lt, by-index}
 
@@ -41,3 +41,19 @@ at-byCell w n f i j p q =
 -- the first places of a list are what stands there in a longer one
 pub at-filled : (w n : ℕ) (l d : List ℤ) (i j : ℕ) → length l ≡ w * n → i < w → j < n → at w (filled (w * n) l d) i j ≡ at w l i j
 at-filled w n l d i j e p q = List·getD-append l (drop (w * n) d) (pos 0) (j * w + i) (rw e (cell-lt p q))
+
+-- an index has its row
+row-lt : {w n k : ℕ} → 0 < w → k < w * n → k / w < n
+row-lt {w} {n} z h = div-lt-iff-lt-mul z .1 (rw (mul-comm w n) at h)
+
+-- what holds at every cell holds at every index
+pub byCell-each : (w n : ℕ) {g : ℕ → ℕ → ℤ} (P : ℤ → Type 0) → 0 < w → ((i j : ℕ) → i < w → j < n → P (g i j)) → (k : ℕ) → k < w * n → P (getD (byCell w n g) k (pos 0))
+byCell-each w n {g} P z h k l = subst P (sym (getD-byCell w n g k l)) (h (k % w) (k / w) (mod-lt k z) (row-lt z l))
+
+-- what agrees at every cell is one field
+pub byCell-cong : (w n : ℕ) {f g : ℕ → ℕ → ℤ} → 0 < w → ((i j : ℕ) → i < w → j < n → f i j ≡ g i j) → byCell w n f ≡ byCell w n g
+byCell-cong w n {f} {g} z e =
+    ext-getD (pos 0) (byCell w n f) (byCell w n g) (length-byCell w n f ∙ sym (length-byCell w n g))
+    (λ k l.
+    let h : k < w * n = rw (length-byCell w n f) at l in
+    getD-byCell w n f k h ∙ e (k % w) (k / w) (mod-lt k z) (row-lt z h) ∙ sym (getD-byCell w n g k h))

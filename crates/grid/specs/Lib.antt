@@ -7,4 +7,5 @@ pub mod Stencils
 pub mod Fields
 pub mod Parts
 pub mod Writing
+pub mod Banks
 pub mod Scanning

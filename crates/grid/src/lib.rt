@@ -26,7 +26,7 @@ pub fn boundary_of(kind: u8) -> BoundaryByte
     }
 }
 
-// Whether a byte stood for a boundary. It rules out, for instance: every byte known; none.
+// Whether a byte stood for a boundary.
 pub fn known(e: BoundaryByte) -> bool
     ensures { λ r. ⌜ r ≡ State.known e ⌝ }
 {
@@ -36,7 +36,7 @@ pub fn known(e: BoundaryByte) -> bool
     }
 }
 
-// Whether the west edges of column i are closed. It rules out, for instance: a channel's west wall; the last column closed.
+// Whether the west edges of column i are closed. It rules out, for instance: a basin without its west wall.
 pub fn wall_west(e: BoundaryByte, i: usize) -> bool
     ensures { λ r. ⌜ r ≡ wallWest e i ⌝ }
 {
@@ -50,7 +50,7 @@ pub fn wall_west(e: BoundaryByte, i: usize) -> bool
     }
 }
 
-// Whether the south edges of row j are closed. It rules out, for instance: a channel without its wall; every row closed.
+// Whether the south edges of row j are closed. It rules out, for instance: a channel without its wall.
 pub fn wall_south(e: BoundaryByte, j: usize) -> bool
     ensures { λ r. ⌜ r ≡ wallSouth e j ⌝ }
 {
@@ -64,8 +64,8 @@ pub fn wall_south(e: BoundaryByte, j: usize) -> bool
     }
 }
 
-// The next place on a side of w places, and the one before: both wrap, without a division. They rule out, for instance: no wrap; a
-// wrap one place early.
+// The next place on a side of w places, and the one before: both wrap, without a division. They rule out, for instance: the last
+// place for the one before, always.
 pub fn next(w: usize, i: usize) -> usize
     requires { ⌜ i < w ⌝ }
     ensures { λ r. ⌜ (r ≡ Grid.next w i) × (r < w) ⌝ }
@@ -119,7 +119,7 @@ pub fn around(w: usize, n: usize, i: usize, j: usize) -> Stencil
     }
 }
 
-// The m numbers of a work space from place a on. It rules out, for instance: a part one place off; one that is too short.
+// The m numbers of a work space from place a on. It rules out, for instance: a part of another length.
 pub fn part_of(work: &[i64], a: usize, m: usize) -> &[i64]
     requires { ⌜ a + m ≤ length (now work) ⌝ }
     ensures { λ r. ⌜ now r ≡ part a m (now (work .entry)) ⌝ }
@@ -128,7 +128,7 @@ pub fn part_of(work: &[i64], a: usize, m: usize) -> &[i64]
     &work[a..end]
 }
 
-// Puts the numbers of src into a work space from place a on. It rules out, for instance: a number past them changed; one left out.
+// Puts the numbers of src into a work space from place a on. It rules out, for instance: another place.
 pub fn copy_into(work: &mut [i64], a: usize, src: &[i64])
     requires { ⌜ a + length (now src) ≤ length (now work) ⌝ }
     ensures { λ _. ⌜ now (work .exit) ≡ replaced a (now (src .entry)) (now (work .entry)) ⌝ }
@@ -138,7 +138,17 @@ pub fn copy_into(work: &mut [i64], a: usize, src: &[i64])
     }
 }
 
-// Makes the first m numbers of a work space zero. It rules out, for instance: one left as it was; one past them cleared.
+// Fills d with the m numbers of a work space from place a on. It rules out, for instance: another part; one number for all.
+pub fn copy_out(work: &[i64], a: usize, m: usize, d: &mut [i64])
+    requires { ⌜ (a + m ≤ length (now work)) × (length (now d) ≡ m) ⌝ }
+    ensures { λ _. ⌜ now (d .exit) ≡ part a m (now (work .entry)) ⌝ }
+{
+    for k in 0..m {
+        d[k] = work[a + k];
+    }
+}
+
+// Makes the first m numbers of a work space zero. It rules out, for instance: each made one.
 pub fn clear(work: &mut [i64], m: usize)
     requires { ⌜ m ≤ length (now work) ⌝ }
     ensures { λ _. ⌜ now (work .exit) ≡ filled m (replicate m (pos 0)) (now (work .entry)) ⌝ }

@@ -3,7 +3,7 @@ use Prim.Native.Nat.{ℕ, _≤_}
 use lib.Dec.{leb→le}
 use lib.IntN.{ℤ, pos, negsuc, natAbs, _+ℤ_, _-ℤ_}
 use lib.Signed.{_≤ℤ_}
-use Rattle.model.specs.Numbers.{Within, depthLimits, bottomLimits, velocityLimits, gravityLimits, coriolisLimits, vorticityLimits}
+use Rattle.model.specs.Numbers.{Within, depthLimits, bottomLimits, velocityLimits, gravityLimits, coriolisLimits, ratioLimits, inflowLimits, vorticityLimits}
 use Rattle.integers.specs.Ring.{Expr, var, _⊕_, _⊖_}
 use Rattle.integers.specs.Order.{≤-add}
 use Rattle.integers.specs.Bounds.{Abs, ∎, _◂_, size, abs-within}
@@ -28,6 +28,14 @@ module _ {x : ℤ} where
   pub coriolis-size : Within coriolisLimits x → Abs x 10000
   unfolding coriolisLimits
   coriolis-size p = abs-within p tt
+
+  pub ratio-size : Within ratioLimits x → Abs x 1000000
+  unfolding ratioLimits
+  ratio-size p = abs-within p tt
+
+  pub inflow-size : Within inflowLimits x → Abs x 1000
+  unfolding inflowLimits
+  inflow-size p = abs-within p tt
 
   pub vorticity-size : Within vorticityLimits x → Abs x 2000000
   unfolding vorticityLimits

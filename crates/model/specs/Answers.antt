@@ -79,16 +79,22 @@ abbrev pub toldFill : FillAnswer → List ℤ
 toldFill a = whole (fillNumbers a)
 
 -- refusal 6: pass, field, cell
+abbrev pub stepNumbers : StepAnswer → List ℕ
+stepNumbers S.Done = 0 ∷ []
+stepNumbers (S.Refused r) = refusalNumbers r
+stepNumbers (S.OutOfBounds p f k) = 6 ∷ p ∷ fieldNumber f ∷ k ∷ []
+
 abbrev pub toldStep : StepAnswer → List ℤ
-toldStep S.Done = whole (0 ∷ [])
-toldStep (S.Refused r) = told r
-toldStep (S.OutOfBounds p f k) = whole (6 ∷ p ∷ fieldNumber f ∷ k ∷ [])
+toldStep a = whole (stepNumbers a)
 
 -- the number of steps done; beside it the refusal 6 that stopped the run
+abbrev pub runNumbers : RunAnswer → List ℕ
+runNumbers (R.Finished m) = 0 ∷ m ∷ []
+runNumbers (R.Refused r) = refusalNumbers r
+runNumbers (R.Stopped m p f k) = 6 ∷ p ∷ fieldNumber f ∷ k ∷ m ∷ []
+
 abbrev pub toldRun : RunAnswer → List ℤ
-toldRun (R.Finished m) = whole (0 ∷ m ∷ [])
-toldRun (R.Refused r) = told r
-toldRun (R.Stopped m p f k) = whole (6 ∷ p ∷ fieldNumber f ∷ k ∷ m ∷ [])
+toldRun a = whole (runNumbers a)
 
 abbrev pub toldTotal : TotalAnswer → List ℤ
 toldTotal (T.Total x) = pos 0 ∷ x ∷ []

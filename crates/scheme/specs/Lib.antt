@@ -4,3 +4,4 @@ pub mod Shares
 pub mod Around
 -- how large the numbers become
 pub mod Sizes
+pub mod Passing

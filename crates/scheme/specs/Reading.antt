@@ -4,7 +4,7 @@ use mathlib.Core.List.{List}
 use Prim.Native.Nat.{ℕ, _*_, _<_}
 use lib.IntN.{ℤ, pos}
 use lib.ListN.{length, getD}
-use Rattle.model.specs.Numbers.{Limits, Within, coriolisLimits, depthLimits, velocityLimits, vorticityLimits}
+use Rattle.model.specs.Numbers.{Limits, Within, coriolisLimits, ratioLimits, depthLimits, velocityLimits, vorticityLimits}
 use Rattle.model.specs.State.{State, Side, cells, FieldWithin, WithinLimits}
 use Rattle.model.specs.declared.Parameters.{Parameters}
 use Rattle.grid.specs.Stencils.{Below}
@@ -33,6 +33,14 @@ pub record VorticityReady (p : Parameters) (h u v : List ℤ) : Type 0 where
   pub depths : FieldWithin depthLimits (p .w * p .n) h
   pub us : FieldWithin velocityLimits (p .w * p .n) u
   pub vs : FieldWithin velocityLimits (p .w * p .n) v
+
+-- what the flows through the edges of one way are made of, x the velocities there, is within the limits
+pub record FlowReady (p : Parameters) (h x : List ℤ) : Type 0 where
+  pub columns : Side (p .w)
+  pub rows : Side (p .n)
+  pub ratio : Within ratioLimits (p .r)
+  pub depths : FieldWithin depthLimits (p .w * p .n) h
+  pub velocities : FieldWithin velocityLimits (p .w * p .n) x
 
 -- what the tendencies are made of is within the limits
 pub record TendenciesReady (s : State) (q : List ℤ) : Type 0 where

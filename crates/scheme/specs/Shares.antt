@@ -14,6 +14,7 @@ use Rattle.scheme.specs.declared.Corners.{Corners}
 use Rattle.scheme.specs.declared.Weights.{Weights}
 use Rattle.scheme.specs.declared.Fluxes.{Fluxes}
 use Rattle.scheme.specs.declared.Shares.{Shares}
+use Rattle.scheme.specs.declared.CellTendencies.{CellTendencies}
 
 -- ---- bounds of each, with q within its own and a state within the limits; a row of the table is bounded by its largest entry
 
@@ -36,6 +37,10 @@ mostHead = 6370099200000000
 -- three products of a weight and a flux, and that
 abbrev pub mostShare : ℕ
 mostShare = 54370099200000000
+
+-- two shares
+abbrev pub mostTendency : ℕ
+mostTendency = 108740198400000000
 
 -- ---- of fields, by index
 
@@ -170,3 +175,12 @@ module _ (s : State) (q : List ℤ) (i j : ℕ) where
       → cond closed (pos 0) (own +ℤ other) ≡ tendencyV s q i j
   unfolding tendencyV
   v-edge e a b = ap₂ (λ c x. cond c (pos 0) x) e (ap₂ _+ℤ_ a b ∙ v-shares)
+
+-- ---- what a cell holds, and hands on
+
+pub record AreTendencies (s : State) (q : List ℤ) (i j : ℕ) (r : CellTendencies) : Type 0 where
+  pub depth : r .depth ≡ negℤ (D s i j)
+  pub u : r .u ≡ tendencyU s q i j
+  pub v : r .v ≡ tendencyV s q i j
+  pub east : r .east ≡ eastShareAt s q i j
+  pub north : r .north ≡ northShareAt s q i j

@@ -1,4 +1,5 @@
-// The scheme of Arakawa and Lamb (1981) at a cell, in whole numbers: potential vorticity, weights, fluxes, Bernoulli function.
+// The scheme of Arakawa and Lamb (1981) at a cell, in whole numbers: potential vorticity, weights, fluxes, Bernoulli function,
+// tendencies; and what a pass makes of them, flows and velocities.
 //
 // A tendency sums what the two cells beside an edge give to it. So a cell is worked out once: its weights, fluxes and Bernoulli value
 // give a share to each of its four edges, and whoever fills a field hands on those of the cell to the west and of the cell to the
@@ -9,13 +10,14 @@ ghost use mathlib.Core.List.{[]};
 ghost use Prim.Native.Nat.{_<_};
 ghost use lib.IntN.{pos, negℤ, _+ℤ_, _-ℤ_, _*ℤ_};
 ghost use lib.ListN.{length, getD};
-ghost use Rattle.model.specs.Numbers.{Within, gravityLimits, coriolisLimits, depthLimits, bottomLimits, velocityLimits};
+ghost use Rattle.model.specs.Numbers.{rnd, Within, gravityLimits, coriolisLimits, ratioLimits, depthLimits, bottomLimits, velocityLimits};
 ghost use Rattle.model.specs.State.{stateOf, FieldWithin};
 ghost use Rattle.model.specs.Weights.{weightAt};
-ghost use Rattle.model.specs.Scheme.{vorticityAt};
+ghost use Rattle.model.specs.Scheme.{vorticityAt, toWest, toSouth};
+ghost use Rattle.model.specs.Step.{X, Y};
 ghost use Rattle.integers.specs.Bounds.{Abs};
-ghost use Rattle.scheme.specs.Reading.{ReadsAt, VorticityReady, Flow, TendenciesReady};
-ghost use Rattle.scheme.specs.Shares.{mostFlux, mostBernoulli, mostShare, weightedBy, CornersWithin, squaresAt, fluxAt, geopotentialAt, westShare, eastShare, southShare, northShare, Fit, IsShares, AreShares};
+ghost use Rattle.scheme.specs.Reading.{ReadsAt, VorticityReady, FlowReady, Flow, TendenciesReady};
+ghost use Rattle.scheme.specs.Shares.{mostFlux, mostBernoulli, mostShare, mostTendency, weightedBy, CornersWithin, squaresAt, fluxAt, geopotentialAt, westShare, eastShare, southShare, northShare, Fit, IsShares, AreShares, eastShareAt, northShareAt, AreTendencies};
 use grid::Stencil;
 use model::Parameters;
 
@@ -257,12 +259,92 @@ pub fn shares_at(
     shares_of(weights, fluxes, bernoulli)
 }
 
-// The tendency at an edge, from the shares of the cells beside it; on a closed edge it is 0. It rules out, for instance: the mask
-// forgotten; the edge's own share twice.
-pub fn edge_tendency(closed: bool, own: i64, other: i64) -> i64
+// The tendency at an edge, from the shares of the cells beside it; on a closed edge it is 0.
+fn edge_tendency(closed: bool, own: i64, other: i64) -> i64
     requires { ⌜ Abs own mostShare × Abs other mostShare ⌝ }
     ensures { λ r. ⌜ r ≡ cond closed (pos 0) (own +ℤ other) ⌝ }
 {
     let sum = own + other;
     if closed { 0 } else { sum }
+}
+
+// ---- tendencies
+
+// The tendencies that a cell holds: of its depth (01: -D), at its west edge (Tu) and at its south edge (Tv). And what it hands on: its
+// shares for the cell to the east and for the cell to the north.
+pub struct CellTendencies {
+    pub depth: i64,
+    pub u: i64,
+    pub v: i64,
+    pub east: i64,
+    pub north: i64,
+}
+
+// The tendencies of cell (i, j), from what the cells to its west and south have handed on. It rules out, for instance: the mask
+// forgotten; the edge's own share twice.
+pub fn tendencies_at(
+    p: Parameters,
+    h: &[i64],
+    b: &[i64],
+    u: &[i64],
+    v: &[i64],
+    q: &[i64],
+    i: usize,
+    j: usize,
+    west: i64,
+    south: i64,
+) -> CellTendencies
+    requires { ⌜ (let s = stateOf p (now h) (now b) (now u) (now v) in TendenciesReady s (now q) × (i < p .w) × (j < p .n) × (west ≡ eastShareAt s (now q) (toWest s i) j) × (south ≡ northShareAt s (now q) i (toSouth s j))) ⌝ }
+    ensures { λ r. ⌜ AreTendencies (stateOf p (now (h .entry)) (now (b .entry)) (now (u .entry)) (now (v .entry))) (now (q .entry)) i j r ⌝ }
+{
+    let e = grid::boundary_of(p.kind);
+    let own = shares_at(p, h, b, u, v, q, i, j);
+    CellTendencies {
+        depth: own.depth,
+        u: edge_tendency(grid::wall_west(e, i), own.west, west),
+        v: edge_tendency(grid::wall_south(e, j), own.south, south),
+        east: own.east,
+        north: own.north,
+    }
+}
+
+// ---- flows
+
+// The flow through an edge over the time step, rounded, from the velocity x there and the depths of the cells k and l beside it.
+fn flow_at(r: i64, x: &[i64], h: &[i64], k: usize, l: usize) -> i64
+    requires { ⌜ Within ratioLimits r × ReadsAt velocityLimits (now x) k × ReadsAt depthLimits (now h) l × ReadsAt depthLimits (now h) k ⌝ }
+    ensures { λ y. ⌜ y ≡ rnd (fluxAt (now (x .entry)) (now (h .entry)) k l) (pos 2 *ℤ r) ⌝ }
+{
+    integers::rnd(flux_at(x, h, k, l), 2 * r)
+}
+
+// 01's X and Y at cell (i, j): the flows through its west and south edge. What does not enter has no cells in the contracts. They
+// rule out, for instance: the depth of one cell twice; divided by R.
+pub fn flow_west(p: Parameters, h: &[i64], u: &[i64], i: usize, j: usize) -> i64
+    requires { ⌜ FlowReady p (now h) (now u) × (i < p .w) × (j < p .n) ⌝ }
+    ensures { λ r. ⌜ r ≡ X (stateOf p (now (h .entry)) [] (now (u .entry)) []) i j ⌝ }
+{
+    let here = grid::cell_index(p.w, p.n, i, j);
+    let west = grid::cell_index(p.w, p.n, grid::previous(p.w, i), j);
+    flow_at(p.r, u, h, here, west)
+}
+
+pub fn flow_south(p: Parameters, h: &[i64], v: &[i64], i: usize, j: usize) -> i64
+    requires { ⌜ FlowReady p (now h) (now v) × (i < p .w) × (j < p .n) ⌝ }
+    ensures { λ r. ⌜ r ≡ Y (stateOf p (now (h .entry)) [] [] (now (v .entry))) i j ⌝ }
+{
+    let here = grid::cell_index(p.w, p.n, i, j);
+    let south = grid::cell_index(p.w, p.n, i, grid::previous(p.n, j));
+    flow_at(p.r, v, h, here, south)
+}
+
+// ---- velocities
+
+// A velocity after a pass: moved by a tendency there, over the time step. It rules out, for instance: divided by 2R as the flows are;
+// the tendency subtracted.
+pub fn moved_velocity(x: i64, t: i64, r: i64) -> i64
+    requires { ⌜ Within velocityLimits x × Abs t mostTendency × Within ratioLimits r ⌝ }
+    ensures { λ y. ⌜ y ≡ x +ℤ rnd t (pos 3145728 *ℤ r) ⌝ }
+{
+    x + integers::rnd(t, 3145728 * r)
 }

@@ -13,7 +13,8 @@ use Rattle.grid.specs.Sums.{grid, grid-cong, grid-add, sum-head, sum-rows}
 use Rattle.theorems.specs.Conservation.{mass-law}
 use Rattle.grid.specs.Fields.{length-byCell, at-byCell}
 
-total-sum : (l : List ℤ) → total l ≡ sumTo (length l) (λ k. getD l k (pos 0))
+-- a list's total is a sum over its indices
+pub total-sum : (l : List ℤ) → total l ≡ sumTo (length l) (λ k. getD l k (pos 0))
 unfolding total sumTo
 total-sum [] = refl
 total-sum (x ∷ l) = ap (λ z. x +ℤ z) (total-sum l) ∙ sym (sum-head (length l) (λ k. getD (x ∷ l) k (pos 0)))

@@ -134,6 +134,10 @@ pass-within s g inflow same l h =
       still-south = λ i j a b t. at-byCell (s .w) (s .n) (newV g s q) i j a b ∙ rests-south s g q same l i j a b (subst T (pass-walls s g inflow .south i j) t);
     }
 
+-- so pass 1, with the state's own tendencies
+pub first-within : (s : State) (inflow : List ℤ) → WithinLimits s → leaves (pass s s inflow) ≡ none → WithinLimits (pass s s inflow)
+first-within s inflow l h = pass-within s s inflow (record { west = λ i j. refl; south = λ i j. refl }) l h
+
 -- and leaves no bound where it keeps them
 none-left : (r : State) → WithinLimits r → leaves r ≡ none
 unfolding leaves
@@ -148,9 +152,8 @@ pub step-within : StepClaim
 step-within = record {
   moves = λ s t inflow l. (
     λ h.
-        let m = moves s t inflow h in
-        let same : SameWalls s s = record { west = λ i j. refl; south = λ i j. refl } in (
-          pass-within s s inflow same l (m .first),
+        let m = moves s t inflow h in (
+          first-within s inflow l (m .first),
           subst WithinLimits (m .result) (pass-within s (pass s s inflow) inflow (pass-walls s s inflow) l (m .second)),
           sym (m .result),
         ),

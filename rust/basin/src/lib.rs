@@ -6,22 +6,26 @@
 //! any numbers and any lengths: what 01 turns back is returned as a
 //! [`Refusal`].
 //!
-//! So far the core has the potential vorticity and the tendencies of a state
-//! ([`potential_vorticity`], [`tendencies`]), the tests that every call on a
-//! state begins with ([`test_state`]) and the rounding of the scheme ([`rnd`]).
+//! So far the core has the step of a state and runs of it ([`step`], [`run`]),
+//! the totals ([`total_depth`], [`total_energy`]), the potential vorticity and
+//! the tendencies ([`potential_vorticity`], [`tendencies`]), the tests that
+//! every call on a state begins with ([`test_state`]) and the rounding of the
+//! scheme ([`rnd`]).
 //!
 //! The archive is looked for in the repository's `target/staticlib`, or in
 //! the folder that the environment variable `BASIN_LIB_DIR` names when this
 //! package is built.
 //!
 //! ```
-//! use basin::{potential_vorticity, rnd, tendencies, test_state};
-//! use basin::{Beside, Field, Parameters, Refusal};
+//! use basin::{potential_vorticity, rnd, run, step, tendencies, test_state};
+//! use basin::{total_depth, total_energy, Beside, Field, Parameters, Ran, Refusal};
 //!
 //! // One cell, 2,000 mm deep, that wraps both ways.
 //! let p = Parameters { w: 1, n: 1, kind: 0, g: 9810, c: 10, r: 1000 };
-//! let (h, b, u, v) = ([2000], [0], [100], [-50]);
+//! let (mut h, b, mut u, mut v) = ([2000], [0], [100], [-50]);
 //! assert_eq!(test_state(&p, &h, &b, &u, &v, Beside::Nothing), Ok(()));
+//! assert_eq!(total_depth(&p, &h, &b, &u, &v), Ok(2000));
+//! assert_eq!(total_energy(&p, &h, &b, &u, &v), Ok(78_530_000_000));
 //!
 //! let mut q = [0];
 //! assert_eq!(potential_vorticity(&p, &h, &b, &u, &v, &mut q), Ok(()));
@@ -38,10 +42,31 @@
 //! assert_eq!(refusal.number(), 4);
 //! assert_eq!(refusal.to_string(), "refusal 4: depth h outside its bounds, cell 0");
 //!
-//! // A run of 100 steps needs 8 numbers of work space per cell.
-//! let run = |work| Beside::Run { inflow: &[0], steps: 100, work };
-//! assert_eq!(test_state(&p, &h, &b, &u, &v, run(8)), Ok(()));
-//! assert_eq!(test_state(&p, &h, &b, &u, &v, run(7)), Err(Refusal::Lengths));
+//! // A step needs 8 numbers of work space per cell, which it leaves 0.
+//! let mut work = vec![7; p.work_len()];
+//! let done = step(&p, &mut h, &b, &mut u, &mut v, &[0], &mut work);
+//! assert_eq!(done, Ok(()));
+//! assert_eq!((h, u, v), ([2000], [99], [-51]));
+//! assert_eq!(work, [0; 8]);
+//! let short = step(&p, &mut h, &b, &mut u, &mut v, &[0], &mut work[1..]);
+//! assert_eq!(short, Err(Refusal::Lengths));
+//!
+//! // 10 mm come in with each step.
+//! let mut run = |steps| run(&p, &mut h, &b, &mut u, &mut v, &[10], steps, &mut work);
+//! assert_eq!(run(0), Ok(Ran { steps: 0, stopped: None }));
+//! assert_eq!(run(100), Ok(Ran { steps: 100, stopped: None }));
+//! assert_eq!(run(10_001), Err(Refusal::Grid));
+//! assert_eq!(total_depth(&p, &h, &b, &u, &v), Ok(3000));
+//!
+//! // As deep as it may be, it can take no more: the run stops where it is.
+//! let mut h = [100_000];
+//! let full = Refusal::OutOfBounds { pass: 1, field: Field::Depth, cell: 0 };
+//! let stopped = basin::run(&p, &mut h, &b, &mut u, &mut v, &[10], 100, &mut work);
+//! assert_eq!(stopped, Ok(Ran { steps: 0, stopped: Some(full) }));
+//! assert_eq!(
+//!     full.to_string(),
+//!     "refusal 6: pass 1 leaves the bounds of depth h, cell 0"
+//! );
 //!
 //! assert_eq!(rnd(-5, 2), Some(-3));
 //! ```
@@ -75,6 +100,14 @@ pub struct Parameters {
     pub r: i64,
 }
 
+impl Parameters {
+    /// How many numbers of work space a step or run needs: 8·w·n. Where that is
+    /// more than a `usize` holds, the grid is one that every call refuses.
+    pub fn work_len(&self) -> usize {
+        self.w.saturating_mul(self.n).saturating_mul(8)
+    }
+}
+
 /// What a call takes beside its state, and has to be tested with it.
 #[derive(Clone, Copy, Debug, PartialEq, Eq, Hash)]
 pub enum Beside<'a> {
@@ -90,6 +123,94 @@ pub enum Beside<'a> {
         steps: u64,
         work: usize,
     },
+}
+
+/// How far a run came.
+#[derive(Clone, Copy, Debug, PartialEq, Eq, Hash)]
+#[must_use = "a run may stop early"]
+pub struct Ran {
+    /// The steps done.
+    pub steps: u64,
+    /// What stopped the run before all its steps were done: the refusal of the
+    /// next one, always a 6.
+    pub stopped: Option<Refusal>,
+}
+
+/// Takes one step with the given inflow, in mm: `h`, `u` and `v` are stepped in
+/// place, and after a refusal they are left as they were.
+///
+/// The tests go by number: 1 to 5 of the state and the inflow, whose numbers
+/// come after those of v in 4, with a work space shorter than
+/// [`Parameters::work_len`] under 2; then 6, a pass that leaves a bound. After
+/// 1 and 2 the work space is left as it was. Otherwise, refused or not, its
+/// first `work_len` numbers are 0 after the call, and the rest are left.
+pub fn step(
+    p: &Parameters,
+    h: &mut [i64],
+    b: &[i64],
+    u: &mut [i64],
+    v: &mut [i64],
+    inflow: &[i64],
+    work: &mut [i64],
+) -> Result<(), Refusal> {
+    answered(|answer| raw::step(p, h, b, u, v, inflow, work, answer))
+}
+
+/// Takes up to `steps` steps with the same inflow, and stops before one that
+/// would be refused with 6: `h`, `u` and `v` are left as they are after the
+/// steps done.
+///
+/// The tests 1 to 5, with a run above 10,000 steps under 1, and the work space
+/// are as with [`step`]; these refusals leave `h`, `u` and `v` as they were.
+pub fn run(
+    p: &Parameters,
+    h: &mut [i64],
+    b: &[i64],
+    u: &mut [i64],
+    v: &mut [i64],
+    inflow: &[i64],
+    steps: u64,
+    work: &mut [i64],
+) -> Result<Ran, Refusal> {
+    let (number, values) = told(|answer| raw::run(p, h, b, u, v, inflow, steps, work, answer));
+    match Refusal::from_told(number, values) {
+        Ok(()) => Ok(Ran {
+            steps: values[0],
+            stopped: None,
+        }),
+        // The steps come after the three values of the refusal.
+        Err(refusal @ Refusal::OutOfBounds { .. }) => Ok(Ran {
+            steps: values[3],
+            stopped: Some(refusal),
+        }),
+        Err(refusal) => Err(refusal),
+    }
+}
+
+/// Total depth of a state, in mm: the sum of h. Tests 1 to 5.
+pub fn total_depth(
+    p: &Parameters,
+    h: &[i64],
+    b: &[i64],
+    u: &[i64],
+    v: &[i64],
+) -> Result<i64, Refusal> {
+    let mut total = [0];
+    answered(|answer| raw::total_depth(p, h, b, u, v, &mut total, answer))?;
+    Ok(total[0])
+}
+
+/// Four times total energy of a state, kinetic and potential. Tests 1 to 5.
+pub fn total_energy(
+    p: &Parameters,
+    h: &[i64],
+    b: &[i64],
+    u: &[i64],
+    v: &[i64],
+) -> Result<i64, Refusal> {
+    let mut total = [0];
+    answered(|answer| raw::total_energy(p, h, b, u, v, &mut total, answer))?;
+    Ok(total[0])
 }
 
 /// Fills the first w·n places of `q` with the potential vorticity of a state,
@@ -154,12 +275,18 @@ pub fn test_state(
     })
 }
 
-/// What a call told that puts its answer into a lent slice.
-fn answered(call: impl FnOnce(&mut [u64]) -> u64) -> Result<(), Refusal> {
-    // Room for the number and the two values that come with 4 and 5.
-    let mut answer = [0; 3];
+/// The number that a call told, and room for the values that come with it.
+fn told(call: impl FnOnce(&mut [u64]) -> u64) -> (u64, [u64; 4]) {
+    // The most is told by a run that is stopped.
+    let mut answer = [0; 5];
     let number = call(&mut answer);
     let [_, values @ ..] = answer;
+    (number, values)
+}
+
+/// The same of a call that tells no value with a 0.
+fn answered(call: impl FnOnce(&mut [u64]) -> u64) -> Result<(), Refusal> {
+    let (number, values) = told(call);
     Refusal::from_told(number, values)
 }
 

@@ -57,6 +57,95 @@ extern "C" {
         answer_len: usize,
     ) -> u64;
 
+    fn basin_step(
+        w: usize,
+        n: usize,
+        kind: u8,
+        g: i64,
+        c: i64,
+        r: i64,
+        h: *mut i64,
+        h_len: usize,
+        b: *const i64,
+        b_len: usize,
+        u: *mut i64,
+        u_len: usize,
+        v: *mut i64,
+        v_len: usize,
+        inflow: *const i64,
+        inflow_len: usize,
+        work: *mut i64,
+        work_len: usize,
+        answer: *mut u64,
+        answer_len: usize,
+    ) -> u64;
+
+    fn basin_run(
+        w: usize,
+        n: usize,
+        kind: u8,
+        g: i64,
+        c: i64,
+        r: i64,
+        h: *mut i64,
+        h_len: usize,
+        b: *const i64,
+        b_len: usize,
+        u: *mut i64,
+        u_len: usize,
+        v: *mut i64,
+        v_len: usize,
+        inflow: *const i64,
+        inflow_len: usize,
+        steps: u64,
+        work: *mut i64,
+        work_len: usize,
+        answer: *mut u64,
+        answer_len: usize,
+    ) -> u64;
+
+    fn basin_total_depth(
+        w: usize,
+        n: usize,
+        kind: u8,
+        g: i64,
+        c: i64,
+        r: i64,
+        h: *const i64,
+        h_len: usize,
+        b: *const i64,
+        b_len: usize,
+        u: *const i64,
+        u_len: usize,
+        v: *const i64,
+        v_len: usize,
+        total: *mut i64,
+        total_len: usize,
+        answer: *mut u64,
+        answer_len: usize,
+    ) -> u64;
+
+    fn basin_total_energy(
+        w: usize,
+        n: usize,
+        kind: u8,
+        g: i64,
+        c: i64,
+        r: i64,
+        h: *const i64,
+        h_len: usize,
+        b: *const i64,
+        b_len: usize,
+        u: *const i64,
+        u_len: usize,
+        v: *const i64,
+        v_len: usize,
+        total: *mut i64,
+        total_len: usize,
+        answer: *mut u64,
+        answer_len: usize,
+    ) -> u64;
+
     fn basin_test_state(
         w: usize,
         n: usize,
@@ -156,6 +245,18 @@ macro_rules! on_state {
     };
 }
 
+/// The same of a function that steps h, u and v in place.
+macro_rules! on_stepped_state {
+    ($function:ident($p:ident, $h:ident, $b:ident, $u:ident, $v:ident $(, $further:expr)*)) => {
+        $function(
+            $p.w, $p.n, $p.kind, $p.g, $p.c, $p.r,
+            $h.as_mut_ptr(), $h.len(), $b.as_ptr(), $b.len(),
+            $u.as_mut_ptr(), $u.len(), $v.as_mut_ptr(), $v.len()
+            $(, $further)*
+        )
+    };
+}
+
 /// 1, and `rounded[0]` is rnd(a/b); or 0, and `rounded` is untouched.
 pub fn rnd(a: i64, b: i64, rounded: &mut [i64]) -> u64 {
     // SAFETY: the pointer and the length are those of a slice that is lent to
@@ -224,6 +325,128 @@ pub fn tendencies(
             du.len(),
             dv.as_mut_ptr(),
             dv.len(),
+            answer.as_mut_ptr(),
+            answer.len()
+        ))
+    }
+}
+
+/// The number of the refusal, 0 where `h`, `u` and `v` are stepped; `answer`
+/// as above.
+pub fn step(
+    p: &Parameters,
+    h: &mut [i64],
+    b: &[i64],
+    u: &mut [i64],
+    v: &mut [i64],
+    inflow: &[i64],
+    work: &mut [i64],
+    answer: &mut [u64],
+) -> u64 {
+    // SAFETY: each pointer and the length after it are those of one slice.
+    // `h`, `u`, `v`, `work` and `answer`, which are written, are borrowed apart
+    // from each other and from the others.
+    unsafe {
+        on_stepped_state!(basin_step(
+            p,
+            h,
+            b,
+            u,
+            v,
+            inflow.as_ptr(),
+            inflow.len(),
+            work.as_mut_ptr(),
+            work.len(),
+            answer.as_mut_ptr(),
+            answer.len()
+        ))
+    }
+}
+
+/// The same of up to `steps` steps; the steps done are told last.
+pub fn run(
+    p: &Parameters,
+    h: &mut [i64],
+    b: &[i64],
+    u: &mut [i64],
+    v: &mut [i64],
+    inflow: &[i64],
+    steps: u64,
+    work: &mut [i64],
+    answer: &mut [u64],
+) -> u64 {
+    // SAFETY: each pointer and the length after it are those of one slice.
+    // `h`, `u`, `v`, `work` and `answer`, which are written, are borrowed apart
+    // from each other and from the others.
+    unsafe {
+        on_stepped_state!(basin_run(
+            p,
+            h,
+            b,
+            u,
+            v,
+            inflow.as_ptr(),
+            inflow.len(),
+            steps,
+            work.as_mut_ptr(),
+            work.len(),
+            answer.as_mut_ptr(),
+            answer.len()
+        ))
+    }
+}
+
+/// The number of the refusal, 0 where `total[0]` is total depth, if there is
+/// that place; `answer` as above.
+pub fn total_depth(
+    p: &Parameters,
+    h: &[i64],
+    b: &[i64],
+    u: &[i64],
+    v: &[i64],
+    total: &mut [i64],
+    answer: &mut [u64],
+) -> u64 {
+    // SAFETY: each pointer and the length after it are those of one slice.
+    // `total` and `answer`, which are written, are borrowed apart from each
+    // other and from the others.
+    unsafe {
+        on_state!(basin_total_depth(
+            p,
+            h,
+            b,
+            u,
+            v,
+            total.as_mut_ptr(),
+            total.len(),
+            answer.as_mut_ptr(),
+            answer.len()
+        ))
+    }
+}
+
+/// The same of four times total energy.
+pub fn total_energy(
+    p: &Parameters,
+    h: &[i64],
+    b: &[i64],
+    u: &[i64],
+    v: &[i64],
+    total: &mut [i64],
+    answer: &mut [u64],
+) -> u64 {
+    // SAFETY: each pointer and the length after it are those of one slice.
+    // `total` and `answer`, which are written, are borrowed apart from each
+    // other and from the others.
+    unsafe {
+        on_state!(basin_total_energy(
+            p,
+            h,
+            b,
+            u,
+            v,
+            total.as_mut_ptr(),
+            total.len(),
             answer.as_mut_ptr(),
             answer.len()
         ))

@@ -60,15 +60,15 @@ impl fmt::Display for Field {
     }
 }
 
-/// Why a call did nothing. Calls that come later can be refused for more
-/// reasons, so the list is open.
+/// Why a call gave no result, or a run took no further step. Calls that come
+/// later can be refused for more reasons, so the list is open.
 #[derive(Clone, Copy, Debug, PartialEq, Eq, Hash)]
 #[non_exhaustive]
 pub enum Refusal {
     /// 1: w, n or kind unknown, or a run too long.
     Grid,
-    /// 2: a field to be read does not have w·n numbers, or the work space is
-    /// short.
+    /// 2: a field to be read or stepped does not have w·n numbers, or the work
+    /// space is short.
     Lengths,
     /// 3: G, c or R outside its bounds.
     Constants,
@@ -76,6 +76,8 @@ pub enum Refusal {
     Value { field: Field, cell: usize },
     /// 5: a velocity on a closed edge.
     ClosedEdge { field: Field, cell: usize },
+    /// 6: a pass of the step, 1 or 2, leaves the bounds of h, u or v.
+    OutOfBounds { pass: u8, field: Field, cell: usize },
     /// 8: a field to be filled has fewer than w·n places.
     Destination,
 }
@@ -89,6 +91,7 @@ impl Refusal {
             Refusal::Constants => 3,
             Refusal::Value { .. } => 4,
             Refusal::ClosedEdge { .. } => 5,
+            Refusal::OutOfBounds { .. } => 6,
             Refusal::Destination => 8,
         }
     }
@@ -96,24 +99,33 @@ impl Refusal {
     /// What the library told: a number, 0 where nothing is refused, and room
     /// for the values that come with it.
     ///
-    /// Panics at a number or field that is none. The proved library never
+    /// Panics at a number, pass or field that is none. The proved library never
     /// tells one: another library was linked then.
-    pub(crate) fn from_told(number: u64, [field, cell]: [u64; 2]) -> Result<(), Self> {
+    pub(crate) fn from_told(number: u64, values: [u64; 4]) -> Result<(), Self> {
         // The library is only for machines where a usize has 64 bits.
-        let cell = cell as usize;
+        let place = |field, cell| (Field::from_number(field), cell as usize);
         Err(match number {
             0 => return Ok(()),
             1 => Refusal::Grid,
             2 => Refusal::Lengths,
             3 => Refusal::Constants,
-            4 => Refusal::Value {
-                field: Field::from_number(field),
-                cell,
-            },
-            5 => Refusal::ClosedEdge {
-                field: Field::from_number(field),
-                cell,
-            },
+            4 => {
+                let (field, cell) = place(values[0], values[1]);
+                Refusal::Value { field, cell }
+            }
+            5 => {
+                let (field, cell) = place(values[0], values[1]);
+                Refusal::ClosedEdge { field, cell }
+            }
+            6 => {
+                let pass = match values[0] {
+                    1 => 1,
+                    2 => 2,
+                    pass => panic!("libbasin.a told pass {pass}, which is none"),
+                };
+                let (field, cell) = place(values[1], values[2]);
+                Refusal::OutOfBounds { pass, field, cell }
+            }
             8 => Refusal::Destination,
             _ => panic!("libbasin.a told refusal {number}, which is none"),
         })
@@ -130,6 +142,9 @@ impl fmt::Display for Refusal {
             Refusal::Value { field, cell } => write!(to, "{field} outside its bounds, cell {cell}"),
             Refusal::ClosedEdge { field, cell } => {
                 write!(to, "{field} on a closed edge, cell {cell}")
+            }
+            Refusal::OutOfBounds { pass, field, cell } => {
+                write!(to, "pass {pass} leaves the bounds of {field}, cell {cell}")
             }
             Refusal::Destination => to.write_str("a field to be filled is too short"),
         }

@@ -1,6 +1,7 @@
 //! The proved library against the independent version, call by call: random
 //! calls with every kind of fault, every bound from both sides, every size of
 //! grid in every kind, every pair of causes, and every size of answer slice.
+//! (Where the tests pass a step, it may still leave a bound: stepping.rs.)
 //!
 //! Each comparison is of all that is told and of all that is lent
 //! ([`cases::calls`]). One that fails prints all that went into the call, and
@@ -8,10 +9,10 @@
 
 mod cases;
 
-use cases::calls::{call_raw, compare, expect, independent, unfilled, UNTOUCHED};
+use cases::calls::{call_raw, compare, expect, independent, Written, UNTOUCHED};
 use cases::common::Random;
 use cases::{add, random_case, Call, Case};
-use cases::{BOUNDS, CALLS, FAULTS, FILLING, H, U, V};
+use cases::{BOUNDS, CALLS, FAULTS, FILLING, H, TOTALS, U, V};
 
 // ---- random calls
 
@@ -52,7 +53,7 @@ impl Coverage {
         self.told[call as usize][told[0] as usize] += 1;
         let (w, n) = (case.p.w, case.p.n);
         match *told {
-            [0] => {
+            [0, ..] => {
                 self.kind[call as usize][case.p.kind as usize] += 1;
                 let sizes = [(w, n) == (1, 1), w == 1, n == 1, (w, n) == (64, 64)];
                 add(&mut self.size, sizes);
@@ -114,9 +115,13 @@ impl Coverage {
         for (call, told) in CALLS.into_iter().zip(self.told) {
             often(&told[..1], 5_000, "accepted");
             often(&told[1..=5], 1_000, "refused");
-            for counts in &self.destination[call as usize][..call.destinations()] {
+            if call.is_stepping() {
+                often(&told[6..7], 1_000, "refused with 6");
+            }
+            let destinations = &self.destination[call as usize][..call.destinations()];
+            if call.is_filling() {
                 often(&told[8..], 1_000, "refused with 8");
-                often(counts, 200, "a destination");
+                often(destinations.as_flattened(), 200, "a destination");
             }
         }
         often(&self.fault, 500, "a fault alone");
@@ -141,7 +146,7 @@ fn random_calls_are_answered_alike() {
     let mut coverage = Coverage::default();
     for seed in 1..=4 {
         let mut random = Random::new(seed);
-        for number in 0..10_000 {
+        for number in 0..7_500 {
             let (case, faults) = random_case(&mut random);
             if let [fault] = faults[..] {
                 coverage.fault[fault as usize] += 1;
@@ -150,7 +155,7 @@ fn random_calls_are_answered_alike() {
                 let at = format!("seed {seed}, case {number}, {faults:?}");
                 let told = compare(&case, call, &at).told;
                 coverage.count(&case, call, &told);
-                if told != [0] {
+                if !matches!(told[0], 0 | 6) {
                     // With its cause taken away, the next one is told.
                     let mut mended = case.clone();
                     mended.mend(&told);
@@ -190,14 +195,20 @@ fn the_worked_examples_are_told_as_01_says() {
 
     let mut short = one_cell(2_000);
     short.work = 7;
-    expect(&short, Call::TestStep, &[2], "example 9");
-    expect(&short, Call::TestRun, &[2], "example 9");
     let mut none = one_cell(2_000);
     none.steps = 0;
-    expect(&none, Call::TestRun, &[0], "example 9");
     let mut long = one_cell(2_000);
     long.steps = 10_001;
-    expect(&long, Call::TestRun, &[1], "example 9");
+    for call in CALLS {
+        if call.has_work_space() {
+            expect(&short, call, &[2], "example 9");
+        }
+        if call.has_run_length() {
+            expect(&none, call, &[0], "example 9");
+            expect(&long, call, &[1], "example 9");
+        }
+    }
+    assert_eq!(compare(&none, Call::Run, "example 9").told, [0, 0]);
 }
 
 #[test]
@@ -273,7 +284,7 @@ fn run_lengths_and_work_spaces_are_tested_where_they_are_taken() {
         let mut case = Case::basin();
         case.steps = steps;
         for call in CALLS {
-            let told = u64::from(call == Call::TestRun && steps > 10_000);
+            let told = u64::from(call.has_run_length() && steps > 10_000);
             expect(&case, call, &[told], "a run length");
         }
     }
@@ -328,6 +339,19 @@ fn a_destination_of_fewer_places_is_refused() {
 }
 
 #[test]
+fn a_total_takes_one_place_if_there_is_one() {
+    for call in TOTALS {
+        for length in 0..=13 {
+            let mut case = Case::basin();
+            case.destinations = [length, 0, 0];
+            expect(&case, call, &[0], "a total");
+            case.fields[H][5] = 999;
+            expect(&case, call, &[4, 0, 5], "a refused total");
+        }
+    }
+}
+
+#[test]
 fn closed_edges_are_those_of_01() {
     let mut random = Random::new(5);
     for (w, n) in [(1, 1), (1, 3), (3, 1), (4, 3), (64, 2), (2, 64)] {
@@ -371,7 +395,8 @@ fn every_size_is_accepted_in_every_kind_and_tested_to_its_last_cell() {
         for n in 1..=64 {
             for kind in 0..=2 {
                 let case = Case::good_of_kind(&mut random, (w, n), kind);
-                for call in CALLS {
+                // Steps and runs of every size are in stepping.rs.
+                for call in CALLS.into_iter().filter(|call| !call.is_stepping()) {
                     expect(&case, call, &[0], "a size");
                     accepted[call as usize][kind as usize] += 1;
                 }
@@ -389,7 +414,10 @@ fn every_size_is_accepted_in_every_kind_and_tested_to_its_last_cell() {
             }
         }
     }
-    assert_eq!(accepted, [[4_096; 3]; CALLS.len()]);
+    for (call, accepted) in CALLS.into_iter().zip(accepted) {
+        let sizes = if call.is_stepping() { 0 } else { 4_096 };
+        assert_eq!(accepted, [sizes; 3], "{call:?}");
+    }
 }
 
 #[test]
@@ -507,13 +535,16 @@ impl Cause {
         let taken = |field| call.fields().contains(field);
         let (looked_at, told) = match self {
             Cause::Columns(_) | Cause::Rows(_) | Cause::Kind => (true, vec![1]),
-            Cause::Steps => (call == Call::TestRun, vec![1]),
+            Cause::Steps => (call.has_run_length(), vec![1]),
             Cause::Length(field, _) => (taken(&field), vec![2]),
             Cause::Work => (call.has_work_space(), vec![2]),
             Cause::Gravity(_) | Cause::Coriolis(_) | Cause::SpacingRate(_) => (true, vec![3]),
             Cause::Value(field, cell, _) => (taken(&field), vec![4, field as u64, cell as u64]),
             Cause::Edge(field, cell) => (taken(&field), vec![5, field as u64, cell as u64]),
-            Cause::Destination(which, _) => (which < call.destinations(), vec![8]),
+            Cause::Destination(which, _) => {
+                let short = call.is_filling() && which < call.destinations();
+                (short, vec![8])
+            }
         };
         looked_at.then_some(told)
     }
@@ -556,10 +587,10 @@ fn only_the_told_numbers_that_fit_are_written() {
     let seed = 7;
     let mut random = Random::new(seed);
     let mut met = [0; 9];
-    for number in 0..5_000 {
+    for number in 0..3_000 {
         let (mut case, faults) = random_case(&mut random);
         for call in CALLS {
-            for room in 0..=5 {
+            for room in 0..=6 {
                 case.room = room;
                 let at = format!("seed {seed}, case {number}, {faults:?}");
                 let told = compare(&case, call, &at).told;
@@ -567,7 +598,8 @@ fn only_the_told_numbers_that_fit_are_written() {
             }
         }
     }
-    for number in [0, 1, 2, 3, 4, 5, 8] {
+    println!("{met:?}");
+    for number in [0, 1, 2, 3, 4, 5, 6, 8] {
         assert!(met[number] > 1_000, "{met:?}");
     }
 }
@@ -578,24 +610,27 @@ fn fields_that_are_read_may_be_the_same() {
     let even = [5_000; 6];
     // A depth that is too fast for a velocity.
     let fast = [5_001; 6];
-    let alike: [[&[i64]; 6]; 2] = [
+    // A step only reads b and the inflow; h, u and v are lent apart.
+    let slope = [0, 1, 2, 3, 4, 5];
+    let alike: [[&[i64]; 6]; 3] = [
         [&even, &even, &still, &still, &even, &still],
         [&fast, &still, &fast, &still, &still, &still],
+        [&even, &slope, &still, &still, &slope, &slope],
     ];
-    for (lent, number) in alike.into_iter().zip([0, 4]) {
+    for (lent, number) in alike.into_iter().zip([0, 4, 0]) {
         let mut case = Case::basin();
         case.fields = lent.map(Vec::from);
         for call in CALLS {
             let expected = independent(&case, call);
             assert_eq!(expected.told[0], number, "{call:?}");
-            let mut answer = [UNTOUCHED; 4];
+            let mut answer = [UNTOUCHED; 6];
             let mut answered = answer;
             answered[..expected.told.len()].copy_from_slice(&expected.told);
-            let mut destinations = unfilled(&case, call);
-            let places = destinations.each_mut().map(Vec::as_mut_slice);
-            assert_eq!(call_raw(&case, call, lent, places, &mut answer), number);
+            let mut written = Written::before(&case, call);
+            let told = call_raw(&case, call, lent, written.slices(), &mut answer);
+            assert_eq!(told, number, "{call:?}");
             assert_eq!(answer, answered, "{call:?}");
-            assert_eq!(destinations, expected.destinations, "{call:?}");
+            assert_eq!(written, expected.written, "{call:?}");
         }
     }
 }

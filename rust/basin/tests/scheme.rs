@@ -1,8 +1,8 @@
-//! What potential vorticity and tendencies fill in: the numbers of the worked
-//! examples (their refusals are in comparison.rs), fields at their bounds in
-//! eight patterns each, and random grids. In these one tendency is then put off
-//! by one: the energy rate shows it always in dh and mostly in du and dv, the
-//! enstrophy rate, where there is no wall, mostly in each of the three.
+//! What potential vorticity, tendencies and totals fill in: the numbers of the
+//! worked examples (their refusals are in comparison.rs), fields at their bounds
+//! in eight patterns each, and random grids. In these one tendency is then put
+//! off by one: the energy rate shows it always in dh and mostly in du and dv,
+//! the enstrophy rate, where there is no wall, mostly in each of the three.
 //!
 //! Every comparison is with the independent version, and every accepted one of
 //! tendencies asks for the rates that are 0 ([`cases::calls`]).
@@ -10,14 +10,33 @@
 mod cases;
 
 use cases::calls::{compare, rates};
-use cases::common::Random;
-use cases::{add, random_size, Call, Case, BOUNDS, Q, U, V};
+use cases::common::{literal, Random};
+use cases::{add, random_size, Call, Case, BOUNDS, H, Q, U, V};
 
 /// What both fill in, where both accept.
 fn filled(case: &Case, call: Call, at: &str) -> [Vec<i64>; 3] {
     let outcome = compare(case, call, at);
     assert_eq!(outcome.told, [0], "{at}: {call:?} {case:?}");
-    outcome.destinations
+    outcome.written.destinations
+}
+
+/// Total depth and four times total energy, which are those of 01's formulas
+/// taken literally.
+fn totals(case: &Case, at: &str) -> [i64; 2] {
+    let mut case = case.clone();
+    case.destinations[0] = 1;
+    let totals = [Call::TotalDepth, Call::TotalEnergy].map(|call| {
+        let [total, ..] = filled(&case, call, at);
+        total[0]
+    });
+    let depth: i64 = case.fields[H].iter().sum();
+    let energy = literal::energy(&case.state());
+    assert_eq!(
+        totals.map(i128::from),
+        [depth.into(), energy],
+        "{at}: {case:?}"
+    );
+    totals
 }
 
 // ---- the worked examples
@@ -29,6 +48,7 @@ fn example_2_one_cell() {
     assert_eq!(q, [328]);
     let [dh, du, dv] = filled(&case, Call::Tendencies, "example 2");
     assert_eq!((dh[0], du[0], dv[0]), (0, -1_574_400_000, -3_148_800_000));
+    assert_eq!(totals(&case, "example 2"), [2_000, 78_530_000_000]);
 }
 
 #[test]
@@ -40,6 +60,7 @@ fn example_4_two_cells() {
     assert_eq!(dh, [50_000, -50_000]);
     assert_eq!(du, [30_859_591_680_000, -30_859_591_680_000]);
     assert_eq!(dv, [0, 0]);
+    assert_eq!(totals(&case, "example 4"), [5_000, 255_060_500_000]);
 }
 
 #[test]
@@ -106,6 +127,8 @@ fn fields_at_their_bounds_in_eight_patterns_each() {
     let mut random = Random::new(21);
     let mut ends = [(); 4].map(|()| Ends(0, 0));
     let mut kinds = [0; 3];
+    // Steps refused and accepted.
+    let mut stepped = [0; 2];
     // Every pattern of h, u, v and q beside every other; one of b at random.
     for number in 0..3 * 8usize.pow(4) {
         let kind = number % 3;
@@ -131,13 +154,16 @@ fn fields_at_their_bounds_in_eight_patterns_each() {
         let at = format!("patterns {patterns:?}");
         let [q, ..] = filled(&case, Call::PotentialVorticity, &at);
         let tendencies = filled(&case, Call::Tendencies, &at);
+        totals(&case, &at);
+        stepped[usize::from(compare(&case, Call::Step, &at).told == [0])] += 1;
         ends[0].widen(&q[..w * n]);
         for (ends, numbers) in ends[1..].iter_mut().zip(&tendencies) {
             ends.widen(&numbers[..w * n]);
         }
     }
-    println!("{ends:?}");
+    println!("{ends:?} {stepped:?}");
     assert_eq!(kinds, [4_096; 3]);
+    assert!(stepped.iter().all(|&k| k > 20), "{stepped:?}");
     // The greatest q of 01's example 8; four fluxes of 5,000 mm/s by 200,000 mm
     // out of one cell; and four such fluxes times weights of 6 by 2,000,000,
     // beside a step of the bottom of 100,000 mm.
@@ -146,6 +172,19 @@ fn fields_at_their_bounds_in_eight_patterns_each() {
     for (ends, most) in ends.iter().zip(most) {
         assert!(ends.reach(most), "{ends:?} {most}");
     }
+}
+
+#[test]
+fn the_largest_totals() {
+    let mut random = Random::new(22);
+    let mut case = Case::good_of_kind(&mut random, (64, 64), 0);
+    case.p.g = 10_000;
+    for ((field, (_, high)), sign) in case.fields.iter_mut().zip(BOUNDS).zip([1, 1, 1, -1, 1, 1]) {
+        field.fill(sign * high);
+    }
+    // Per cell 2·200,000·5,000² + 2·10,000·100,000·300,000.
+    let cell = 10_000_000_000_000 + 600_000_000_000_000;
+    assert_eq!(totals(&case, "largest"), [409_600_000, 4_096 * cell]);
 }
 
 // ---- random grids
@@ -173,6 +212,7 @@ fn random_grids_keep_energy_and_without_walls_enstrophy() {
                 lent_own += 1;
             }
             let tendencies = filled(&case, Call::Tendencies, &at);
+            totals(&case, &at);
             for (field, numbers) in [(U, &tendencies[1]), (V, &tendencies[2])] {
                 let closed = (0..cells).filter(|&cell| case.is_closed(field, cell));
                 let moving = closed.filter(|&cell| numbers[cell] != 0).count();

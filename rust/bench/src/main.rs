@@ -15,13 +15,14 @@ mod common;
 use std::hint::black_box;
 use std::time::{Duration, Instant};
 
-use common::{random_q, random_state, Random, Spread};
-use reference::{FillAnswer, State};
+use common::{clear_closed_edges, numbers, random_q, random_state, Random, Spread};
+use reference::{FillAnswer, Parameters, RunAnswer, State, StepAnswer};
 
 const GRIDS: [(usize, usize); 2] = [(16, 16), (64, 64)];
 const KIND: u8 = 2;
 /// Cells of all the states that a call is timed on, one after the other: the
 /// branches of a single one are learnt by the processor, more or less by chance.
+/// Each step of a run has a state of its own.
 const CELLS: usize = 4 * 64 * 64;
 const ROUNDS: usize = 31;
 /// What a round takes at least, with either version, in the warm-up.
@@ -30,8 +31,22 @@ const ROUND: Duration = Duration::from_millis(4);
 /// A call of both versions. Each says whether it was accepted.
 struct Call {
     name: &'static str,
+    /// How many steps it takes, 0 where it leaves the state.
+    steps: u64,
     proved: Version,
     independent: Version,
+}
+
+impl Call {
+    /// Cells that the call works out, those of each step.
+    fn cells(&self, (w, n): (usize, usize)) -> usize {
+        w * n * self.steps.max(1) as usize
+    }
+
+    /// How many states it is timed on.
+    fn states(&self, size: (usize, usize)) -> usize {
+        (CELLS / self.cells(size)).max(1)
+    }
 }
 
 type Version = fn(&mut Lent) -> bool;
@@ -45,6 +60,7 @@ macro_rules! call {
     ($name:literal, |$l:ident| $proved:ident($($a:expr),*) | $independent:ident($($b:expr),*)) => {
         Call {
             name: $name,
+            steps: 0,
             proved: |$l| basin::$proved(&$l.proved_parameters, $($a),*).accepted(),
             independent: |$l| {
                 reference::$independent(&$l.independent_parameters, $($b),*).accepted()
@@ -54,11 +70,15 @@ macro_rules! call {
 }
 
 #[rustfmt::skip]
-const CALLS: [Call; 3] = [
+const CALLS: [Call; 5] = [
     call!("tests of a state", |l| test_state(&l.h, &l.b, &l.u, &l.v, basin::Beside::Nothing)
                                 | test_call(&l.h, &l.b, &l.u, &l.v, reference::Beside::Nothing)),
     call!("potential vorticity", |l| potential_vorticity(&l.h, &l.b, &l.u, &l.v, &mut l.own_q)),
     call!("tendencies", |l| tendencies(&l.h, &l.b, &l.u, &l.v, &l.q, &mut l.dh, &mut l.du, &mut l.dv)),
+    Call { steps: 1,
+           ..call!("step", |l| step(&mut l.h, &l.b, &mut l.u, &mut l.v, &l.inflow, &mut l.work)) },
+    Call { steps: 100,
+           ..call!("run of 100 steps", |l| run(&mut l.h, &l.b, &mut l.u, &mut l.v, &l.inflow, 100, &mut l.work)) },
 ];
 
 /// All that the calls can be lent.
@@ -76,20 +96,30 @@ struct Lent {
     dh: Vec<i64>,
     du: Vec<i64>,
     dv: Vec<i64>,
+    inflow: Vec<i64>,
+    work: Vec<i64>,
+    /// h, u and v before any step.
+    start: [Vec<i64>; 3],
 }
 
 impl Lent {
-    /// Random basins of this size.
-    fn all(size: (usize, usize)) -> Vec<Self> {
+    /// Random basins of this size: any for a call that leaves its state, calm
+    /// ones for steps, which others refuse.
+    fn all(call: &Call, size: (usize, usize)) -> Vec<Self> {
         let mut random = Random::new(1);
-        let number = CELLS / (size.0 * size.1);
-        (0..number).map(|_| Lent::new(&mut random, size)).collect()
+        let state = |random: &mut Random| match call.steps {
+            0 => random_state(random, Spread::Even, size, KIND),
+            _ => seiche(random, size),
+        };
+        (0..call.states(size))
+            .map(|_| {
+                let state = state(&mut random);
+                Lent::new(&mut random, state)
+            })
+            .collect()
     }
 
-    fn new(random: &mut Random, size: (usize, usize)) -> Self {
-        let state = random_state(random, Spread::Even, size, KIND);
-        let cells = size.0 * size.1;
-        let q = random_q(random, Spread::Even, cells);
+    fn new(random: &mut Random, state: State) -> Self {
         let State {
             parameters,
             h,
@@ -97,6 +127,7 @@ impl Lent {
             u,
             v,
         } = state;
+        let cells = h.len();
         let reference::Parameters {
             w,
             n,
@@ -115,17 +146,52 @@ impl Lent {
                 r,
             },
             independent_parameters: parameters,
+            start: [&h, &u, &v].map(Vec::clone),
             h,
             b,
             u,
             v,
-            q,
+            q: random_q(random, Spread::Even, cells),
             own_q: vec![0; cells],
             dh: vec![0; cells],
             du: vec![0; cells],
             dv: vec![0; cells],
+            inflow: numbers(random, Spread::Even, cells, -2, 2),
+            work: vec![-1; 8 * cells],
         }
     }
+
+    fn restore(&mut self) {
+        let fields = [&mut self.h, &mut self.u, &mut self.v];
+        for (field, start) in fields.into_iter().zip(&self.start) {
+            field.copy_from_slice(start);
+        }
+    }
+}
+
+/// A closed basin over an uneven bottom, its water tilted, with currents both
+/// ways: it swings to and fro and stays within the bounds.
+fn seiche(random: &mut Random, (w, n): (usize, usize)) -> State {
+    let cells = w * n;
+    let b = numbers(random, Spread::Even, cells, 0, 2_000);
+    // From -500 mm at one corner to 500 mm at the other.
+    let tilt = |k: usize| (1_000 * (k % w + k / w) / (w + n)) as i64 - 500;
+    let mut state = State {
+        parameters: Parameters {
+            w,
+            n,
+            kind: KIND,
+            g: 9_810,
+            c: random.between(5, 15),
+            r: random.between(60_000, 120_000),
+        },
+        h: (0..cells).map(|k| 10_000 + tilt(k) - b[k]).collect(),
+        b,
+        u: numbers(random, Spread::Even, cells, -300, 300),
+        v: numbers(random, Spread::Even, cells, -300, 300),
+    };
+    clear_closed_edges(&mut state);
+    state
 }
 
 trait Answer {
@@ -138,27 +204,49 @@ impl<E> Answer for Result<(), E> {
     }
 }
 
+impl<E> Answer for Result<basin::Ran, E> {
+    fn accepted(&self) -> bool {
+        matches!(self, Ok(ran) if ran.stopped.is_none())
+    }
+}
+
 impl Answer for FillAnswer {
     fn accepted(&self) -> bool {
         *self == FillAnswer::Done
     }
 }
 
-/// How long it takes to call the version on each of these so many times.
+impl Answer for StepAnswer {
+    fn accepted(&self) -> bool {
+        *self == StepAnswer::Done
+    }
+}
+
+impl Answer for RunAnswer {
+    fn accepted(&self) -> bool {
+        matches!(self, RunAnswer::Finished { .. })
+    }
+}
+
+/// How long it takes to call the version on each of these so many times. That
+/// a stepped state is then put back is not counted.
 fn time(version: Version, lent: &mut [Lent], repeats: u32) -> Duration {
-    let start = Instant::now();
+    let mut total = Duration::ZERO;
     for _ in 0..repeats {
+        lent.iter_mut().for_each(Lent::restore);
+        let start = Instant::now();
         for lent in &mut *lent {
             assert!(black_box(version(black_box(lent))), "refused");
         }
+        total += start.elapsed();
     }
-    start.elapsed()
+    total
 }
 
 /// Both versions leave the same numbers.
 fn check(call: &Call, size: (usize, usize)) {
     let [proved, independent] = [call.proved, call.independent].map(|version| {
-        let mut lent = Lent::all(size);
+        let mut lent = Lent::all(call, size);
         time(version, &mut lent, 1);
         lent
     });
@@ -166,11 +254,11 @@ fn check(call: &Call, size: (usize, usize)) {
     assert!(same, "{} gives different numbers", call.name);
 }
 
-/// The least nanoseconds per cell of both versions.
+/// The least nanoseconds per cell, and per step of these, of both versions.
 fn compare(call: &Call, size: (usize, usize)) -> [f64; 2] {
     let versions = [call.proved, call.independent];
     // The same places in memory for both: times depend on these.
-    let mut lent = Lent::all(size);
+    let mut lent = Lent::all(call, size);
     // Both warm up until a round is long enough for either.
     let mut repeats = 1;
     while versions.map(|version| time(version, &mut lent, repeats) >= ROUND) != [true; 2] {
@@ -183,7 +271,7 @@ fn compare(call: &Call, size: (usize, usize)) -> [f64; 2] {
             least[k] = least[k].min(time(versions[k], &mut lent, repeats));
         }
     }
-    let cells = f64::from(repeats) * CELLS as f64;
+    let cells = f64::from(repeats) * (call.states(size) * call.cells(size)) as f64;
     least.map(|time| time.as_nanos() as f64 / cells)
 }
 
@@ -191,7 +279,7 @@ fn main() {
     if cfg!(debug_assertions) {
         eprintln!("not a release build: the independent version is not optimised");
     }
-    println!("ns per cell          grid    proved  independent  ratio");
+    println!("ns per cell and step grid    proved  independent  ratio");
     for call in &CALLS {
         for (w, n) in GRIDS {
             check(call, (w, n));

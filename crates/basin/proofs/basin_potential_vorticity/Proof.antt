@@ -1,6 +1,6 @@
 -- `basin::basin_potential_vorticity` meets its contract. Assumes nothing.
 use borrow.Author.Needs.{needs}
-use Rattle.basin.proofs.Tells.{told-vorticity}
+use mir.Facts.{toZ-ofZ}
 use Rattle.basin.proofs.basin_potential_vorticity.Statement.{statement}
 use Rattle.basin.proofs.basin_potential_vorticity.Tie as tie
 
@@ -9,7 +9,7 @@ returns c =
     let t = c .before .before in
     let k = t .before .before in
     let f = k .before .before .before .before .fits in
-    told-vorticity (f .g) (f .c) (f .r) (k .potential-vorticity .ensures) (t .tell-fill .ensures)
+    record { answer = k .potential-vorticity .result; promise = rw (toZ-ofZ (f .g), toZ-ofZ (f .c), toZ-ofZ (f .r)) at (k .potential-vorticity .ensures); told = t .tell-fill .ensures }
 
 pub basin-potential-vorticity-spec : {M : Type 1} → statement M
 basin-potential-vorticity-spec = tie.close (tie.spec (λ c κs. search needs) (λ c κs. search needs) (λ c. search needs) (λ c. search needs) returns)

@@ -1,6 +1,6 @@
 -- `basin::basin_tendencies` meets its contract. Assumes nothing.
 use borrow.Author.Needs.{needs}
-use Rattle.basin.proofs.Tells.{told-tendencies}
+use mir.Facts.{toZ-ofZ}
 use Rattle.basin.proofs.basin_tendencies.Statement.{statement}
 use Rattle.basin.proofs.basin_tendencies.Tie as tie
 
@@ -9,7 +9,7 @@ returns c =
     let t = c .before .before in
     let k = t .before .before .before .before in
     let f = k .before .before .before .before .before .before .fits in
-    told-tendencies (f .g) (f .c) (f .r) (k .tendencies .ensures) (t .tell-fill .ensures)
+    record { answer = k .tendencies .result; promise = rw (toZ-ofZ (f .g), toZ-ofZ (f .c), toZ-ofZ (f .r)) at (k .tendencies .ensures); told = t .tell-fill .ensures }
 
 pub basin-tendencies-spec : {M : Type 1} → statement M
 basin-tendencies-spec =

@@ -7,21 +7,20 @@ use lib.IntN.{pos, negℤ}
 use lib.ListN.{length, getD}
 use mir.Syntax.{w64}
 use mir.Val.{toZ}
-use borrow.Author.Needs.{needs}
 use Rattle.model.specs.Grid.{previous}
-use Rattle.model.specs.State.{State, stateOf, closedWest, closedSouth, wallWest, wallSouth}
+use Rattle.model.specs.State.{State, stateOf}
 use Rattle.model.specs.Scheme.{D, tendencyU, tendencyV}
-use Rattle.integers.specs.Bounds.{Abs, abs-as, held, held-is}
+use Rattle.integers.specs.Bounds.{abs-as, held, held-is}
 use Rattle.grid.specs.Cells.{cells-most, cell-lt, previous-first, previous-after, previous-lt}
 use Rattle.grid.specs.Writing.{Writing, writing-none, ahead, RowWriting, row-none, row-filled, row-whole}
-use Rattle.scheme.specs.Shares.{mostShare, Fit, weightsIn, fluxesIn, headIn, eastShareAt, northShareAt, u-edge, v-edge}
-use Rattle.scheme.specs.Sizes.{share-held, west-size, east-size, south-size, north-size, fit-in}
+use Rattle.scheme.specs.Shares.{eastShareAt, northShareAt}
+use Rattle.scheme.specs.Sizes.{share-held, east-size, north-size, fit-in}
 use Rattle.filling.specs.Handing.{northRow, handed-more, handed-all}
 use Rattle.filling.proofs.fill_row.Statement.{statement}
 use Rattle.filling.proofs.fill_row.Tie as tie
 
 abbrev Inv-loop : tie.InvT-loop
-Inv-loop p h b u v q j handed₀ dh₀ du₀ dv₀ e from-west₀ i₀ i-end handed dh du dv from-west i =
+Inv-loop p h b u v q j handed₀ dh₀ du₀ dv₀ from-west₀ i₀ i-end handed dh du dv from-west i =
     let s = stateOf p h b u v in
     RowWriting (p .w) (p .n) (λ i j. negℤ (D s i j)) 0 j dh₀ i dh
     × RowWriting (p .w) (p .n) (tendencyU s q) 0 j du₀ i du
@@ -30,7 +29,7 @@ Inv-loop p h b u v q j handed₀ dh₀ du₀ dv₀ e from-west₀ i₀ i-end han
     × (toZ w64 from-west ≡ eastShareAt s q (previous (p .w) i) j)
 
 abbrev μ-loop : tie.MeasureT-loop
-μ-loop p h b u v q j handed₀ dh₀ du₀ dv₀ e from-west₀ i₀ i-end handed dh du dv from-west i = p .w - i
+μ-loop p h b u v q j handed₀ dh₀ du₀ dv₀ from-west₀ i₀ i-end handed dh du dv from-west i = p .w - i
 
 abbrev state : tie.Start Inv-loop μ-loop → State
 state c = let a = c .args in stateOf (a .p) (a .h .now) (a .b .now) (a .u .now) (a .v .now)
@@ -43,7 +42,7 @@ last c = omega (arith, c .pre .0 .state .columns .some)
 loop-holds : tie.Need-loop-holds Inv-loop μ-loop
 loop-holds c =
     let k = c .before in
-    let s = k .before .before .before in
+    let s = k .before .before in
     let a = s .args in
     let e = k .shares-at .ensures .east in
     let first = share-held (abs-as e (east-size (fit-in (s .pre .0) (last s) (s .pre .1)))) ∙ e in (
@@ -57,10 +56,10 @@ loop-holds c =
 -- ---- a turn
 
 abbrev begin : tie.In-loop Inv-loop μ-loop → tie.Start Inv-loop μ-loop
-begin c = c .before .before .before .before .before .before
+begin c = c .before .before .before .before .before
 
 abbrev turn : tie.After-struct-known2 Inv-loop μ-loop → tie.In-loop Inv-loop μ-loop
-turn c = c .before .before .before .before .before .before .before .before .before .before .before .before
+turn c = c .before .before .before .before .before .before .before .before
 
 below : (c : tie.In-loop Inv-loop μ-loop) → let a = begin c .args in a .j * a .p .w + c .before .loop .i < a .p .w * a .p .n
 below c = cell-lt (c .loop-test .taken) (begin c .pre .1)
@@ -79,86 +78,44 @@ in-row c =
     let r = begin c .pre .3 in
     (omega (arith, below c, l .0 .long, r .h), omega (arith, below c, l .1 .long, r .u), omega (arith, below c, l .2 .long, r .v))
 
--- the share that the cell to the west has given, and the one from the south
-from-west : (c : tie.In-loop Inv-loop μ-loop) → Abs (toZ w64 (c .before .loop .from-west)) mostShare
-from-west c =
+-- the share that the row to the south has handed on
+south-is : (c : tie.In-loop Inv-loop μ-loop) → let s = begin c in held w64 (getD (c .before .loop .handed) (c .before .loop .i) (pos 0)) ≡ northShareAt (state s) (s .args .q .now) (c .before .loop .i) (previous (s .args .p .n) (s .args .j))
+south-is c =
     let s = begin c in
-    abs-as (c .before .loop .inv .4) (east-size (fit-in (s .pre .0) (previous-lt (s .args .p .w) (c .before .loop .i) (s .pre .0 .state .columns .some)) (s .pre .1)))
+    let i = c .before .loop .i in
+    let e = ahead i (pos 0) (c .before .loop .inv .3) (omega arith) zero-le ∙ s .pre .2 .each i (c .loop-test .taken) in
+    share-held (abs-as e (north-size (fit-in (s .pre .0) (c .loop-test .taken) (previous-lt (s .args .p .n) (s .args .j) (s .pre .0 .state .rows .some))))) ∙ e
 
-south-is : (c : tie.In-loop Inv-loop μ-loop) → let s = begin c in getD (c .before .loop .handed) (c .before .loop .i) (pos 0) ≡ northShareAt (state s) (s .args .q .now) (c .before .loop .i) (previous (s .args .p .n) (s .args .j))
-south-is c = ahead (c .before .loop .i) (pos 0) (c .before .loop .inv .3) (omega arith) zero-le ∙ begin c .pre .2 .each (c .before .loop .i) (c .loop-test .taken)
-
-from-south : (c : tie.In-loop Inv-loop μ-loop) → Abs (getD (c .before .loop .handed) (c .before .loop .i) (pos 0)) mostShare
-from-south c =
-    let s = begin c in
-    abs-as (south-is c) (north-size (fit-in (s .pre .0) (c .loop-test .taken) (previous-lt (s .args .p .n) (s .args .j) (s .pre .0 .state .rows .some))))
-
--- the cell's own shares
-abbrev own-fit : (c : tie.In-loop Inv-loop μ-loop) → let s = begin c in let i = c .before .loop .i in Fit (weightsIn (state s) (s .args .q .now) i (s .args .j)) (fluxesIn (state s) i (s .args .j)) (headIn (state s) i (s .args .j))
-own-fit c = fit-in (begin c .pre .0) (c .loop-test .taken) (begin c .pre .1)
-
-own-west : (c : tie.After-shares-at2 Inv-loop μ-loop) → Abs (c .shares-at2 .result .west) mostShare
-own-west c = abs-as (c .shares-at2 .ensures .west) (west-size (own-fit (c .before)))
-
-own-south : (c : tie.After-shares-at2 Inv-loop μ-loop) → Abs (c .shares-at2 .result .south) mostShare
-own-south c = abs-as (c .shares-at2 .ensures .south) (south-size (own-fit (c .before)))
-
--- the tendencies
-u-is : (c : tie.After-edge-tendency Inv-loop μ-loop) → let i = c .before .before .before .before .before .before .before in let s = begin i in held w64 (c .edge-tendency .result) ≡ tendencyU (state s) (s .args .q .now) (i .before .loop .i) (s .args .j)
-unfolding closedWest
-u-is c =
-    let w = c .before .before in
-    let k = w .before .before .before .before in
-    let i = k .before in
+tendencies-at-requires : tie.Need-tendencies-at-requires Inv-loop μ-loop
+tendencies-at-requires c κs =
+    let i = c .before in
     let s = begin i in
-    let wall = w .wall-west .ensures ∙ ap (λ e. wallWest e (i .before .loop .i)) (i .before .before .before .before .before .boundary-of .ensures) in
-    held-is w64 (c .edge-tendency .ok) (c .edge-tendency .ensures ∙ u-edge (state s) (s .args .q .now) (i .before .loop .i) (s .args .j) wall (share-held (own-west k) ∙ k .shares-at2 .ensures .west) (i .before .loop .inv .4))
-
-v-is : (c : tie.After-edge-tendency2 Inv-loop μ-loop) → let i = c .before .before .before .before .before .before .before .before .before .before .before in let s = begin i in held w64 (c .edge-tendency2 .result) ≡ tendencyV (state s) (s .args .q .now) (i .before .loop .i) (s .args .j)
-unfolding closedSouth
-v-is c =
-    let w = c .before .before .before in
-    let k = w .before .before .before .before .before .before .before in
-    let i = k .before in
-    let s = begin i in
-    let wall = w .wall-south .ensures ∙ ap (λ e. wallSouth e (s .args .j)) (i .before .before .before .before .before .boundary-of .ensures) in
-    held-is w64 (c .edge-tendency2 .ok) (c .edge-tendency2 .ensures ∙ v-edge (state s) (s .args .q .now) (i .before .loop .i) (s .args .j) wall (share-held (own-south k) ∙ k .shares-at2 .ensures .south) (share-held (from-south i) ∙ south-is i))
-
-edge-tendency-requires : tie.Need-edge-tendency-requires Inv-loop μ-loop
-edge-tendency-requires c κs =
-    let k = c .before .before .before .before .before in
-    (abs-as (share-held (own-west k)) (own-west k), from-west (k .before))
-
-edge-tendency-requires-2 : tie.Need-edge-tendency-requires-2 Inv-loop μ-loop
-edge-tendency-requires-2 c κs =
-    let k = c .before .before .before .before .before .before .before .before .before in
-    (abs-as (share-held (own-south k)) (own-south k), abs-as (share-held (from-south (k .before))) (from-south (k .before)))
+    (s .pre .0, i .loop-test .taken, s .pre .1, i .before .loop .inv .4, south-is i)
 
 loop-again : tie.Need-loop-again Inv-loop μ-loop
 loop-again c =
-    let v = c .before in
-    let u = v .before .before .before .before in
-    let t = u .before .before .before .before .before in
+    let t = c .before .before .before .before .before in
     let k = t .before in
-    let i = k .before in
+    let i = turn c in
     let s = begin i in
     let a = s .args in
     let inv = i .before .loop .inv in
     let p = i .loop-test .taken in
     let r = s .pre .1 in
-    let e = k .shares-at2 .ensures in (
+    let fit = fit-in (s .pre .0) p r in
+    let e = k .tendencies-at .ensures in (
       row-filled _ _ _ (inv .0) p r (held-is w64 (t .struct-told2 .given .0 .1) (e .depth)),
-      row-filled _ _ _ (inv .1) p r (u-is u),
-      row-filled _ _ _ (inv .2) p r (v-is v),
-      handed-more (state s) (a .q .now) (a .j) (inv .3) p (s .pre .2 .long) (share-held (abs-as (e .north) (north-size (own-fit i))) ∙ e .north),
-      share-held (abs-as (e .east) (east-size (own-fit i))) ∙ e .east ∙ ap (λ x. eastShareAt (state s) (a .q .now) x (a .j)) (sym (previous-after p)),
+      row-filled _ _ _ (inv .1) p r (held-is w64 (t .struct-told2 .given .1 .0 .1) (e .u)),
+      row-filled _ _ _ (inv .2) p r (held-is w64 (t .struct-told2 .given .1 .1 .0 .1) (e .v)),
+      handed-more (state s) (a .q .now) (a .j) (inv .3) p (s .pre .2 .long) (share-held (abs-as (e .north) (north-size fit)) ∙ e .north),
+      share-held (abs-as (e .east) (east-size fit)) ∙ e .east ∙ ap (λ x. eastShareAt (state s) (a .q .now) x (a .j)) (sym (previous-after p)),
     )
 
 -- ---- the row is filled
 
 returns : tie.Need-returns Inv-loop μ-loop
 returns c =
-    let s = c .before .before .before .before .before .before in
+    let s = c .before .before .before .before .before in
     let inv = c .before .loop .inv in
     let all = c .loop-test .left in (
       row-whole _ _ _ (inv .0) all,
@@ -173,17 +130,12 @@ fill-row-spec =
     (tie.spec
     Inv-loop
     μ-loop
-    (λ c κs. search needs)
-    (λ c. c .before .before .pre .0 .state .columns .some)
-    (λ c κs. let s = c .before .before in (s .pre .0, last s, s .pre .1))
+    (λ c. c .before .pre .0 .state .columns .some)
+    (λ c κs. let s = c .before in (s .pre .0, last s, s .pre .1))
     loop-holds
-    (λ c κs. (begin c .pre .0, c .loop-test .taken, begin c .pre .1))
-    (λ c κs. search needs)
-    edge-tendency-requires
-    (λ c κs. search needs)
-    (λ c. omega (arith, most (c .before .before .before .before .before .before .before .before)))
-    (λ c. in-handed (c .before .before .before .before .before .before .before .before))
-    edge-tendency-requires-2
+    (λ c. omega (arith, most c))
+    in-handed
+    tendencies-at-requires
     (λ c. omega (arith, most (turn c)))
     (λ c. omega (arith, most (turn c)))
     (λ c. omega (arith, most (turn c)))

@@ -1,36 +1,102 @@
-//! A call made with both versions: what they tell and fill in is compared, and
+//! A call made with both versions: what they tell and write is compared, and
 //! everything lent is looked at before and after.
 
-use basin::{raw, Beside, Refusal};
+use basin::{raw, Beside, Ran, Refusal};
 
 use super::common::literal::{self, Three};
-use super::{Call, Case, Q};
+use super::{Call, Case, H, Q, U, V};
 
 /// Numbers that no call gives.
 pub const UNTOUCHED: u64 = 0x5555_5555_5555_5555;
 pub const FENCE: i64 = 0x3333_3333_3333_3333;
 const UNFILLED: i64 = i64::MIN;
 
-/// What a call tells, and what is in its destinations then.
+/// What a call tells, and what is then in all that it may write to.
 #[derive(Clone, Debug, PartialEq)]
 pub struct Outcome {
-    /// 01's number and values, `[0]` where nothing is refused.
+    /// 01's number and values, 0 where nothing is refused; a run tells its
+    /// steps last.
     pub told: Vec<u64>,
-    /// q, or dh, du, dv; empty where the call is lent none.
-    pub destinations: [Vec<i64>; 3],
+    pub written: Written,
 }
 
-/// The destinations as they are lent: no two places hold the same number.
-pub fn unfilled(case: &Case, call: Call) -> [Vec<i64>; 3] {
-    std::array::from_fn(|k| {
-        let length = if k < call.destinations() {
-            case.destinations[k]
-        } else {
-            0
+/// The lists that a call may write to, but for its answer; empty where it is
+/// lent none.
+#[derive(Clone, Debug, PartialEq)]
+pub struct Written<T = Vec<i64>> {
+    /// q, or dh, du, dv, or a total.
+    pub destinations: [T; 3],
+    /// h, u, v of a step or run, and its work space.
+    pub stepped: [T; 3],
+    pub work: T,
+}
+
+impl Outcome {
+    /// What tests 1 to 5 and 8 tell: 0 where a step or run goes on.
+    pub fn tested(&self) -> &[u64] {
+        match self.told[0] {
+            0 | 6 => &[0],
+            _ => &self.told,
+        }
+    }
+
+    /// The steps that were done.
+    fn steps(&self, call: Call) -> u64 {
+        match (call, &self.told[..]) {
+            (Call::Step, [0]) => 1,
+            (Call::Run, [0, steps] | [6, _, _, _, steps]) => *steps,
+            _ => 0,
+        }
+    }
+}
+
+impl Written {
+    /// As they are lent: no two places of destinations and work space hold the
+    /// same number.
+    pub fn before(case: &Case, call: Call) -> Self {
+        let junk = |length: usize, k: usize| {
+            let number = |place: usize| UNFILLED + (4 * place + k) as i64;
+            (0..length).map(number).collect()
         };
-        let number = |place: usize| UNFILLED + (3 * place + k) as i64;
-        (0..length).map(number).collect()
-    })
+        let lent = |is_lent: bool, length: usize| if is_lent { length } else { 0 };
+        let stepped = if call.is_stepping() {
+            [H, U, V].map(|field| case.fields[field].clone())
+        } else {
+            [const { Vec::new() }; 3]
+        };
+        Written {
+            destinations: std::array::from_fn(|k| {
+                junk(lent(k < call.destinations(), case.destinations[k]), k)
+            }),
+            stepped,
+            work: junk(lent(call.is_stepping(), case.lent_work()), 3),
+        }
+    }
+
+    fn fenced(&self) -> Self {
+        let fenced = |numbers: &Vec<i64>| fenced(numbers, FENCE);
+        Written {
+            destinations: self.destinations.each_ref().map(fenced),
+            stepped: self.stepped.each_ref().map(fenced),
+            work: fenced(&self.work),
+        }
+    }
+
+    pub fn slices(&mut self) -> Written<&mut [i64]> {
+        Written {
+            destinations: self.destinations.each_mut().map(Vec::as_mut_slice),
+            stepped: self.stepped.each_mut().map(Vec::as_mut_slice),
+            work: &mut self.work,
+        }
+    }
+
+    fn inside_fences(&mut self) -> Written<&mut [i64]> {
+        Written {
+            destinations: self.destinations.each_mut().map(|list| inside(list)),
+            stepped: self.stepped.each_mut().map(|list| inside(list)),
+            work: inside(&mut self.work),
+        }
+    }
 }
 
 // ---- the two versions
@@ -58,11 +124,39 @@ fn told(result: Result<(), Refusal>) -> Vec<u64> {
         Refusal::Constants => vec![3],
         Refusal::Value { field, cell } => vec![4, field_number(field), cell as u64],
         Refusal::ClosedEdge { field, cell } => vec![5, field_number(field), cell as u64],
+        Refusal::OutOfBounds { pass, field, cell } => {
+            vec![6, pass.into(), field_number(field), cell as u64]
+        }
         Refusal::Destination => vec![8],
         _ => panic!("{refusal:?} is no refusal of these calls"),
     };
     assert_eq!(u64::from(refusal.number()), told[0]);
     told
+}
+
+fn told_run(result: Result<Ran, Refusal>) -> Vec<u64> {
+    let Ran { steps, stopped } = match result {
+        Ok(ran) => ran,
+        Err(refusal) => {
+            assert_ne!(refusal.number(), 6, "{refusal:?} stops a run");
+            return told(Err(refusal));
+        }
+    };
+    let mut told = told(stopped.map_or(Ok(()), Err));
+    assert!(matches!(told[0], 0 | 6), "{stopped:?} stops no run");
+    told.push(steps);
+    told
+}
+
+fn told_total(result: Result<i64, Refusal>, total: &mut [i64]) -> Vec<u64> {
+    told(result.map(|number| put_total(number, total)))
+}
+
+/// Where there is a place for it.
+fn put_total(number: i64, total: &mut [i64]) {
+    if let Some(place) = total.first_mut() {
+        *place = number;
+    }
 }
 
 fn parameters(case: &Case) -> basin::Parameters {
@@ -87,53 +181,76 @@ fn parameters(case: &Case) -> basin::Parameters {
 /// The proved library, by its safe calls.
 fn proved(case: &Case, call: Call) -> Outcome {
     let p = &parameters(case);
-    let [h, b, u, v, q, inflow] = &case.fields;
+    let [h, b, u, v, q, s] = &case.fields;
     let &Case { steps, work, .. } = case;
-    let mut destinations = unfilled(case, call);
-    let [first, second, third] = &mut destinations;
-    let test = |beside| basin::test_state(p, h, b, u, v, beside);
-    let result = match call {
+    let mut written = Written::before(case, call);
+    let lent = written.slices();
+    let [first, second, third] = lent.destinations;
+    let [h_stepped, u_stepped, v_stepped] = lent.stepped;
+    let test = |beside| told(basin::test_state(p, h, b, u, v, beside));
+    let told = match call {
         Call::TestState => test(Beside::Nothing),
         Call::TestVorticity => test(Beside::Vorticity(q)),
-        Call::TestStep => test(Beside::Inflow { inflow, work }),
+        Call::TestStep => test(Beside::Inflow { inflow: s, work }),
         Call::TestRun => test(Beside::Run {
-            inflow,
+            inflow: s,
             steps,
             work,
         }),
-        Call::PotentialVorticity => basin::potential_vorticity(p, h, b, u, v, first),
-        Call::Tendencies => basin::tendencies(p, h, b, u, v, q, first, second, third),
+        Call::PotentialVorticity => told(basin::potential_vorticity(p, h, b, u, v, first)),
+        Call::Tendencies => told(basin::tendencies(p, h, b, u, v, q, first, second, third)),
+        Call::Step => told(basin::step(
+            p, h_stepped, b, u_stepped, v_stepped, s, lent.work,
+        )),
+        Call::Run => told_run(basin::run(
+            p, h_stepped, b, u_stepped, v_stepped, s, steps, lent.work,
+        )),
+        Call::TotalDepth => told_total(basin::total_depth(p, h, b, u, v), first),
+        Call::TotalEnergy => told_total(basin::total_energy(p, h, b, u, v), first),
     };
-    Outcome {
-        told: told(result),
-        destinations,
-    }
+    Outcome { told, written }
 }
 
 /// The independent version.
 pub fn independent(case: &Case, call: Call) -> Outcome {
-    use reference::{potential_vorticity, tendencies, test_call, Beside, FillAnswer};
+    use reference::{Beside, FillAnswer, TotalAnswer};
     let Case { p, fields, .. } = case;
-    let [h, b, u, v, q, inflow] = fields;
+    let [h, b, u, v, q, s] = fields;
     let &Case { steps, work, .. } = case;
-    let mut destinations = unfilled(case, call);
-    let [first, second, third] = &mut destinations;
-    let test = |beside| FillAnswer::from(test_call(p, h, b, u, v, beside));
-    let answer = match call {
+    let mut written = Written::before(case, call);
+    let lent = written.slices();
+    let [first, second, third] = lent.destinations;
+    let [h_stepped, u_stepped, v_stepped] = lent.stepped;
+    let test = |beside| FillAnswer::from(reference::test_call(p, h, b, u, v, beside)).told();
+    // The total goes to its place, and is not told.
+    let mut total = |answer: TotalAnswer| {
+        if let TotalAnswer::Total(number) = answer {
+            put_total(number, first);
+            return vec![0];
+        }
+        answer.told()
+    };
+    let told = match call {
         Call::TestState => test(Beside::Nothing),
         Call::TestVorticity => test(Beside::Vorticity(q)),
-        Call::TestStep => test(Beside::Inflow { inflow, work }),
+        Call::TestStep => test(Beside::Inflow { inflow: s, work }),
         Call::TestRun => test(Beside::Run {
-            inflow,
+            inflow: s,
             steps,
             work,
         }),
-        Call::PotentialVorticity => potential_vorticity(p, h, b, u, v, first),
-        Call::Tendencies => tendencies(p, h, b, u, v, q, first, second, third),
+        Call::TotalDepth => total(reference::total_depth(p, h, b, u, v)),
+        Call::TotalEnergy => total(reference::total_energy(p, h, b, u, v)),
+        Call::PotentialVorticity => reference::potential_vorticity(p, h, b, u, v, first).told(),
+        Call::Tendencies => reference::tendencies(p, h, b, u, v, q, first, second, third).told(),
+        Call::Step => reference::step(p, h_stepped, b, u_stepped, v_stepped, s, lent.work).told(),
+        Call::Run => {
+            reference::run(p, h_stepped, b, u_stepped, v_stepped, s, steps, lent.work).told()
+        }
     };
     Outcome {
-        told: answer.told().into_iter().map(|x| x as u64).collect(),
-        destinations,
+        told: told.into_iter().map(|x| x as u64).collect(),
+        written,
     }
 }
 
@@ -142,20 +259,27 @@ pub fn call_raw(
     case: &Case,
     call: Call,
     fields: [&[i64]; 6],
-    destinations: [&mut [i64]; 3],
+    lent: Written<&mut [i64]>,
     answer: &mut [u64],
 ) -> u64 {
     let p = &parameters(case);
-    let [h, b, u, v, q, inflow] = fields;
-    let [first, second, third] = destinations;
+    let [h, b, u, v, q, s] = fields;
     let &Case { steps, work, .. } = case;
+    let [first, second, third] = lent.destinations;
+    let [h_stepped, u_stepped, v_stepped] = lent.stepped;
     match call {
         Call::TestState => raw::test_state(p, h, b, u, v, answer),
         Call::TestVorticity => raw::test_vorticity(p, h, b, u, v, q, answer),
-        Call::TestStep => raw::test_step(p, h, b, u, v, inflow, work, answer),
-        Call::TestRun => raw::test_run(p, h, b, u, v, inflow, steps, work, answer),
+        Call::TestStep => raw::test_step(p, h, b, u, v, s, work, answer),
+        Call::TestRun => raw::test_run(p, h, b, u, v, s, steps, work, answer),
         Call::PotentialVorticity => raw::potential_vorticity(p, h, b, u, v, first, answer),
         Call::Tendencies => raw::tendencies(p, h, b, u, v, q, first, second, third, answer),
+        Call::Step => raw::step(p, h_stepped, b, u_stepped, v_stepped, s, lent.work, answer),
+        Call::Run => raw::run(
+            p, h_stepped, b, u_stepped, v_stepped, s, steps, lent.work, answer,
+        ),
+        Call::TotalDepth => raw::total_depth(p, h, b, u, v, first, answer),
+        Call::TotalEnergy => raw::total_energy(p, h, b, u, v, first, answer),
     }
 }
 
@@ -163,14 +287,15 @@ pub fn call_raw(
 
 /// What both give; `at` is where the case came from.
 pub fn compare(case: &Case, call: Call, at: &str) -> Outcome {
+    let before = Written::before(case, call);
     let expected = independent(case, call);
     // First on copies, so that a field that is changed shows.
-    compare_raw(case, call, &expected, at);
+    compare_raw(case, call, &before, &expected, at);
     let got = proved(case, call);
     assert_eq!(got, expected, "{}", sides(case, call, at));
-    assert_left(case, call, &got, at);
+    assert_left(case, call, &before, &got, at);
     if call == Call::Tendencies && got.told == [0] {
-        let (energy, enstrophy) = rates(case, &got.destinations);
+        let (energy, enstrophy) = rates(case, &got.written.destinations);
         assert_eq!(energy, 0, "{at}: the energy rate of {case:?}");
         if case.p.kind == 0 {
             assert_eq!(enstrophy, 0, "{at}: the enstrophy rate of {case:?}");
@@ -185,24 +310,24 @@ fn sides(case: &Case, call: Call, at: &str) -> String {
     )
 }
 
-/// Both tell this.
+/// Both tell this by tests 1 to 5 and 8, 0 where none refuses.
 pub fn expect(case: &Case, call: Call, told: &[u64], at: &str) {
     let outcome = compare(case, call, at);
-    assert_eq!(outcome.told, told, "{at}: {call:?} {case:?}");
+    assert_eq!(outcome.tested(), told, "{at}: {call:?} {case:?}");
 }
 
-/// The function of the C interface tells and fills the same, and changes
+/// The function of the C interface tells and writes the same, and changes
 /// nothing else that it is lent, nor what lies beside it.
-fn compare_raw(case: &Case, call: Call, expected: &Outcome, at: &str) {
+fn compare_raw(case: &Case, call: Call, before: &Written, expected: &Outcome, at: &str) {
     let fields = case.fields.each_ref().map(|field| fenced(field, FENCE));
-    let mut destinations = unfilled(case, call).map(|places| fenced(&places, FENCE));
+    let mut written = before.fenced();
     let mut answer = fenced(&vec![UNTOUCHED; case.room], UNTOUCHED);
 
     let number = call_raw(
         case,
         call,
         fields.each_ref().map(|field| &field[1..field.len() - 1]),
-        destinations.each_mut().map(|places| inside(places)),
+        written.inside_fences(),
         inside(&mut answer),
     );
 
@@ -213,13 +338,11 @@ fn compare_raw(case: &Case, call: Call, expected: &Outcome, at: &str) {
         *place = *number;
     }
     assert_eq!(answer, answered, "{}", sides(case, call, at));
-    for (after, filled) in destinations.iter().zip(&expected.destinations) {
-        let filled = fenced(filled, FENCE);
-        assert_eq!(after, &filled, "{}", sides(case, call, at));
-    }
+    let expected = expected.written.fenced();
+    assert_eq!(written, expected, "{}", sides(case, call, at));
     for (after, before) in fields.iter().zip(&case.fields) {
-        let before = fenced(before, FENCE);
-        assert_eq!(after, &before, "{at}: changed by {call:?} {case:?}");
+        let same = matches!(&after[..], [FENCE, within @ .., FENCE] if within == before);
+        assert!(same, "{at}: {call:?} left {after:?} of {case:?}");
     }
 }
 
@@ -233,15 +356,18 @@ fn inside<T>(fenced: &mut [T]) -> &mut [T] {
     &mut fenced[1..last]
 }
 
-/// A refused call leaves its destinations, an accepted one fills their first
-/// w·n places and leaves the others.
-fn assert_left(case: &Case, call: Call, got: &Outcome, at: &str) {
-    let filled = match got.told[..] {
-        [0] => case.p.w * case.p.n,
+/// What 01 says of all that is lent, whatever the numbers: a refused call
+/// leaves its destinations, an accepted one fills their first places and leaves
+/// the others; without a step done h, u and v are left; the work space is
+/// cleared after tests 1 and 2, and not past its first 8·w·n numbers.
+fn assert_left(case: &Case, call: Call, before: &Written, got: &Outcome, at: &str) {
+    let cells = case.p.w.wrapping_mul(case.p.n);
+    let filled = match got.told[0] {
+        0 => call.places_filled(cells),
         _ => 0,
     };
-    let before = unfilled(case, call);
-    for (after, before) in got.destinations.iter().zip(&before) {
+    let lists = got.written.destinations.iter().zip(&before.destinations);
+    for (after, before) in lists {
         let rest = filled.min(before.len());
         assert_eq!(
             after[rest..],
@@ -250,6 +376,24 @@ fn assert_left(case: &Case, call: Call, got: &Outcome, at: &str) {
         );
         let all = after[..rest].iter().all(|&x| x >= UNFILLED / 2);
         assert!(all, "{at}: not filled by {call:?} {case:?}");
+    }
+    if got.steps(call) == 0 {
+        let (after, before) = (&got.written.stepped, &before.stepped);
+        assert_eq!(after, before, "{at}: left by {call:?} {case:?}");
+    }
+    if call.is_stepping() {
+        let cleared = match got.told[0] {
+            1 | 2 => 0,
+            _ => 8 * cells,
+        };
+        let (clear, rest) = got.written.work.split_at(cleared);
+        let all = clear.iter().all(|&x| x == 0);
+        assert!(all, "{at}: not cleared by {call:?} {case:?}");
+        assert_eq!(
+            rest,
+            &before.work[cleared..],
+            "{at}: left by {call:?} {case:?}"
+        );
     }
 }
 

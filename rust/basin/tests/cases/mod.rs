@@ -9,7 +9,7 @@ pub mod calls;
 #[path = "../../../reference/tests/common/mod.rs"]
 pub mod common;
 
-use common::{literal, numbers, random_state, Random, SPREADS};
+use common::{literal, numbers, random_q, random_state, Random, Spread, SPREADS};
 use reference::{Parameters, State};
 
 /// The places of the fields in [`Case::fields`], which are 01's numbers.
@@ -43,40 +43,78 @@ pub enum Call {
     TestRun,
     PotentialVorticity,
     Tendencies,
+    Step,
+    Run,
+    TotalDepth,
+    TotalEnergy,
 }
 
-pub const CALLS: [Call; 6] = [
+pub const CALLS: [Call; 10] = [
     Call::TestState,
     Call::TestVorticity,
     Call::TestStep,
     Call::TestRun,
     Call::PotentialVorticity,
     Call::Tendencies,
+    Call::Step,
+    Call::Run,
+    Call::TotalDepth,
+    Call::TotalEnergy,
 ];
 
-/// Those of them that fill destinations.
+/// Those of them that fill fields, those that step a state, and the totals.
 pub const FILLING: [Call; 2] = [Call::PotentialVorticity, Call::Tendencies];
+pub const STEPPING: [Call; 2] = [Call::Step, Call::Run];
+pub const TOTALS: [Call; 2] = [Call::TotalDepth, Call::TotalEnergy];
 
 impl Call {
     /// The fields that the call takes.
     pub fn fields(self) -> &'static [usize] {
         match self {
             Call::TestState | Call::PotentialVorticity => &[0, 1, 2, 3],
+            Call::TotalDepth | Call::TotalEnergy => &[0, 1, 2, 3],
             Call::TestVorticity | Call::Tendencies => &[0, 1, 2, 3, Q],
-            Call::TestStep | Call::TestRun => &[0, 1, 2, 3, S],
+            Call::TestStep | Call::TestRun | Call::Step | Call::Run => &[0, 1, 2, 3, S],
         }
     }
 
     pub fn has_work_space(self) -> bool {
-        matches!(self, Call::TestStep | Call::TestRun)
+        matches!(
+            self,
+            Call::TestStep | Call::TestRun | Call::Step | Call::Run
+        )
+    }
+
+    pub fn has_run_length(self) -> bool {
+        matches!(self, Call::TestRun | Call::Run)
+    }
+
+    /// Whether the call is lent fields that it fills: test 8.
+    pub fn is_filling(self) -> bool {
+        FILLING.contains(&self)
+    }
+
+    /// Whether the call steps h, u and v in place.
+    pub fn is_stepping(self) -> bool {
+        STEPPING.contains(&self)
     }
 
     /// How many destinations the call is lent.
     pub fn destinations(self) -> usize {
         match self {
             Call::TestState | Call::TestVorticity | Call::TestStep | Call::TestRun => 0,
-            Call::PotentialVorticity => 1,
+            Call::Step | Call::Run => 0,
+            Call::PotentialVorticity | Call::TotalDepth | Call::TotalEnergy => 1,
             Call::Tendencies => 3,
+        }
+    }
+
+    /// How many places of each it fills, if they are there.
+    pub fn places_filled(self, cells: usize) -> usize {
+        if TOTALS.contains(&self) {
+            1
+        } else {
+            cells
         }
     }
 }
@@ -89,7 +127,7 @@ pub struct Case {
     pub fields: [Vec<i64>; 6],
     pub steps: u64,
     pub work: usize,
-    /// Lengths of the destinations: q, or dh, du, dv.
+    /// Lengths of the destinations: q, or dh, du, dv, or a total.
     pub destinations: [usize; 3],
     /// Places for the answer.
     pub room: usize,
@@ -112,7 +150,7 @@ impl Case {
             steps: 3,
             work: 8 * cells,
             destinations: [cells; 3],
-            room: 3,
+            room: 5,
         }
     }
 
@@ -153,7 +191,8 @@ impl Case {
         Case::beside(state, vec![0, 0], vec![0, 0])
     }
 
-    /// A closed basin of 3 by 2 cells that every call accepts.
+    /// A closed basin of 3 by 2 cells that every call accepts, a run of three
+    /// steps too.
     pub fn basin() -> Self {
         let parameters = Parameters {
             w: 3,
@@ -173,7 +212,8 @@ impl Case {
         Case::beside(state, vec![6; 6], vec![-7; 6])
     }
 
-    /// Any case that every call accepts.
+    /// Any case within the limits. A step may leave a bound, no call is refused
+    /// otherwise.
     pub fn good(random: &mut Random) -> Self {
         let size = random_size(random);
         Case::good_of_size(random, size)
@@ -195,10 +235,91 @@ impl Case {
             q = literal::PAPER.vorticity(&state);
         }
         let mut case = Case::beside(state, q, inflow);
-        case.steps = random.pick(&[0, 1, 2, 9_999, 10_000]);
+        case.steps = random.pick(&[0, 1, 2, 3]);
+        if cells <= 64 && random.once_in(8) {
+            case.take_long(random.pick(&[9_999, 10_000]));
+        }
+        case.work += random.pick(&[0, 0, 1, 5]);
         case.destinations = [(); 3].map(|()| cells + random.pick(&[0, 0, 1, 5]));
-        case.room = random.below(5);
+        case.room = random.below(7);
         case
+    }
+
+    /// A case whose first steps are mostly accepted: slow water, or faster
+    /// water that turns, so that both passes and their vorticity matter.
+    pub fn gentle(random: &mut Random, size: (usize, usize), kind: u8) -> Self {
+        let mut state = random_state(random, Spread::Calm, size, kind);
+        let cells = state.h.len();
+        if random.once_in(2) {
+            state.parameters.c = random.between(-10_000, 10_000);
+            state.parameters.r = random.between(100_000, 300_000);
+            let speed = random.between(300, 2_000);
+            state.u = numbers(random, Spread::Even, cells, -speed, speed);
+            state.v = numbers(random, Spread::Even, cells, -speed, speed);
+        }
+        let most = random.pick(&[0, 2, 100]);
+        let (least, most) = random.pick(&[(-most, most), (0, most), (-most, 0)]);
+        let inflow = numbers(random, Spread::Even, cells, least, most);
+        let q = random_q(random, Spread::Even, cells);
+        let mut case = Case::beside(state, q, inflow);
+        case.clear_closed_edges();
+        case.work += random.pick(&[0, 0, 1, 5]);
+        case
+    }
+
+    /// A gentle case moved to the brink: close to a bound of h, of u, of v or
+    /// of several, which a step may then leave.
+    pub fn brink(random: &mut Random, size: (usize, usize), kind: u8) -> Self {
+        let mut case = Case::gentle(random, size, kind);
+        let fields = random.pick(&[&[H][..], &[U], &[V], &[U, V], &[H, U, V]]);
+        if random.once_in(2) {
+            // The first pass hardly moves such water. What the second does comes
+            // of the inflow, or of the bottom below a state at rest.
+            let [h, b, u, v, _, s] = &mut case.fields;
+            let cells = h.len();
+            let mut uneven = |low, high| numbers(random, Spread::Even, cells, low, high);
+            if fields.contains(&H) {
+                *b = uneven(0, 20_000);
+                s.fill(0);
+            } else {
+                b.fill(0);
+                *s = uneven(-100, 100);
+            }
+            h.fill(random.between(5_000, 50_000));
+            u.fill(0);
+            v.fill(0);
+            case.p.c = 0;
+        }
+        for &field in fields {
+            let (low, high) = BOUNDS[field];
+            let room = random.pick(&[0, 5, 50, 500]);
+            let off = random.between(0, room);
+            let numbers = &mut case.fields[field];
+            let by = if random.once_in(2) {
+                low + off - numbers.iter().min().expect("a cell")
+            } else {
+                high - off - numbers.iter().max().expect("a cell")
+            };
+            for number in numbers {
+                *number = (*number + by).clamp(low, high);
+            }
+        }
+        case.clear_closed_edges();
+        case
+    }
+
+    /// Takes a run length that would last, and an inflow of 1,000 mm a step
+    /// everywhere, which stops it in time.
+    fn take_long(&mut self, steps: u64) {
+        self.steps = steps;
+        self.fields[S].fill(1_000);
+    }
+
+    /// The length of the work space that is lent: as asked, but for lengths that
+    /// cannot be lent and are more than enough.
+    pub fn lent_work(&self) -> usize {
+        let cells = self.p.w.wrapping_mul(self.p.n).min(64 * 64);
+        self.work.min(8 * cells + 7)
     }
 
     /// The state by itself.
@@ -250,6 +371,8 @@ impl Case {
                     field.resize(cells, number);
                 }
                 self.work = 8 * cells;
+                // The inflow that would stop a long run may have gone.
+                self.steps = self.steps.min(3);
             }
             [3] => (self.p.g, self.p.c, self.p.r) = (1, 0, 1_000),
             [4 | 5, field, cell] => {
@@ -271,6 +394,16 @@ pub fn random_size(random: &mut Random) -> (usize, usize) {
         7..=14 => (1, 1 + random.below(64)),
         15..=22 => (1 + random.below(64), 1),
         _ => (1 + random.below(8), 1 + random.below(8)),
+    }
+}
+
+/// Width and height of grids that many steps are taken on.
+pub fn small_size(random: &mut Random) -> (usize, usize) {
+    match random.below(10) {
+        0 => (1, 1 + random.below(6)),
+        1 => (1 + random.below(6), 1),
+        2 => (1 + random.below(8), 1 + random.below(8)),
+        _ => (1 + random.below(4), 1 + random.below(4)),
     }
 }
 
@@ -446,11 +579,12 @@ impl Fault {
             Fault::Steps => {
                 let near = [0, 10_000, 10_001, 10_002];
                 let far = [1 << 32, (1 << 32) + 5, 1 << 63, u64::MAX];
-                case.steps = match random.below(3) {
+                let steps = match random.below(3) {
                     0 => random.pick(&near),
                     1 => random.pick(&far),
                     _ => random.next(),
                 };
+                case.take_long(steps);
             }
             Fault::Work => {
                 let cells = case.p.w.wrapping_mul(case.p.n);

@@ -1,0 +1,2 @@
+-- what a pass finds and leaves in the work space, and what it asks
+pub mod Spaces

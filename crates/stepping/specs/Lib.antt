@@ -1,0 +1,4 @@
+-- what a scan finds and what a step comes to, as the code tells it
+pub mod Outcomes
+-- a run under way
+pub mod Running

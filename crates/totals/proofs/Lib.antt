@@ -1,0 +1,2 @@
+-- from the tests of a call to its promise
+pub mod CallLaws

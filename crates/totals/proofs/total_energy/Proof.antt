@@ -1,0 +1,43 @@
+-- `totals::total_energy` meets its contract. Assumes nothing.
+use mathlib.Core.Path.{_≡_, sym, ap, _∙_}
+use borrow.Author.Needs.{needs}
+use mir.Syntax.{w64}
+use Rattle.model.specs.State.{State, stateOf}
+use Rattle.model.specs.Answers.{toldTotal}
+use Rattle.model.specs.Totals.{energy4}
+use Rattle.model.specs.Promises.{testAnswer, totalTest}
+use Rattle.model.specs.declared.TestAnswer.the-variants.{Passed}
+use Rattle.integers.specs.Bounds.{held-is}
+use Rattle.totals.proofs.CallLaws.{total-passed, total-told, total-refused}
+use Rattle.totals.proofs.total_energy.Statement.{statement}
+use Rattle.totals.proofs.total_energy.Tie as tie
+
+abbrev state : tie.Start → State
+state c = let a = c .args in stateOf (a .p) (a .h .now) (a .b .now) (a .u .now) (a .v .now)
+
+passed : (c : tie.After-enum-told) → Passed ≡ testAnswer (totalTest (state (c .before .before .before)))
+passed c = sym (c .enum-told .given .1) ∙ c .before .before .tested .ensures
+
+returns : tie.Need-returns
+returns c =
+    let e = total-told (state (c .before .before .before .before)) (passed (c .before)) (held-is w64 (c .sum-energy .ok) (c .sum-energy .ensures)) in
+    record { answers = e; tells = ap toldTotal e }
+
+returns-2 : tie.Need-returns-2
+returns-2 c =
+    let k = c .before in
+    let t = k .before .before in
+    let s = state (t .before) in
+    let e = total-refused s (energy4 s) (sym (k .refusal .given .1) ∙ t .tested .ensures) in
+    record { answers = e; tells = ap toldTotal e }
+
+pub total-energy-spec : {M : Type 1} → statement M
+total-energy-spec =
+    tie.close
+    (tie.spec
+    (λ c κs. search needs)
+    (λ c. search needs)
+    (λ c κs. total-passed (state (c .before .before .before)) (passed c))
+    (λ c. search needs)
+    returns
+    returns-2)

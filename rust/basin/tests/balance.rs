@@ -1,0 +1,262 @@
+//! Total depth over lists of step and run calls of the proved library: the
+//! total after a list is the total before it plus, for each call, steps done
+//! times the sum of its inflow. Steps done are worked out by the independent
+//! version, from the first state and the calls alone.
+
+mod cases;
+
+use cases::calls::compare;
+use cases::common::{numbers, Random, Spread};
+use cases::{small_size, Call, Case, H, S, U, V};
+use reference::{Beside, State, StepAnswer};
+
+/// A step or run, with what it is lent beside the state.
+#[derive(Clone, Debug)]
+struct Entry {
+    call: Call,
+    inflow: Vec<i64>,
+    /// 1 of a step.
+    steps: u64,
+    work: usize,
+}
+
+impl Entry {
+    fn random(random: &mut Random, cells: usize) -> Self {
+        let (call, steps) = match random.below(12) {
+            0..=3 => (Call::Step, 1),
+            4..=8 => (Call::Run, random.below(13) as u64),
+            9 => (Call::Run, 0),
+            10 => (Call::Run, random.pick(&[60, 10_000])),
+            _ => (Call::Run, random.pick(&[10_001, 1 << 40, u64::MAX])),
+        };
+        let most = random.pick(&[0, 2, 100, 1_000]);
+        let (least, most) = match steps {
+            // This inflow stops the run.
+            10_000 => (1_000, 1_000),
+            _ => random.pick(&[(-most, most), (0, most), (-most, 0)]),
+        };
+        let mut inflow = numbers(random, Spread::Even, cells, least, most);
+        match random.below(20) {
+            0 => inflow.push(1),
+            1 => inflow.truncate(cells - 1),
+            2 => inflow[random.below(cells)] = random.pick(&[-1_001, 1_001, i64::MIN, i64::MAX]),
+            _ => {}
+        }
+        let work = match random.below(20) {
+            0 => 8 * cells - 1,
+            1 => random.below(8 * cells),
+            2..=9 => 8 * cells,
+            _ => 8 * cells + random.below(7),
+        };
+        Entry {
+            call,
+            inflow,
+            steps,
+            work,
+        }
+    }
+
+    /// Moves a state on by single steps of the independent version and counts
+    /// them.
+    fn steps_done(&self, state: &mut State) -> u64 {
+        let State {
+            parameters: p,
+            h,
+            b,
+            u,
+            v,
+        } = state;
+        let &Entry {
+            ref inflow,
+            steps,
+            work,
+            ..
+        } = self;
+        let run = Beside::Run {
+            inflow,
+            steps,
+            work,
+        };
+        if reference::test_call(p, h, b, u, v, run).is_err() {
+            return 0;
+        }
+        let mut space = vec![0; work];
+        let mut step = || reference::step(p, h, b, u, v, inflow, &mut space);
+        (0..steps)
+            .take_while(|_| step() == StepAnswer::Done)
+            .count() as u64
+    }
+}
+
+/// What the library answers on the state of a case.
+fn total(case: &Case, at: &str) -> i128 {
+    let outcome = compare(case, Call::TotalDepth, at);
+    assert_eq!(outcome.told, [0], "{at}: {case:?}");
+    outcome.written.destinations[0][0].into()
+}
+
+/// How often each thing happened over all the lists.
+#[derive(Debug, Default)]
+struct Seen {
+    empty_lists: usize,
+    /// Of the total, over a list.
+    rises: usize,
+    falls: usize,
+    steps_done: usize,
+    steps_stopped: usize,
+    runs_finished: usize,
+    runs_of_none: usize,
+    runs_stopped_at_once: usize,
+    runs_cut_short: usize,
+    refused: [usize; 5],
+    /// Where less came in than was asked for.
+    lists_with_less_done: usize,
+}
+
+impl Seen {
+    fn count(&mut self, call: Call, told: &[u64]) {
+        match (call, told) {
+            (Call::Step, [0]) => self.steps_done += 1,
+            (Call::Step, [6, ..]) => self.steps_stopped += 1,
+            (Call::Run, [0, 0]) => self.runs_of_none += 1,
+            (Call::Run, [0, _]) => self.runs_finished += 1,
+            (Call::Run, [6, _, _, _, 0]) => self.runs_stopped_at_once += 1,
+            (Call::Run, [6, ..]) => self.runs_cut_short += 1,
+            (_, [number @ 1..=4, ..]) => self.refused[*number as usize] += 1,
+            _ => panic!("{call:?} told {told:?}"),
+        }
+    }
+
+    fn assert_enough(&self) {
+        let counts = [
+            self.empty_lists,
+            self.rises,
+            self.falls,
+            self.steps_done,
+            self.steps_stopped,
+            self.runs_finished,
+            self.runs_of_none,
+            self.runs_stopped_at_once,
+            self.runs_cut_short,
+            self.refused[1],
+            self.refused[2],
+            self.refused[4],
+            self.lists_with_less_done,
+        ];
+        assert!(counts.iter().all(|&times| times > 100), "{self:?}");
+    }
+}
+
+/// Makes the calls of a list, and takes the balance.
+fn balance(first: &Case, list: &[Entry], seen: &mut Seen, at: &str) {
+    // What is due, from the first state and the calls alone.
+    let mut state = first.state();
+    let (mut due, mut less_done) = (0, false);
+    for entry in list {
+        let inflow: i128 = entry.inflow.iter().map(|&s| i128::from(s)).sum();
+        let done = entry.steps_done(&mut state);
+        due += i128::from(done) * inflow;
+        less_done |= done < entry.steps && inflow != 0;
+    }
+
+    // What the library does.
+    let mut case = first.clone();
+    let before = total(&case, at);
+    for entry in list {
+        case.fields[S].clone_from(&entry.inflow);
+        case.steps = entry.steps;
+        case.work = entry.work;
+        let outcome = compare(&case, entry.call, at);
+        seen.count(entry.call, &outcome.told);
+        for (field, after) in [H, U, V].into_iter().zip(outcome.written.stepped) {
+            case.fields[field] = after;
+        }
+    }
+    let after = total(&case, at);
+    assert_eq!(after, before + due, "{at}: {first:?} {list:?}");
+    assert_eq!(case.state(), state, "{at}: {first:?} {list:?}");
+
+    seen.empty_lists += usize::from(list.is_empty());
+    seen.rises += usize::from(after > before);
+    seen.falls += usize::from(after < before);
+    seen.lists_with_less_done += usize::from(less_done);
+}
+
+#[test]
+fn total_depth_balances_over_lists_of_calls() {
+    let mut seen = Seen::default();
+    for seed in 1_000..5_000 {
+        let mut random = Random::new(seed);
+        let size = small_size(&mut random);
+        let kind = random.below(3) as u8;
+        let first = match random.below(6) {
+            0 => Case::good_of_kind(&mut random, size, kind),
+            1 => Case::brink(&mut random, size, kind),
+            _ => Case::gentle(&mut random, size, kind),
+        };
+        let list: Vec<_> = (0..random.below(7))
+            .map(|_| Entry::random(&mut random, size.0 * size.1))
+            .collect();
+        balance(&first, &list, &mut seen, &format!("seed {seed}"));
+    }
+    println!("{seen:?}");
+    seen.assert_enough();
+}
+
+#[test]
+fn total_depth_balances_on_large_grids() {
+    let mut seen = Seen::default();
+    for seed in 5_000..5_012 {
+        let mut random = Random::new(seed);
+        let size = random.pick(&[(64, 64), (64, 63), (33, 64), (64, 1), (1, 64), (16, 16)]);
+        let kind = random.below(3) as u8;
+        let first = Case::gentle(&mut random, size, kind);
+        let list: Vec<_> = (0..4)
+            .map(|_| Entry::random(&mut random, size.0 * size.1))
+            .collect();
+        balance(&first, &list, &mut seen, &format!("seed {seed}"));
+    }
+    println!("{seen:?}");
+    assert!(seen.runs_finished > 5 && seen.steps_done > 5, "{seen:?}");
+}
+
+/// A state that total depth refuses is refused by every call of a list, and by
+/// total depth after it as before.
+#[test]
+fn a_refused_state_stays_refused() {
+    let mut seen = [0; 6];
+    for seed in 6_000..6_200 {
+        let mut random = Random::new(seed);
+        let size = small_size(&mut random);
+        let cells = size.0 * size.1;
+        let mut case = Case::gentle(&mut random, size, 2);
+        match random.below(5) {
+            0 => case.p.kind = 3,
+            1 => case.fields[V].push(0),
+            2 => case.p.r = 999,
+            3 => case.fields[H][random.below(cells)] = 999,
+            // The west edge of cell 0 is closed.
+            _ => case.fields[U][0] = 1,
+        }
+        let at = format!("seed {seed}");
+        let before = compare(&case, Call::TotalDepth, &at).told;
+        seen[before[0] as usize] += 1;
+        for _ in 0..1 + random.below(4) {
+            let entry = Entry::random(&mut random, cells);
+            case.fields[S].clone_from(&entry.inflow);
+            case.steps = entry.steps;
+            case.work = entry.work;
+            let outcome = compare(&case, entry.call, &at);
+            assert!((1..6).contains(&outcome.told[0]), "{at}: {case:?}");
+            for (field, after) in [H, U, V].into_iter().zip(outcome.written.stepped) {
+                assert_eq!(after, case.fields[field], "{at}: {case:?}");
+            }
+        }
+        let after = compare(&case, Call::TotalDepth, &at).told;
+        assert_eq!(after, before, "{at}: {case:?}");
+    }
+    assert!(
+        seen[0] == 0 && seen[1..].iter().all(|&n| n > 10),
+        "{seen:?}"
+    );
+}
