@@ -146,7 +146,7 @@ fn random_calls_are_answered_alike() {
     let mut coverage = Coverage::default();
     for seed in 1..=4 {
         let mut random = Random::new(seed);
-        for number in 0..7_500 {
+        for number in 0..10_000 {
             let (case, faults) = random_case(&mut random);
             if let [fault] = faults[..] {
                 coverage.fault[fault as usize] += 1;
@@ -587,7 +587,7 @@ fn only_the_told_numbers_that_fit_are_written() {
     let seed = 7;
     let mut random = Random::new(seed);
     let mut met = [0; 9];
-    for number in 0..3_000 {
+    for number in 0..5_000 {
         let (mut case, faults) = random_case(&mut random);
         for call in CALLS {
             for room in 0..=6 {
