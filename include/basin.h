@@ -1,8 +1,9 @@
 /*
  * The proved basin core (document 01), for C and C++ on x86-64. Link
- * target/staticlib/libbasin.a, which `rt staticlib basin` writes. So far: the
- * step of a state and runs of it, totals, potential vorticity and tendencies,
- * the tests that a call on a state begins with, by themselves, and rounding.
+ * target/staticlib/libbasin.a, which `rt staticlib basin` writes: the step of a
+ * state and runs of it, totals, potential vorticity and tendencies, the record
+ * of a state (writer, reader, comparison), the tests that a call on a state
+ * begins with, by themselves, and rounding.
  *
  * Every function takes any numbers and any lengths, and always returns. A
  * field is lent as a pointer and the number of its elements. What is asked of
@@ -10,32 +11,40 @@
  * - each pointer is valid and aligned for the length after it. Pass a valid
  *   pointer where the length is 0 too: nothing is promised of a null pointer;
  * - what a function writes (every pointer that is not to const) overlaps
- *   nothing else lent to it. Fields that are only read may overlap.
+ *   nothing else lent to it. What is only read may overlap.
  *
  * A state is w columns by n rows, the kind of its boundary, the constants g,
  * c and r, and the fields h, b, u and v, which have a number for each cell.
  * Column i of row j is cell j*w + i. The edges u(0,j) are closed for kind 2,
  * the edges v(i,0) for kinds 1 and 2; kind 0 closes none.
  *
- * Answers. A call on a state returns the number of its refusal, 0 for none.
- * answer holds the same number and then what is told with it, as far as there
- * is room (5 places are enough); its other places are untouched. A refused
- * call leaves everything else that was lent to it untouched, but for the work
- * space, and for the state of a run that 6 stops, which is left as it is after
- * the steps done.
+ * Answers. A call on a state or a record returns the number of its refusal, 0
+ * for none. answer holds the same number and then what is told with it, as far
+ * as there is room (5 places are enough); its other places are untouched. A
+ * refused call leaves everything else that was lent to it untouched, but for
+ * the work space, and for the state of a run that 6 stops, which is left as it
+ * is after the steps done.
  *
  * Work space. A step or run is lent work, of at least 8*w*n numbers, whatever
  * they are. After refusals 1 and 2 it is untouched. Otherwise, refused or not,
  * its first 8*w*n numbers are 0 after the call and the rest are untouched.
  *
- * Refusals. The causes are tested in this order and the first is told:
+ * Record. A row of seven fields, each a tag of one byte, the length of its
+ * value in two, and the value; numbers are big-endian, negative ones in two's
+ * complement. Tag 1 holds w, n and kind, a byte each; 2 holds g, c and r, four
+ * bytes each; 3 the timestamp, eight bytes without a sign, in whole seconds
+ * since 2000-01-01 00:00; 4 and 5 hold h and b, four bytes a cell; 6 and 7 hold
+ * u and v, two bytes a cell. Each tag occurs once. That is 44 + 12*w*n bytes.
+ *
+ * Refusals. The causes are tested in this order and the first is told; but a
+ * record that is read is tested in the order 7, 1, 2, 8, 3, 4, 5:
  *
  *   number  cause                                             told with it
- *   0       none                                              (a run: steps)
+ *   0       none                                              (see the calls)
  *   1       w or n not 1 to 64; kind not 0, 1 or 2;
  *           steps above 10,000
  *   2       a field to be read or stepped does not have
- *           w*n numbers;
+ *           w*n numbers (in a record, the bytes of these);
  *           work_len below 8*w*n
  *   3       g not 1 to 10,000; c not -10,000 to 10,000;
  *           r not 1,000 to 1,000,000
@@ -45,7 +54,12 @@
  *           before v, lowest cell first
  *   6       a pass of the step, 1 or 2, leaves the bounds     pass, field, cell
  *           of h, u or v, in this order, lowest cell first    (a run: steps too)
- *   8       a field to be filled has fewer than w*n places
+ *   7       a damaged record. At each tag in turn: 1 or 2     offset of the
+ *           bytes left, an unknown tag, a repeated tag, a     tag; length of
+ *           value past the end, tag 1, 2 or 3 of a wrong      the record where
+ *           length; then a tag that is missing                one is missing
+ *   8       a field to be filled has fewer than w*n places;
+ *           record_len below 44 + 12*w*n, to be written
  *
  *   field   bounds
  *   0       h       depth, 1,000 to 100,000 mm
@@ -162,6 +176,53 @@ uint64_t basin_total_energy(size_t w, size_t n, uint8_t kind,
                             const int64_t *v, size_t v_len,
                             int64_t *total, size_t total_len,
                             uint64_t *answer, size_t answer_len);
+
+/*
+ * Writes the record of a state, its tags rising. Tests 1 to 5, then 8 of
+ * record. Where none refuses, the first 44 + 12*w*n bytes of record are the
+ * result and the rest of record is untouched; told are 0 and the number of
+ * these bytes.
+ */
+uint64_t basin_write(size_t w, size_t n, uint8_t kind,
+                     int64_t g, int64_t c, int64_t r,
+                     const int64_t *h, size_t h_len,
+                     const int64_t *b, size_t b_len,
+                     const int64_t *u, size_t u_len,
+                     const int64_t *v, size_t v_len,
+                     uint64_t timestamp,
+                     uint8_t *record, size_t record_len,
+                     uint64_t *answer, size_t answer_len);
+
+/*
+ * Reads a record, its tags in any order. Tests 7, 1, 2, then 8 of h, b, u and
+ * v, then 3, 4, 5. Where none refuses, the first w*n numbers of each of the
+ * four are the state's and the rest of each is untouched; the first three
+ * numbers of constants are g, c and r, as far as there is room, and the rest is
+ * untouched; told are 0, w, n, kind and the timestamp.
+ */
+uint64_t basin_read(const uint8_t *record, size_t record_len,
+                    int64_t *h, size_t h_len,
+                    int64_t *b, size_t b_len,
+                    int64_t *u, size_t u_len,
+                    int64_t *v, size_t v_len,
+                    int64_t *constants, size_t constants_len,
+                    uint64_t *answer, size_t answer_len);
+
+/*
+ * Compares two records. Each is tested as one that is read, but for 8: the
+ * first wholly, then the second. Where none is refused, told are 0 and
+ *
+ *   0  same: the same w, n, kind, constants and fields, and timestamp
+ *   1  the first is newer: it has the later timestamp
+ *   2  the second is newer
+ *   3  conflict: the timestamp is the same, and something else differs
+ *
+ * Otherwise told are the number of the refusal, the record, 1 or 2, and then
+ * what is told with that number: 7, 2 and an offset, for instance.
+ */
+uint64_t basin_compare(const uint8_t *first, size_t first_len,
+                       const uint8_t *second, size_t second_len,
+                       uint64_t *answer, size_t answer_len);
 
 /*
  * Tests 1 to 5 of a state by themselves: 0 where a call that takes it is

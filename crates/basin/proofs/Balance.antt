@@ -20,7 +20,8 @@ use Rattle.model.specs.Histories.{Call, step, run, History, stepped, ran, inflo
 use Rattle.model.specs.declared.TotalAnswer.{TotalAnswer}
 use Rattle.model.specs.declared.TotalAnswer.the-variants.{Total, Refused}
 use Rattle.theorems.specs.Theorems.{theorems}
-use Rattle.basin.specs.Told.{stateIn, totalNumbers, totalIn, TotalTold}
+use Rattle.telling.specs.Told.{totalNumbers, totalIn}
+use Rattle.basin.specs.Told.{stateIn, TotalTold}
 use Rattle.basin.proofs.Applied.{from-one}
 use Rattle.basin.proofs.basin_step.Kinds as step-kinds
 use Rattle.basin.proofs.basin_step.Reads as step-reads

@@ -2,3 +2,4 @@ pub mod Tells
 -- the theorems speak of the C interface
 pub mod Applied
 pub mod Balance
+pub mod Records

@@ -6,23 +6,22 @@ use mathlib.Core.List.{List, [], _∷_}
 use Prim.Native.Nat.{ℕ, _^_}
 use lib.Dec.{leb}
 use lib.IntN.{ℤ, pos, negℤ}
-use lib.ListN.{length, getD}
+use lib.ListN.{length}
 use lib.Seq.{sets}
 use Rattle.model.specs.Numbers.{_to_, within, rnd}
 use Rattle.model.specs.State.{State, stateOf}
-use Rattle.model.specs.Answers.{refusalNumbers, testNumbers, fillNumbers, stepNumbers, runNumbers}
-use Rattle.model.specs.Promises.{testOf, testAnswer, VorticityPromise, TendenciesPromise, StepPromise, RunPromise}
+use Rattle.model.specs.Answers.{testNumbers, fillNumbers, stepNumbers, runNumbers, writeNumbers, compareNumbers}
+use Rattle.model.specs.Record.{Timestamp}
+use Rattle.model.specs.Promises.{testOf, testAnswer, VorticityPromise, TendenciesPromise, StepPromise, RunPromise, WritePromise, ReadPromise, ComparePromise}
 use Rattle.model.specs.declared.Beside.{Beside}
 use Rattle.model.specs.declared.FillAnswer.{FillAnswer}
 use Rattle.model.specs.declared.StepAnswer.{StepAnswer}
 use Rattle.model.specs.declared.RunAnswer.{RunAnswer}
 use Rattle.model.specs.declared.TotalAnswer.{TotalAnswer}
-use Rattle.model.specs.declared.TotalAnswer.the-variants as T
-
--- a list of numbers is told: its first is returned, and all of them are in the answer, as far as there is room
-pub record Told (numbers entry : List ℕ) (r : ℕ) (exit : List ℕ) : Type 0 where
-  pub returns : r ≡ getD numbers 0 0
-  pub holds : exit ≡ sets entry 0 numbers
+use Rattle.model.specs.declared.WriteAnswer.{WriteAnswer}
+use Rattle.model.specs.declared.ReadAnswer.{ReadAnswer}
+use Rattle.model.specs.declared.CompareAnswer.{CompareAnswer}
+use Rattle.telling.specs.Told.{Told, totalNumbers, totalIn, readNumbers, constantsIn}
 
 -- 01's state, from the numbers and slices that a C function takes
 abbrev pub stateIn : (w n kind : ℕ) (g c r : ℤ) (h b u v : List ℤ) → State
@@ -56,22 +55,31 @@ pub record RunTold (s : State) (inflow : List ℤ) (m : ℕ) (work : List ℤ) (
 
 -- ---- totals
 
--- what is told of a total: it is not among the numbers, which have no sign
-abbrev pub totalNumbers : TotalAnswer → List ℕ
-totalNumbers (T.Total x) = 0 ∷ []
-totalNumbers (T.Refused r) = refusalNumbers r
-
--- what stands from the first place of the lent slice on; a refusal leaves all as it was
-abbrev pub totalIn : TotalAnswer → List ℤ
-totalIn (T.Total x) = x ∷ []
-totalIn (T.Refused r) = []
-
 -- the promise of depth or of energy, of the answer that is told
 pub record TotalTold (promised : TotalAnswer → Type 0) (total total′ : List ℤ) (entry : List ℕ) (r : ℕ) (exit : List ℕ) : Type 0 where
   pub answer : TotalAnswer
   pub promise : promised answer
   pub holds : total′ ≡ sets total 0 (totalIn answer)
   pub told : Told (totalNumbers answer) entry r exit
+
+-- ---- the record
+
+pub record WriteTold (s : State) (t : Timestamp) (d d′ : List ℕ) (entry : List ℕ) (r : ℕ) (exit : List ℕ) : Type 0 where
+  pub answer : WriteAnswer
+  pub promise : WritePromise s t d answer d′
+  pub told : Told (writeNumbers answer) entry r exit
+
+-- G, c and R stand from the first place of a lent slice on; a refusal leaves all as it was
+pub record ReadTold (rec : List ℕ) (h b u v h′ b′ u′ v′ constants constants′ : List ℤ) (entry : List ℕ) (r : ℕ) (exit : List ℕ) : Type 0 where
+  pub answer : ReadAnswer
+  pub promise : ReadPromise rec h b u v answer h′ b′ u′ v′
+  pub holds : constants′ ≡ sets constants 0 (constantsIn answer)
+  pub told : Told (readNumbers answer) entry r exit
+
+pub record CompareTold (first second : List ℕ) (entry : List ℕ) (r : ℕ) (exit : List ℕ) : Type 0 where
+  pub answer : CompareAnswer
+  pub promise : ComparePromise first second answer
+  pub told : Told (compareNumbers answer) entry r exit
 
 -- ---- rnd
 

@@ -2,144 +2,12 @@
 // an answer goes into a lent slice. Any numbers and any lengths may come in.
 ghost use mathlib.Core.Path.{_≡_};
 ghost use mathlib.Core.List.{[]};
-ghost use Prim.Native.Nat.{_<_};
-ghost use lib.ListN.{length, set};
-ghost use lib.Seq.{sets};
-ghost use Rattle.model.specs.Answers.{fieldNumber, refusalNumbers, testNumbers, fillNumbers, stepNumbers, runNumbers};
 ghost use Rattle.model.specs.Promises.{TotalDepthPromise, TotalEnergyPromise};
 ghost use Rattle.model.specs.declared.Beside.the-variants.{Nothing, Vorticity, Inflow, Run};
-ghost use Rattle.basin.specs.Told.{Told, TestTold, VorticityTold, TendenciesTold, StepTold, RunTold, totalNumbers, totalIn, TotalTold, stateIn, roundable, Rounded};
+ghost use Rattle.basin.specs.Told.{TestTold, VorticityTold, TendenciesTold, StepTold, RunTold, TotalTold, WriteTold, ReadTold, CompareTold, stateIn, roundable, Rounded};
 use integers::Range;
 use model::Beside;
-use model::Field;
-use model::FillAnswer;
 use model::Parameters;
-use model::Refusal;
-use model::RunAnswer;
-use model::StepAnswer;
-use model::TestAnswer;
-use model::TotalAnswer;
-
-// ---- numbers into a lent answer
-
-// Stores x in place k, where there is one.
-fn put(answer: &mut [u64], k: usize, x: u64)
-    ensures { λ _. ⌜ now (answer .exit) ≡ set (now (answer .entry)) k x ⌝ }
-{
-    if k < answer.len() {
-        answer[k] = x;
-    }
-}
-
-// Tells its numbers: the first is returned, and all are stored, as far as there is room.
-fn tell(answer: &mut [u64], numbers: &[u64]) -> u64
-    requires { ⌜ 0 < length (now numbers) ⌝ }
-    ensures { λ r. ⌜ Told (now (numbers .entry)) (now (answer .entry)) r (now (answer .exit)) ⌝ }
-{
-    for k in 0..numbers.len() {
-        put(answer, k, numbers[k]);
-    }
-    numbers[0]
-}
-
-fn field_number(field: Field) -> u64
-    ensures { λ r. ⌜ r ≡ fieldNumber field ⌝ }
-{
-    match field {
-        Field::Depth => 0,
-        Field::Bottom => 1,
-        Field::VelocityU => 2,
-        Field::VelocityV => 3,
-        Field::Vorticity => 4,
-        Field::Inflow => 5,
-    }
-}
-
-// 01's number of a refusal, and the values returned with it.
-fn tell_refusal(answer: &mut [u64], refusal: Refusal) -> u64
-    ensures { λ r. ⌜ Told (refusalNumbers refusal) (now (answer .entry)) r (now (answer .exit)) ⌝ }
-{
-    match refusal {
-        Refusal::Grid => tell(answer, &[1]),
-        Refusal::Lengths => tell(answer, &[2]),
-        Refusal::Constants => tell(answer, &[3]),
-        Refusal::Value { field, cell } => tell(answer, &[4, field_number(field), cell as u64]),
-        Refusal::ClosedEdge { field, cell } => tell(answer, &[5, field_number(field), cell as u64]),
-        Refusal::Record { offset } => tell(answer, &[7, offset as u64]),
-        Refusal::Destination => tell(answer, &[8]),
-    }
-}
-
-fn tell_test(answer: &mut [u64], test: TestAnswer) -> u64
-    ensures { λ r. ⌜ Told (testNumbers test) (now (answer .entry)) r (now (answer .exit)) ⌝ }
-{
-    match test {
-        TestAnswer::Passed => tell(answer, &[0]),
-        TestAnswer::Refused(refusal) => tell_refusal(answer, refusal),
-    }
-}
-
-fn tell_fill(answer: &mut [u64], fill: FillAnswer) -> u64
-    ensures { λ r. ⌜ Told (fillNumbers fill) (now (answer .entry)) r (now (answer .exit)) ⌝ }
-{
-    match fill {
-        FillAnswer::Done => tell(answer, &[0]),
-        FillAnswer::Refused(refusal) => tell_refusal(answer, refusal),
-    }
-}
-
-fn tell_step(answer: &mut [u64], step: StepAnswer) -> u64
-    ensures { λ r. ⌜ Told (stepNumbers step) (now (answer .entry)) r (now (answer .exit)) ⌝ }
-{
-    match step {
-        StepAnswer::Done => tell(answer, &[0]),
-        StepAnswer::Refused(refusal) => tell_refusal(answer, refusal),
-        StepAnswer::OutOfBounds { pass, field, cell } => tell(
-            answer,
-            &[6, pass as u64, field_number(field), cell as u64],
-        ),
-    }
-}
-
-fn tell_run(answer: &mut [u64], run: RunAnswer) -> u64
-    ensures { λ r. ⌜ Told (runNumbers run) (now (answer .entry)) r (now (answer .exit)) ⌝ }
-{
-    match run {
-        RunAnswer::Finished { steps } => tell(answer, &[0, steps]),
-        RunAnswer::Refused(refusal) => tell_refusal(answer, refusal),
-        RunAnswer::Stopped {
-            steps,
-            pass,
-            field,
-            cell,
-        } => tell(
-            answer,
-            &[6, pass as u64, field_number(field), cell as u64, steps],
-        ),
-    }
-}
-
-// Stores x in the first place, where there is one.
-fn put_total(total: &mut [i64], x: i64)
-    ensures { λ _. ⌜ now (total .exit) ≡ set (now (total .entry)) 0 x ⌝ }
-{
-    if 0 < total.len() {
-        total[0] = x;
-    }
-}
-
-// A total does not go among the numbers told, which have no sign, but into a slice of its own.
-fn tell_total(total: &mut [i64], answer: &mut [u64], x: TotalAnswer) -> u64
-    ensures { λ r. ⌜ (now (total .exit) ≡ sets (now (total .entry)) 0 (totalIn x)) × Told (totalNumbers x) (now (answer .entry)) r (now (answer .exit)) ⌝ }
-{
-    match x {
-        TotalAnswer::Total(sum) => {
-            put_total(total, sum);
-            tell(answer, &[0])
-        }
-        TotalAnswer::Refused(refusal) => tell_refusal(answer, refusal),
-    }
-}
 
 // ---- the tests by themselves
 
@@ -170,7 +38,7 @@ pub extern "C" fn basin_test_state(
         c,
         r,
     };
-    tell_test(answer, state::test_state(p, h, b, u, v, Beside::Nothing, h))
+    telling::tell_test(answer, state::test_state(p, h, b, u, v, Beside::Nothing, h))
 }
 
 // The same with a potential vorticity: what the tendencies test first.
@@ -199,7 +67,7 @@ pub extern "C" fn basin_test_vorticity(
         c,
         r,
     };
-    tell_test(
+    telling::tell_test(
         answer,
         state::test_state(p, h, b, u, v, Beside::Vorticity, q),
     )
@@ -232,7 +100,7 @@ pub extern "C" fn basin_test_step(
         c,
         r,
     };
-    tell_test(
+    telling::tell_test(
         answer,
         state::test_state(p, h, b, u, v, Beside::Inflow { work }, inflow),
     )
@@ -266,7 +134,7 @@ pub extern "C" fn basin_test_run(
         c,
         r,
     };
-    tell_test(
+    telling::tell_test(
         answer,
         state::test_state(p, h, b, u, v, Beside::Run { steps, work }, inflow),
     )
@@ -301,7 +169,7 @@ pub extern "C" fn basin_potential_vorticity(
         c,
         r,
     };
-    tell_fill(answer, filling::potential_vorticity(p, h, b, u, v, q))
+    telling::tell_fill(answer, filling::potential_vorticity(p, h, b, u, v, q))
 }
 
 #[no_mangle]
@@ -332,7 +200,7 @@ pub extern "C" fn basin_tendencies(
         c,
         r,
     };
-    tell_fill(answer, filling::tendencies(p, h, b, u, v, q, dh, du, dv))
+    telling::tell_fill(answer, filling::tendencies(p, h, b, u, v, q, dh, du, dv))
 }
 
 // ---- step and run
@@ -366,7 +234,7 @@ pub extern "C" fn basin_step(
         c,
         r,
     };
-    tell_step(answer, stepping::step(p, h, b, u, v, inflow, work))
+    telling::tell_step(answer, stepping::step(p, h, b, u, v, inflow, work))
 }
 
 #[no_mangle]
@@ -396,7 +264,7 @@ pub extern "C" fn basin_run(
         c,
         r,
     };
-    tell_run(answer, stepping::run(p, h, b, u, v, inflow, steps, work))
+    telling::tell_run(answer, stepping::run(p, h, b, u, v, inflow, steps, work))
 }
 
 // ---- totals
@@ -429,7 +297,7 @@ pub extern "C" fn basin_total_depth(
         c,
         r,
     };
-    tell_total(total, answer, totals::total_depth(p, h, b, u, v))
+    telling::tell_total(total, answer, totals::total_depth(p, h, b, u, v))
 }
 
 #[no_mangle]
@@ -457,7 +325,65 @@ pub extern "C" fn basin_total_energy(
         c,
         r,
     };
-    tell_total(total, answer, totals::total_energy(p, h, b, u, v))
+    telling::tell_total(total, answer, totals::total_energy(p, h, b, u, v))
+}
+
+// ---- the record
+
+// Each is the proved call, its answer told as above: the writer's with the number of bytes; the reader's with w, n, kind and the
+// timestamp, while G, c and R, which have a sign, go into the first three places of a lent slice, as far as there is room; the
+// comparison's with 0 same, 1 first newer, 2 second newer, 3 clash, or which record is refused. They rule out, for instance: the fields
+// of a record swapped; the records swapped; G told in the place of c.
+
+#[no_mangle]
+pub extern "C" fn basin_write(
+    w: usize,
+    n: usize,
+    kind: u8,
+    g: i64,
+    c: i64,
+    r: i64,
+    h: &[i64],
+    b: &[i64],
+    u: &[i64],
+    v: &[i64],
+    timestamp: u64,
+    record: &mut [u8],
+    answer: &mut [u64],
+) -> u64
+    ensures { λ k. ⌜ WriteTold (stateIn w n kind g c r (now (h .entry)) (now (b .entry)) (now (u .entry)) (now (v .entry))) timestamp (now («record» .entry)) (now («record» .exit)) (now (answer .entry)) k (now (answer .exit)) ⌝ }
+{
+    let p = Parameters {
+        w,
+        n,
+        kind,
+        g,
+        c,
+        r,
+    };
+    telling::tell_write(answer, writing::write(p, h, b, u, v, timestamp, record))
+}
+
+#[no_mangle]
+pub extern "C" fn basin_read(
+    record: &[u8],
+    h: &mut [i64],
+    b: &mut [i64],
+    u: &mut [i64],
+    v: &mut [i64],
+    constants: &mut [i64],
+    answer: &mut [u64],
+) -> u64
+    ensures { λ k. ⌜ ReadTold (now («record» .entry)) (now (h .entry)) (now (b .entry)) (now (u .entry)) (now (v .entry)) (now (h .exit)) (now (b .exit)) (now (u .exit)) (now (v .exit)) (now (constants .entry)) (now (constants .exit)) (now (answer .entry)) k (now (answer .exit)) ⌝ }
+{
+    telling::tell_read(constants, answer, reading::read(record, h, b, u, v))
+}
+
+#[no_mangle]
+pub extern "C" fn basin_compare(first: &[u8], second: &[u8], answer: &mut [u64]) -> u64
+    ensures { λ k. ⌜ CompareTold (now (first .entry)) (now (second .entry)) (now (answer .entry)) k (now (answer .exit)) ⌝ }
+{
+    telling::tell_compare(answer, comparing::compare(first, second))
 }
 
 // ---- rounding

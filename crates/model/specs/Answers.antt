@@ -100,9 +100,12 @@ abbrev pub toldTotal : TotalAnswer → List ℤ
 toldTotal (T.Total x) = pos 0 ∷ x ∷ []
 toldTotal (T.Refused r) = told r
 
+abbrev pub writeNumbers : WriteAnswer → List ℕ
+writeNumbers (W.Written m) = 0 ∷ m ∷ []
+writeNumbers (W.Refused r) = refusalNumbers r
+
 abbrev pub toldWrite : WriteAnswer → List ℤ
-toldWrite (W.Written m) = whole (0 ∷ m ∷ [])
-toldWrite (W.Refused r) = told r
+toldWrite a = whole (writeNumbers a)
 
 -- w, n, kind, G, c, R and the timestamp
 abbrev pub toldRead : ReadAnswer → List ℤ
@@ -110,13 +113,16 @@ toldRead (D.Read p t) = pos 0 ∷ pos (p .w) ∷ pos (p .n) ∷ pos (p .kind) �
 toldRead (D.Refused r) = told r
 
 -- which record is refused stands straight after the number
-abbrev toldOf : ℕ → Refusal → List ℤ
-toldOf k r = whole (number r ∷ k ∷ values r)
+abbrev pub refusalNumbersOf : ℕ → Refusal → List ℕ
+refusalNumbersOf k r = number r ∷ k ∷ values r
+
+abbrev pub compareNumbers : CompareAnswer → List ℕ
+compareNumbers C.Same = 0 ∷ 0 ∷ []
+compareNumbers C.FirstNewer = 0 ∷ 1 ∷ []
+compareNumbers C.SecondNewer = 0 ∷ 2 ∷ []
+compareNumbers C.Conflict = 0 ∷ 3 ∷ []
+compareNumbers (C.FirstRefused r) = refusalNumbersOf 1 r
+compareNumbers (C.SecondRefused r) = refusalNumbersOf 2 r
 
 abbrev pub toldCompare : CompareAnswer → List ℤ
-toldCompare C.Same = whole (0 ∷ 0 ∷ [])
-toldCompare C.FirstNewer = whole (0 ∷ 1 ∷ [])
-toldCompare C.SecondNewer = whole (0 ∷ 2 ∷ [])
-toldCompare C.Conflict = whole (0 ∷ 3 ∷ [])
-toldCompare (C.FirstRefused r) = toldOf 1 r
-toldCompare (C.SecondRefused r) = toldOf 2 r
+toldCompare a = whole (compareNumbers a)

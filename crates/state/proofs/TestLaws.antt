@@ -1,14 +1,14 @@
 -- Laws of tests in order, between the answers of the code and the model's tests. Assumes nothing.
 use mathlib.Core.Path.{_≡_, refl, sym, ap, _∙_}
-use mathlib.Core.Bool.{Bool, true, false, _&&_}
+use mathlib.Core.Bool.{Bool, true, false, not, _&&_}
 use mathlib.Core.List.{List, [], _∷_, _++_}
 use mathlib.Core.Option.{Option, none, some}
 use Prim.Native.Nat.{ℕ, _*_, _≤_, _<_}
 use lib.Dec.{T, eqb}
-use lib.IntN.{ℤ}
-use lib.ListN.{length}
+use lib.IntN.{ℤ, pos}
+use lib.ListN.{length, getD}
 use borrow.Author.Tests.{lt-leb}
-use Rattle.model.specs.Numbers.{all}
+use Rattle.model.specs.Numbers.{within, all}
 use Rattle.model.specs.Grid.{firstFrom}
 use Rattle.model.specs.State.{State, stateOf, cells, boundaryOf, closedWest, closedSouth}
 use Rattle.model.specs.Refusals.{_then_, placed, refusedAt, Taken, depthOf, bottomOf, uOf, vOf, fieldsOf, besideTaken, runShort, workEnough, long, gridKnown, constantsWithin, valueTest, edgeTest, roomTest}
@@ -19,7 +19,7 @@ use Rattle.model.specs.declared.BoundaryByte.{BoundaryByte}
 use Rattle.model.specs.declared.Field.{Field}
 use Rattle.model.specs.declared.Field.the-variants.{VelocityU, VelocityV}
 use Rattle.model.specs.declared.Refusal.{Refusal}
-use Rattle.model.specs.declared.Refusal.the-variants.{Grid, Lengths, Constants, ClosedEdge, Destination}
+use Rattle.model.specs.declared.Refusal.the-variants.{Grid, Lengths, Constants, Value, ClosedEdge, Destination}
 use Rattle.model.specs.declared.Beside.{Beside}
 use Rattle.model.specs.declared.TestAnswer.{TestAnswer}
 use Rattle.model.specs.declared.TestAnswer.the-variants.{Passed, Refused}
@@ -28,8 +28,10 @@ use Rattle.theorems.specs.Limits.{room-iff}
 use Rattle.theorems.specs.Tested.{in-order, placed-then, value-append}
 use Rattle.state.specs.declared.Found.the-variants.{At, Nowhere}
 use Rattle.state.specs.declared.Fault.{Fault}
-use Rattle.state.specs.declared.Fault.the-variants.{West, South}
-use Rattle.state.specs.Faults.{foundBy, foundIn, cellTest, badIn, refusalBy}
+use Rattle.state.specs.declared.Fault.the-variants.{Outside, West, South}
+use Rattle.integers.specs.declared.Range.{Range}
+use Rattle.integers.specs.Ranges.{between}
+use Rattle.state.specs.Faults.{limitsOf, foundBy, foundIn, cellTest, badIn, refusalBy}
 
 -- ---- truth
 
@@ -82,13 +84,27 @@ placed-none r f none e = refl
 placed-none r f (some x) e = differ (cc e)
 
 module _ (w n : ℕ) (f : List ℤ) (field : Field) (t : Fault) where
-  pub cell-found : (k : ℕ) → foundBy (firstFrom (badIn t w f) (w * n) 0) ≡ At k → cellTest w n f field t ≡ some (refusalBy t field k)
+  cell-found : (k : ℕ) → foundBy (firstFrom (badIn t w f) (w * n) 0) ≡ At k → cellTest w n f field t ≡ some (refusalBy t field k)
   unfolding cellTest
   cell-found k e = placed-some (refusalBy t) field (firstFrom (badIn t w f) (w * n) 0) k e
 
-  pub cell-clean : foundBy (firstFrom (badIn t w f) (w * n) 0) ≡ Nowhere → cellTest w n f field t ≡ none
+  cell-clean : foundBy (firstFrom (badIn t w f) (w * n) 0) ≡ Nowhere → cellTest w n f field t ≡ none
   unfolding cellTest
   cell-clean e = placed-none (refusalBy t) field (firstFrom (badIn t w f) (w * n) 0) e
+
+  -- the same after an answer that found nothing
+  pub then-found : {a : TestAnswer} {r : Refusal} {k : ℕ} → a ≡ Passed → foundBy (firstFrom (badIn t w f) (w * n) 0) ≡ At k → r ≡ refusalBy t field k
+      → Refused r ≡ testAnswer (foundIn a then cellTest w n f field t)
+  then-found {k = k} p e q = ap Refused q ∙ sym (ap testAnswer (cell-found k e)) ∙ passed-then (cellTest w n f field t) p
+
+  pub then-clean : {a : TestAnswer} → a ≡ Passed → foundBy (firstFrom (badIn t w f) (w * n) 0) ≡ Nowhere → Passed ≡ testAnswer (foundIn a then cellTest w n f field t)
+  then-clean p e = sym (ap testAnswer (cell-clean e)) ∙ passed-then (cellTest w n f field t) p
+
+-- a range that stands for a field's limits makes test 4 of the field
+pub outside-is : (w n : ℕ) (f : List ℤ) (field : Field) (l : Range) → between l ≡ limitsOf field
+    → cellTest w n f field (Outside l) ≡ valueTest (record { field = field; count = w * n; limits = limitsOf field; numbers = f } ∷ [])
+unfolding cellTest valueTest
+outside-is w n f field l e = ap (λ l. refusedAt Value (placed field (firstFrom (λ k. not (within l (getD f k (pos 0)))) (w * n) 0) none)) e
 
 -- the values of further fields
 pub values-after : {a r : TestAnswer} (l m : List Taken) → a ≡ testAnswer (valueTest l) → r ≡ testAnswer (foundIn a then valueTest m) → r ≡ testAnswer (valueTest (l ++ m))

@@ -1,8 +1,9 @@
 -- The test of a cell, and the tests of a field's cells in order.
-use mathlib.Core.Bool.{Bool, not, _&&_}
+use mathlib.Core.Path.{_≡_}
+use mathlib.Core.Bool.{Bool, false, not, _&&_}
 use mathlib.Core.List.{List}
 use mathlib.Core.Option.{Option, none, some}
-use Prim.Native.Nat.{ℕ, _*_, _/_, _%_}
+use Prim.Native.Nat.{ℕ, _*_, _/_, _%_, _≤_, _<_}
 use lib.IntN.{ℤ, pos}
 use lib.ListN.{getD}
 use Rattle.model.specs.Numbers.{Limits, within, eqℤ, depthLimits, bottomLimits, velocityLimits, vorticityLimits, inflowLimits}
@@ -41,6 +42,15 @@ badAt (South e) x i j = wallSouth e j && not (eqℤ x (pos 0))
 -- the same of the cell with index k of a field f of w columns
 abbrev pub badIn : Fault → ℕ → List ℤ → ℕ → Bool
 badIn t w f k = badAt t (getD f k (pos 0)) (k % w) (k / w)
+
+-- no cell past the first r columns, or past the first r rows, is bad
+pub record ColumnsOf (t : Fault) (w r : ℕ) : Type 0 where
+  pub most : r ≤ w
+  pub rest : (x : ℤ) (i j : ℕ) → r ≤ i → i < w → badAt t x i j ≡ false
+
+pub record RowsOf (t : Fault) (n r : ℕ) : Type 0 where
+  pub most : r ≤ n
+  pub rest : (x : ℤ) (i j : ℕ) → r ≤ j → j < n → badAt t x i j ≡ false
 
 abbrev pub foundBy : Option ℕ → Found
 foundBy none = Nowhere

@@ -13,7 +13,7 @@ ghost use Rattle.model.specs.State.{stateOf};
 ghost use Rattle.model.specs.Refusals.{_then_, fieldsOf, besideTaken, runShort, workEnough, long, gridKnown, constantsWithin, valueTest, edgeTest, roomTest};
 ghost use Rattle.model.specs.Promises.{testAnswer, TestPromise};
 ghost use Rattle.integers.specs.Ranges.{between};
-ghost use Rattle.state.specs.Faults.{limitsOf, badAt, badIn, foundBy, refusalBy, cellTest, foundIn};
+ghost use Rattle.state.specs.Faults.{limitsOf, badAt, badIn, foundBy, refusalBy, cellTest, foundIn, ColumnsOf, RowsOf};
 use integers::Range;
 use model::Beside;
 use model::BoundaryByte;
@@ -76,6 +76,38 @@ pub fn is_bad(t: Fault, x: i64, i: usize, j: usize) -> bool
     }
 }
 
+// How many columns, from the first on, can have the fault, and how many rows: a wall stands along the first ones alone. They rule out,
+// for instance: the last column left out of a scan for values.
+pub fn columns_of(t: Fault, w: usize) -> usize
+    ensures { λ r. ⌜ ColumnsOf t w r ⌝ }
+{
+    match t {
+        Fault::Outside(_) => w,
+        Fault::West(_) => {
+            if 1 < w {
+                return 1;
+            }
+            w
+        }
+        Fault::South(_) => w,
+    }
+}
+
+pub fn rows_of(t: Fault, n: usize) -> usize
+    ensures { λ r. ⌜ RowsOf t n r ⌝ }
+{
+    match t {
+        Fault::Outside(_) => n,
+        Fault::West(_) => n,
+        Fault::South(_) => {
+            if 1 < n {
+                return 1;
+            }
+            n
+        }
+    }
+}
+
 // What a scan finds.
 pub enum Found {
     At(usize),
@@ -88,9 +120,11 @@ pub fn first_bad(w: usize, n: usize, f: &[i64], t: Fault) -> Found
     requires { ⌜ length (now f) ≡ w * n ⌝ }
     ensures { λ r. ⌜ r ≡ foundBy (firstFrom (badIn t w (now (f .entry))) (w * n) 0) ⌝ }
 {
+    let columns = columns_of(t, w);
+    let rows = rows_of(t, n);
     let mut found = Found::Nowhere;
-    'scan: for j in 0..n {
-        for i in 0..w {
+    'scan: for j in 0..rows {
+        for i in 0..columns {
             let k = j * w + i;
             if is_bad(t, f[k], i, j) {
                 found = Found::At(k);
@@ -103,8 +137,8 @@ pub fn first_bad(w: usize, n: usize, f: &[i64], t: Fault) -> Found
 
 // ---- tests in order
 
-// The refusal that a cell with the fault makes.
-fn refusal_of(t: Fault, field: Field, cell: usize) -> Refusal
+// The refusal that a cell with the fault makes. It rules out, for instance: a closed edge told as a value outside.
+pub fn refusal_of(t: Fault, field: Field, cell: usize) -> Refusal
     ensures { λ r. ⌜ r ≡ refusalBy t field cell ⌝ }
 {
     match t {

@@ -30,7 +30,7 @@ refl-ℤ : (a : ℤ) → T (eqℤ a a)
 refl-ℤ (pos a) = eqb-refl a
 refl-ℤ (negsuc a) = eqb-refl a
 
-same-self : (s : State) → T (sameState s s)
+pub same-self : (s : State) → T (sameState s s)
 unfolding sameState
 same-self s =
     rw (
@@ -46,7 +46,7 @@ same-self s =
       T-true (sameBy eqℤ (s .v) (s .v)) (by-same eqℤ refl-ℤ (s .v)),
     ) tt
 
-same-state : (s t : State) → T (sameState s t) → s ≡ t
+pub same-state : (s t : State) → T (sameState s t) → s ≡ t
 unfolding sameState
 same-state s t h =
     let b0 = eqb (s .w) (t .w) in

@@ -35,7 +35,7 @@ seven a b c d e f g =
     record { tag = 1; value = a } ∷ record { tag = 2; value = b } ∷ record { tag = 3; value = c } ∷ record { tag = 4; value = d }
     ∷ record { tag = 5; value = e } ∷ record { tag = 6; value = f } ∷ record { tag = 7; value = g } ∷ []
 
-three : (l : List ℕ) → length l ≡ 3 → getD l 0 0 ∷ getD l 1 0 ∷ getD l 2 0 ∷ [] ≡ l
+pub three : (l : List ℕ) → length l ≡ 3 → getD l 0 0 ∷ getD l 1 0 ∷ getD l 2 0 ∷ [] ≡ l
 three [] h = absurd (let z : 0 ≡ 3 = h in omega arith)
 three (a ∷ []) h = absurd (let z : 1 ≡ 3 = h in omega arith)
 three (a ∷ b ∷ []) h = absurd (let z : 2 ≡ 3 = h in omega arith)
@@ -128,10 +128,10 @@ fields-back ps t r b =
 
 -- ---- what an accepted read says of the fields found
 
-record Accepted (parts : List Part) (rooms : List ℕ) : Type 0 where
-  lengths : T (bytesRight (stateIn parts) parts)
-  room : EachRoom (cells (stateIn parts)) rooms
-  inside : WithinLimits (stateIn parts)
+pub record Accepted (parts : List Part) (rooms : List ℕ) : Type 0 where
+  pub lengths : T (bytesRight (stateIn parts) parts)
+  pub room : EachRoom (cells (stateIn parts)) rooms
+  pub inside : WithinLimits (stateIn parts)
 
 right : (f : List ℕ → ℤ) (z m : ℕ) (v : List ℕ) (l : Bool) → T l → T (eqb (length (numbers f z m v)) m && l)
 right f z m v l t = and-iff (eqb (length (numbers f z m v)) m) l .1 (eq-iff (length (numbers f z m v)) m .1 (length-tabulate m (λ k. f (take z (drop (k * z) v)))), t)
@@ -142,7 +142,7 @@ lengths-in parts =
     let m = getD (valueOf 1 parts) 0 0 * getD (valueOf 1 parts) 1 0 in
     right signed4 4 m (valueOf 4 parts) _ (right signed4 4 m (valueOf 5 parts) _ (right signed2 2 m (valueOf 6 parts) _ (right signed2 2 m (valueOf 7 parts) true tt)))
 
-tests : (parts : List Part) (rooms : List ℕ) → recordTest (stateIn parts) parts rooms ≡ none → Accepted parts rooms
+pub tests : (parts : List Part) (rooms : List ℕ) → recordTest (stateIn parts) parts rooms ≡ none → Accepted parts rooms
 unfolding recordTest bytesTest
 tests parts rooms h =
     let s = stateIn parts in
@@ -238,7 +238,7 @@ read-within rec h b u v h′ b′ u′ v′ p t rp =
 
 -- ---- a record whose tags rise
 
-all-bytes : (l : List ℕ) → ((k : ℕ) → getD l k 0 < 256) → AllBytes l
+pub all-bytes : (l : List ℕ) → ((k : ℕ) → getD l k 0 < 256) → AllBytes l
 all-bytes [] h = tt
 all-bytes (x ∷ l) h = (h 0, all-bytes l (λ k. h (suc k)))
 

@@ -42,30 +42,30 @@ upward : (w : Width) (a k : ℕ) (x : ℤ) → k < 2 ^ hbits w → pos a ≤ℤ 
 upward w a k (pos n) h p q = record { sfits = lt-of-le-of-lt (leb→le n k (q .le)) h }
 upward w a k (negsuc n) h p q = absurd (p .le)
 
-each-fits : {lim : Limits} {m : ℕ} {f : List ℤ} (w : Width) → ((x : ℤ) → Within lim x → SFits w x) → FieldWithin lim m f → EachFits w f
+pub each-fits : {lim : Limits} {m : ℕ} {f : List ℤ} (w : Width) → ((x : ℤ) → Within lim x → SFits w x) → FieldWithin lim m f → EachFits w f
 each-fits {f = f} w h p = record { each = λ k l. h (getD f k (pos 0)) (p .each k (subst (λ m. k < m) (p .long) l)) }
 
-depth-fits : (x : ℤ) → Within depthLimits x → SFits w32 x
+pub depth-fits : (x : ℤ) → Within depthLimits x → SFits w32 x
 unfolding depthLimits
 depth-fits x h = upward w32 1000 100000 x (lit< tt) (h .low) (h .high)
 
-bottom-fits : (x : ℤ) → Within bottomLimits x → SFits w32 x
+pub bottom-fits : (x : ℤ) → Within bottomLimits x → SFits w32 x
 unfolding bottomLimits
 bottom-fits x h = upward w32 0 100000 x (lit< tt) (h .low) (h .high)
 
-velocity-fits : (x : ℤ) → Within velocityLimits x → SFits w16 x
+pub velocity-fits : (x : ℤ) → Within velocityLimits x → SFits w16 x
 unfolding velocityLimits
 velocity-fits x h = around w16 4999 x (lit< tt) (h .low) (h .high)
 
-gravity-fits : (x : ℤ) → Within gravityLimits x → SFits w32 x
+pub gravity-fits : (x : ℤ) → Within gravityLimits x → SFits w32 x
 unfolding gravityLimits
 gravity-fits x h = upward w32 1 10000 x (lit< tt) (h .low) (h .high)
 
-coriolis-fits : (x : ℤ) → Within coriolisLimits x → SFits w32 x
+pub coriolis-fits : (x : ℤ) → Within coriolisLimits x → SFits w32 x
 unfolding coriolisLimits
 coriolis-fits x h = around w32 9999 x (lit< tt) (h .low) (h .high)
 
-ratio-fits : (x : ℤ) → Within ratioLimits x → SFits w32 x
+pub ratio-fits : (x : ℤ) → Within ratioLimits x → SFits w32 x
 unfolding ratioLimits
 ratio-fits x h = upward w32 1000 1000000 x (lit< tt) (h .low) (h .high)
 

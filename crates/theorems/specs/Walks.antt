@@ -21,14 +21,14 @@ use Rattle.theorems.specs.Bytes.{AllBytes, bytes-drop, bytes-take, there
 -- ---- the tests at a tag
 
 -- what they ask, in their order
-record Sound (rec : List ℕ) (k : ℕ) (seen : List Part) : Type 0 where
-  head : k + 3 ≤ length rec
-  tag : T (knownTag (tagAt rec k))
-  new : T (not (has (tagAt rec k) seen))
-  room : k + 3 + sizeAt rec k ≤ length rec
-  right : T (rightSize (tagAt rec k) (sizeAt rec k))
+pub record Sound (rec : List ℕ) (k : ℕ) (seen : List Part) : Type 0 where
+  pub head : k + 3 ≤ length rec
+  pub tag : T (knownTag (tagAt rec k))
+  pub new : T (not (has (tagAt rec k) seen))
+  pub room : k + 3 + sizeAt rec k ≤ length rec
+  pub right : T (rightSize (tagAt rec k) (sizeAt rec k))
 
-sound-of : (rec : List ℕ) (k : ℕ) (seen : List Part) → tagTest rec k seen ≡ none → Sound rec k seen
+pub sound-of : (rec : List ℕ) (k : ℕ) (seen : List Part) → tagTest rec k seen ≡ none → Sound rec k seen
 unfolding tagTest
 sound-of rec k seen h =
     let t = tagAt rec k in
@@ -98,12 +98,12 @@ module _ (rec pre : List ℕ) (p : Part) (rest : List ℕ) (k : ℕ) (e : rec �
 abbrev pub atEnd : List ℕ → List Part → Walked
 atEnd rec seen = unless (missingTest rec seen) (whole seen)
 
-walk-step : (rec : List ℕ) (m k : ℕ) (seen : List Part) → leb (length rec) k ≡ false → tagTest rec k seen ≡ none
+pub walk-step : (rec : List ℕ) (m k : ℕ) (seen : List Part) → leb (length rec) k ≡ false → tagTest rec k seen ≡ none
     → walk rec (suc m) k seen ≡ walk rec m (k + 3 + sizeAt rec k) (seen ++ (partAt rec k ∷ []))
 unfolding walk
 walk-step rec m k seen a b = rw (a, b)
 
-walk-end : (rec : List ℕ) (m k : ℕ) (seen : List Part) → length rec ≤ k → walk rec m k seen ≡ atEnd rec seen
+pub walk-end : (rec : List ℕ) (m k : ℕ) (seen : List Part) → length rec ≤ k → walk rec m k seen ≡ atEnd rec seen
 unfolding walk
 walk-end rec zero k seen h = refl
 walk-end rec (suc m) k seen h = rw (le-leb (length rec) k h)

@@ -6,19 +6,20 @@
 //! any numbers and any lengths: what 01 turns back is returned as a
 //! [`Refusal`].
 //!
-//! So far the core has the step of a state and runs of it ([`step`], [`run`]),
-//! the totals ([`total_depth`], [`total_energy`]), the potential vorticity and
-//! the tendencies ([`potential_vorticity`], [`tendencies`]), the tests that
-//! every call on a state begins with ([`test_state`]) and the rounding of the
-//! scheme ([`rnd`]).
+//! The core has the step of a state and runs of it ([`step`], [`run`]), the
+//! totals ([`total_depth`], [`total_energy`]), the potential vorticity and the
+//! tendencies ([`potential_vorticity`], [`tendencies`]), the record of a state
+//! ([`write`], [`read`], [`compare`]), the tests that every call on a state
+//! begins with ([`test_state`]) and the rounding of the scheme ([`rnd`]).
 //!
 //! The archive is looked for in the repository's `target/staticlib`, or in
 //! the folder that the environment variable `BASIN_LIB_DIR` names when this
 //! package is built.
 //!
 //! ```
-//! use basin::{potential_vorticity, rnd, run, step, tendencies, test_state};
-//! use basin::{total_depth, total_energy, Beside, Field, Parameters, Ran, Refusal};
+//! use basin::{compare, potential_vorticity, read, rnd, run, step, tendencies, test_state};
+//! use basin::{total_depth, total_energy, write, Beside, Comparison, Field, Parameters};
+//! use basin::{Ran, Read, Refusal, Refused};
 //!
 //! // One cell, 2,000 mm deep, that wraps both ways.
 //! let p = Parameters { w: 1, n: 1, kind: 0, g: 9810, c: 10, r: 1000 };
@@ -41,6 +42,27 @@
 //! assert_eq!(refusal, Refusal::Value { field: Field::Depth, cell: 0 });
 //! assert_eq!(refusal.number(), 4);
 //! assert_eq!(refusal.to_string(), "refusal 4: depth h outside its bounds, cell 0");
+//!
+//! // The record of this state, as of 2000-01-01 00:00, and one a minute later.
+//! let mut record = vec![0; p.record_len()];
+//! assert_eq!(write(&p, &h, &b, &u, &v, 0, &mut record), Ok(56));
+//! let mut later = record.clone();
+//! assert_eq!(write(&p, &h, &b, &u, &v, 60, &mut later), Ok(56));
+//! assert_eq!(compare(&record, &record), Ok(Comparison::Same));
+//! assert_eq!(compare(&record, &later), Ok(Comparison::SecondNewer));
+//!
+//! // Read into fields with room for two cells, of which the first is filled.
+//! let [mut h2, mut b2, mut u2, mut v2] = [[7; 2]; 4];
+//! let done = read(&later, &mut h2, &mut b2, &mut u2, &mut v2);
+//! assert_eq!(done, Ok(Read { parameters: p, timestamp: 60 }));
+//! assert_eq!((h2, b2, u2, v2), ([2000, 7], [0, 7], [100, 7], [-50, 7]));
+//!
+//! // The last field begins at byte 51. Its value is cut off.
+//! let damaged = Refusal::Record { offset: 51 };
+//! assert_eq!(read(&later[..55], &mut h2, &mut b2, &mut u2, &mut v2), Err(damaged));
+//! let refused = compare(&record, &later[..55]).unwrap_err();
+//! assert_eq!(refused, Refused { record: 2, refusal: damaged });
+//! assert_eq!(refused.to_string(), "record 2: refusal 7: a damaged record, at byte 51");
 //!
 //! // A step needs 8 numbers of work space per cell, which it leaves 0.
 //! let mut work = vec![7; p.work_len()];
@@ -80,7 +102,7 @@
 pub mod raw;
 mod refusal;
 
-pub use refusal::{Field, Refusal};
+pub use refusal::{Field, Refusal, Refused};
 
 /// The scalars of a state. Any numbers may stand here; the calls test them.
 #[derive(Clone, Copy, Debug, PartialEq, Eq, Hash)]
@@ -105,6 +127,13 @@ impl Parameters {
     /// more than a `usize` holds, the grid is one that every call refuses.
     pub fn work_len(&self) -> usize {
         self.w.saturating_mul(self.n).saturating_mul(8)
+    }
+
+    /// How many bytes a record of such a state has: 44 + 12·w·n. Where that is
+    /// more than a `usize` holds, the grid is one that every call refuses.
+    pub fn record_len(&self) -> usize {
+        let fields = self.w.saturating_mul(self.n).saturating_mul(12);
+        fields.saturating_add(44)
     }
 }
 
@@ -134,6 +163,42 @@ pub struct Ran {
     /// What stopped the run before all its steps were done: the refusal of the
     /// next one, always a 6.
     pub stopped: Option<Refusal>,
+}
+
+/// What a record holds beside the four fields.
+#[derive(Clone, Copy, Debug, PartialEq, Eq, Hash)]
+pub struct Read {
+    /// The scalars of the state.
+    pub parameters: Parameters,
+    /// Whole seconds since 2000-01-01 00:00 (01: the stamp).
+    pub timestamp: u64,
+}
+
+/// What two records are to each other. Two states are the same where their
+/// parameters and fields are.
+#[derive(Clone, Copy, Debug, PartialEq, Eq, Hash)]
+pub enum Comparison {
+    /// The same state under the same timestamp.
+    Same,
+    /// The first has the later timestamp, whatever the states.
+    FirstNewer,
+    /// The second has the later timestamp, whatever the states.
+    SecondNewer,
+    /// Different states under one timestamp (01: clash).
+    Conflict,
+}
+
+impl Comparison {
+    /// Panics at a number that is none: see [`Refusal::from_told`].
+    fn from_told(number: u64) -> Self {
+        match number {
+            0 => Comparison::Same,
+            1 => Comparison::FirstNewer,
+            2 => Comparison::SecondNewer,
+            3 => Comparison::Conflict,
+            _ => panic!("libbasin.a told comparison {number}, which is none"),
+        }
+    }
 }
 
 /// Takes one step with the given inflow, in mm: `h`, `u` and `v` are stepped in
@@ -252,6 +317,71 @@ pub fn tendencies(
     answered(|answer| raw::tendencies(p, h, b, u, v, q, dh, du, dv, answer))
 }
 
+/// Writes the record of a state into the first [`Parameters::record_len`] bytes
+/// of `record`, by rising tag, and gives their number. `timestamp` is in whole
+/// seconds since 2000-01-01 00:00. The bytes past them are left as they were,
+/// and after a refusal all bytes are.
+///
+/// The tests go by number: 1 to 5 of the state, then 8, `record` too short.
+pub fn write(
+    p: &Parameters,
+    h: &[i64],
+    b: &[i64],
+    u: &[i64],
+    v: &[i64],
+    timestamp: u64,
+    record: &mut [u8],
+) -> Result<usize, Refusal> {
+    let (number, values) = told(|answer| raw::write(p, h, b, u, v, timestamp, record, answer));
+    Refusal::from_told(number, values)?;
+    Ok(values[0] as usize)
+}
+
+/// Reads a record, its tags in any order, into the first w·n places of `h`,
+/// `b`, `u` and `v`. The places past them are left as they were, and after a
+/// refusal all places are.
+///
+/// The tests go in the order 7, a damaged record; 1; 2; 8, one of the four
+/// shorter than w·n; 3, 4, 5. So what is read passes the tests of the state in
+/// every call.
+pub fn read(
+    record: &[u8],
+    h: &mut [i64],
+    b: &mut [i64],
+    u: &mut [i64],
+    v: &mut [i64],
+) -> Result<Read, Refusal> {
+    let mut constants = [0; 3];
+    let (number, values) = told(|answer| raw::read(record, h, b, u, v, &mut constants, answer));
+    Refusal::from_told(number, values)?;
+    let [w, n, kind, timestamp] = values;
+    let [g, c, r] = constants;
+    let parameters = Parameters {
+        w: w as usize,
+        n: n as usize,
+        kind: u8::try_from(kind)
+            .unwrap_or_else(|_| panic!("libbasin.a told kind {kind}, which is none")),
+        g,
+        c,
+        r,
+    };
+    Ok(Read {
+        parameters,
+        timestamp,
+    })
+}
+
+/// Compares two records by timestamp, and where that is the same by state. The
+/// order of their tags does not count.
+///
+/// The first is tested wholly before the second, each in the order 7, 1, 2, 3,
+/// 4, 5.
+pub fn compare(first: &[u8], second: &[u8]) -> Result<Comparison, Refused> {
+    let (number, values) = told(|answer| raw::compare(first, second, answer));
+    Refused::from_told(number, values)?;
+    Ok(Comparison::from_told(values[0]))
+}
+
 /// Tests 1 to 5 of a call that takes this state and `beside` it. The first
 /// cause, by number, then field, then cell, is the refusal; after `Ok` the
 /// call is not refused with any of 1 to 5.
@@ -277,7 +407,7 @@ pub fn test_state(
 
 /// The number that a call told, and room for the values that come with it.
 fn told(call: impl FnOnce(&mut [u64]) -> u64) -> (u64, [u64; 4]) {
-    // The most is told by a run that is stopped.
+    // The most is told by a run that is stopped, and by a record that is read.
     let mut answer = [0; 5];
     let number = call(&mut answer);
     let [_, values @ ..] = answer;

@@ -146,6 +146,54 @@ extern "C" {
         answer_len: usize,
     ) -> u64;
 
+    fn basin_write(
+        w: usize,
+        n: usize,
+        kind: u8,
+        g: i64,
+        c: i64,
+        r: i64,
+        h: *const i64,
+        h_len: usize,
+        b: *const i64,
+        b_len: usize,
+        u: *const i64,
+        u_len: usize,
+        v: *const i64,
+        v_len: usize,
+        timestamp: u64,
+        record: *mut u8,
+        record_len: usize,
+        answer: *mut u64,
+        answer_len: usize,
+    ) -> u64;
+
+    fn basin_read(
+        record: *const u8,
+        record_len: usize,
+        h: *mut i64,
+        h_len: usize,
+        b: *mut i64,
+        b_len: usize,
+        u: *mut i64,
+        u_len: usize,
+        v: *mut i64,
+        v_len: usize,
+        constants: *mut i64,
+        constants_len: usize,
+        answer: *mut u64,
+        answer_len: usize,
+    ) -> u64;
+
+    fn basin_compare(
+        first: *const u8,
+        first_len: usize,
+        second: *const u8,
+        second_len: usize,
+        answer: *mut u64,
+        answer_len: usize,
+    ) -> u64;
+
     fn basin_test_state(
         w: usize,
         n: usize,
@@ -450,6 +498,89 @@ pub fn total_energy(
             answer.as_mut_ptr(),
             answer.len()
         ))
+    }
+}
+
+/// The number of the refusal, 0 where the first places of `record` have the
+/// record; `answer` as above, with the number of its bytes after a 0.
+pub fn write(
+    p: &Parameters,
+    h: &[i64],
+    b: &[i64],
+    u: &[i64],
+    v: &[i64],
+    timestamp: u64,
+    record: &mut [u8],
+    answer: &mut [u64],
+) -> u64 {
+    // SAFETY: each pointer and the length after it are those of one slice.
+    // `record` and `answer`, which are written, are borrowed apart from each
+    // other and from the others.
+    unsafe {
+        on_state!(basin_write(
+            p,
+            h,
+            b,
+            u,
+            v,
+            timestamp,
+            record.as_mut_ptr(),
+            record.len(),
+            answer.as_mut_ptr(),
+            answer.len()
+        ))
+    }
+}
+
+/// The number of the refusal, 0 where `h`, `b`, `u` and `v` are filled, and
+/// `constants` with G, c and R, as far as there is room; `answer` as above,
+/// with w, n, kind and timestamp after a 0.
+pub fn read(
+    record: &[u8],
+    h: &mut [i64],
+    b: &mut [i64],
+    u: &mut [i64],
+    v: &mut [i64],
+    constants: &mut [i64],
+    answer: &mut [u64],
+) -> u64 {
+    // SAFETY: each pointer and the length after it are those of one slice.
+    // All but `record`, which is only read, are borrowed apart from each other
+    // and from it.
+    unsafe {
+        basin_read(
+            record.as_ptr(),
+            record.len(),
+            h.as_mut_ptr(),
+            h.len(),
+            b.as_mut_ptr(),
+            b.len(),
+            u.as_mut_ptr(),
+            u.len(),
+            v.as_mut_ptr(),
+            v.len(),
+            constants.as_mut_ptr(),
+            constants.len(),
+            answer.as_mut_ptr(),
+            answer.len(),
+        )
+    }
+}
+
+/// The number of the refusal; `answer` as above, with the record, 1 or 2,
+/// straight after it, or with what the comparison comes to after a 0.
+pub fn compare(first: &[u8], second: &[u8], answer: &mut [u64]) -> u64 {
+    // SAFETY: each pointer and the length after it are those of one slice.
+    // `answer`, the only one written, is borrowed apart from the others.
+    unsafe {
+        basin_compare(
+            first.as_ptr(),
+            first.len(),
+            second.as_ptr(),
+            second.len(),
+            answer.as_mut_ptr(),
+            answer.len(),
+        )
     }
 }
 

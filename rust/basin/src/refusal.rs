@@ -67,8 +67,8 @@ impl fmt::Display for Field {
 pub enum Refusal {
     /// 1: w, n or kind unknown, or a run too long.
     Grid,
-    /// 2: a field to be read or stepped does not have w·n numbers, or the work
-    /// space is short.
+    /// 2: a field to be read or stepped does not have w·n numbers (in a record,
+    /// the bytes of w·n numbers), or the work space is short.
     Lengths,
     /// 3: G, c or R outside its bounds.
     Constants,
@@ -78,7 +78,11 @@ pub enum Refusal {
     ClosedEdge { field: Field, cell: usize },
     /// 6: a pass of the step, 1 or 2, leaves the bounds of h, u or v.
     OutOfBounds { pass: u8, field: Field, cell: usize },
-    /// 8: a field to be filled has fewer than w·n places.
+    /// 7: a damaged record; `offset` is that of the first bad tag, or the
+    /// record's length where a tag is missing.
+    Record { offset: usize },
+    /// 8: a field to be filled has fewer than w·n places, or a record to be
+    /// written fewer than [`Parameters::record_len`](crate::Parameters::record_len).
     Destination,
 }
 
@@ -92,6 +96,7 @@ impl Refusal {
             Refusal::Value { .. } => 4,
             Refusal::ClosedEdge { .. } => 5,
             Refusal::OutOfBounds { .. } => 6,
+            Refusal::Record { .. } => 7,
             Refusal::Destination => 8,
         }
     }
@@ -126,6 +131,9 @@ impl Refusal {
                 let (field, cell) = place(values[1], values[2]);
                 Refusal::OutOfBounds { pass, field, cell }
             }
+            7 => Refusal::Record {
+                offset: values[0] as usize,
+            },
             8 => Refusal::Destination,
             _ => panic!("libbasin.a told refusal {number}, which is none"),
         })
@@ -146,9 +154,44 @@ impl fmt::Display for Refusal {
             Refusal::OutOfBounds { pass, field, cell } => {
                 write!(to, "pass {pass} leaves the bounds of {field}, cell {cell}")
             }
-            Refusal::Destination => to.write_str("a field to be filled is too short"),
+            Refusal::Record { offset } => write!(to, "a damaged record, at byte {offset}"),
+            Refusal::Destination => to.write_str("a field or record to be filled is too short"),
         }
     }
 }
 
 impl Error for Refusal {}
+
+/// Why two records could not be compared: one of them is refused.
+#[derive(Clone, Copy, Debug, PartialEq, Eq, Hash)]
+pub struct Refused {
+    /// Which record, 1 or 2. A 2 says that the first one is good.
+    pub record: u8,
+    /// What reading it would be refused with, were there room for it.
+    pub refusal: Refusal,
+}
+
+impl Refused {
+    /// What the library told, as with [`Refusal::from_told`]: the record comes
+    /// straight after the number.
+    pub(crate) fn from_told(number: u64, values: [u64; 4]) -> Result<(), Self> {
+        let [which, a, b, c] = values;
+        Refusal::from_told(number, [a, b, c, 0]).map_err(|refusal| Refused {
+            record: match which {
+                1 => 1,
+                2 => 2,
+                _ => panic!("libbasin.a told record {which}, which is none"),
+            },
+            refusal,
+        })
+    }
+}
+
+impl fmt::Display for Refused {
+    fn fmt(&self, to: &mut fmt::Formatter) -> fmt::Result {
+        write!(to, "record {}: {}", self.record, self.refusal)
+    }
+}
+
+/// The refusal is in the text already.
+impl Error for Refused {}

@@ -1,7 +1,8 @@
 //! The proved library against the independent version, call by call: random
 //! calls with every kind of fault, every bound from both sides, every size of
 //! grid in every kind, every pair of causes, and every size of answer slice.
-//! (Where the tests pass a step, it may still leave a bound: stepping.rs.)
+//! (Where the tests pass a step, it may still leave a bound: stepping.rs. What
+//! the writer writes is read back in record.rs.)
 //!
 //! Each comparison is of all that is told and of all that is lent
 //! ([`cases::calls`]). One that fails prints all that went into the call, and
@@ -11,7 +12,7 @@ mod cases;
 
 use cases::calls::{call_raw, compare, expect, independent, Written, UNTOUCHED};
 use cases::common::Random;
-use cases::{add, random_case, Call, Case};
+use cases::{add, random_case, record_size, Call, Case};
 use cases::{BOUNDS, CALLS, FAULTS, FILLING, H, TOTALS, U, V};
 
 // ---- random calls
@@ -41,6 +42,8 @@ struct Coverage {
     /// By call and destination: accepted with it just long enough, and longer;
     /// refusal 8 where it alone is short, by one place, and empty.
     destination: [[[usize; 4]; 3]; CALLS.len()],
+    /// The same of the record.
+    record: [usize; 4],
     /// By a refusal's number, then that of the next cause, 0 for none.
     next: [[usize; 9]; 9],
     /// Of two numbers outside: in one field, in two fields.
@@ -87,6 +90,16 @@ impl Coverage {
 
     fn count_destinations(&mut self, case: &Case, call: Call, accepted: bool) {
         let cells = case.p.w * case.p.n;
+        if call == Call::Write {
+            let (length, needed) = (case.record, record_size(cells));
+            let lengths = [
+                accepted && length == needed,
+                accepted && length > needed,
+                length + 1 == needed,
+                length == 0,
+            ];
+            add(&mut self.record, lengths);
+        }
         let lengths = &case.destinations[..call.destinations()];
         let alone = lengths.iter().filter(|&&length| length < cells).count() == 1;
         for (counts, &length) in self.destination[call as usize].iter_mut().zip(lengths) {
@@ -122,6 +135,10 @@ impl Coverage {
             if call.is_filling() {
                 often(&told[8..], 1_000, "refused with 8");
                 often(destinations.as_flattened(), 200, "a destination");
+            }
+            if call == Call::Write {
+                often(&told[8..], 1_000, "refused with 8");
+                often(&self.record, 200, "a record");
             }
         }
         often(&self.fault, 500, "a fault alone");
@@ -339,6 +356,20 @@ fn a_destination_of_fewer_places_is_refused() {
 }
 
 #[test]
+fn a_record_of_fewer_bytes_is_refused() {
+    // 3 by 2 cells.
+    for length in (0..=130).chain([1_000, 70_000]) {
+        let mut case = Case::basin();
+        case.record = length;
+        let told = if length < 116 { 8 } else { 0 };
+        for call in CALLS {
+            let told = if call == Call::Write { told } else { 0 };
+            expect(&case, call, &[told], "a record");
+        }
+    }
+}
+
+#[test]
 fn a_total_takes_one_place_if_there_is_one() {
     for call in TOTALS {
         for length in 0..=13 {
@@ -411,6 +442,8 @@ fn every_size_is_accepted_in_every_kind_and_tested_to_its_last_cell() {
                 let mut short = case;
                 short.destinations[random.below(call.destinations())] = w * n - 1;
                 expect(&short, call, &[8], "a last place");
+                short.record = record_size(w * n) - 1;
+                expect(&short, Call::Write, &[8], "a last byte");
             }
         }
     }
@@ -447,6 +480,7 @@ fn huge_sides_are_refused_whatever_their_product() {
                     case.fields = [(); 6].map(|()| vec![number; length]);
                     case.work = 8 * length;
                     case.destinations = [length; 3];
+                    case.record = record_size(length);
                     for call in CALLS {
                         let told = compare(&case, call, "huge").told;
                         let known = small.contains(&w) && small.contains(&n);
@@ -479,6 +513,8 @@ enum Cause {
     Edge(usize, usize),
     /// A destination of so many places.
     Destination(usize, usize),
+    /// A record of so many bytes.
+    Record(usize),
 }
 
 impl Cause {
@@ -503,6 +539,7 @@ impl Cause {
         for which in 0..3 {
             causes.extend([0, 5].map(|length| Cause::Destination(which, length)));
         }
+        causes.extend([0, 115].map(Cause::Record));
         causes
     }
 
@@ -526,6 +563,7 @@ impl Cause {
             Cause::Value(field, cell, x) => put(field, cell, x),
             Cause::Edge(field, cell) => put(field, cell, 1),
             Cause::Destination(which, length) => case.destinations[which] = length,
+            Cause::Record(length) => case.record = length,
         }
     }
 
@@ -545,6 +583,7 @@ impl Cause {
                 let short = call.is_filling() && which < call.destinations();
                 (short, vec![8])
             }
+            Cause::Record(_) => (call == Call::Write, vec![8]),
         };
         looked_at.then_some(told)
     }

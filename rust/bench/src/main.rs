@@ -15,11 +15,13 @@ mod common;
 use std::hint::black_box;
 use std::time::{Duration, Instant};
 
-use common::{clear_closed_edges, numbers, random_q, random_state, Random, Spread};
-use reference::{FillAnswer, Parameters, RunAnswer, State, StepAnswer};
+use common::{clear_closed_edges, numbers, random_q, random_state, written, Random, Spread};
+use reference::{CompareAnswer, FillAnswer, ReadAnswer, WriteAnswer};
+use reference::{Parameters, RunAnswer, State, StepAnswer};
 
 const GRIDS: [(usize, usize); 2] = [(16, 16), (64, 64)];
 const KIND: u8 = 2;
+const TIMESTAMP: u64 = 848_880_000;
 /// Cells of all the states that a call is timed on, one after the other: the
 /// branches of a single one are learnt by the processor, more or less by chance.
 /// Each step of a run has a state of its own.
@@ -52,8 +54,16 @@ impl Call {
 type Version = fn(&mut Lent) -> bool;
 
 /// A name, and the function of that name in both versions, or that of each,
-/// with what it takes after the parameters.
+/// with what it takes after the parameters; or `record` and one that takes none.
 macro_rules! call {
+    ($name:literal, record |$l:ident| $function:ident($($lent:expr),*)) => {
+        Call {
+            name: $name,
+            steps: 0,
+            proved: |$l| basin::$function($($lent),*).accepted(),
+            independent: |$l| reference::$function($($lent),*).accepted(),
+        }
+    };
     ($name:literal, |$l:ident| $function:ident($($lent:expr),*)) => {
         call!($name, |$l| $function($($lent),*) | $function($($lent),*))
     };
@@ -70,7 +80,7 @@ macro_rules! call {
 }
 
 #[rustfmt::skip]
-const CALLS: [Call; 5] = [
+const CALLS: [Call; 8] = [
     call!("tests of a state", |l| test_state(&l.h, &l.b, &l.u, &l.v, basin::Beside::Nothing)
                                 | test_call(&l.h, &l.b, &l.u, &l.v, reference::Beside::Nothing)),
     call!("potential vorticity", |l| potential_vorticity(&l.h, &l.b, &l.u, &l.v, &mut l.own_q)),
@@ -79,6 +89,9 @@ const CALLS: [Call; 5] = [
            ..call!("step", |l| step(&mut l.h, &l.b, &mut l.u, &mut l.v, &l.inflow, &mut l.work)) },
     Call { steps: 100,
            ..call!("run of 100 steps", |l| run(&mut l.h, &l.b, &mut l.u, &mut l.v, &l.inflow, 100, &mut l.work)) },
+    call!("write", |l| write(&l.h, &l.b, &l.u, &l.v, TIMESTAMP, &mut l.written)),
+    call!("read", record |l| read(&l.record, &mut l.own_q, &mut l.dh, &mut l.du, &mut l.dv)),
+    call!("compare", record |l| compare(&l.record, &l.same)),
 ];
 
 /// All that the calls can be lent.
@@ -91,13 +104,20 @@ struct Lent {
     u: Vec<i64>,
     v: Vec<i64>,
     q: Vec<i64>,
-    /// Filled with the state's own potential vorticity.
+    /// Filled with the state's own potential vorticity. A record is read into
+    /// this and the tendencies.
     own_q: Vec<i64>,
     dh: Vec<i64>,
     du: Vec<i64>,
     dv: Vec<i64>,
     inflow: Vec<i64>,
     work: Vec<i64>,
+    /// The state's record, and once more: two records that are the same have to
+    /// be compared to the end.
+    record: Vec<u8>,
+    same: Vec<u8>,
+    /// Filled with the record.
+    written: Vec<u8>,
     /// h, u and v before any step.
     start: [Vec<i64>; 3],
 }
@@ -120,6 +140,7 @@ impl Lent {
     }
 
     fn new(random: &mut Random, state: State) -> Self {
+        let record = written(&state, TIMESTAMP);
         let State {
             parameters,
             h,
@@ -158,6 +179,9 @@ impl Lent {
             dv: vec![0; cells],
             inflow: numbers(random, Spread::Even, cells, -2, 2),
             work: vec![-1; 8 * cells],
+            same: record.clone(),
+            written: vec![0; record.len()],
+            record,
         }
     }
 
@@ -210,6 +234,24 @@ impl<E> Answer for Result<basin::Ran, E> {
     }
 }
 
+impl<E> Answer for Result<usize, E> {
+    fn accepted(&self) -> bool {
+        self.is_ok()
+    }
+}
+
+impl<E> Answer for Result<basin::Read, E> {
+    fn accepted(&self) -> bool {
+        matches!(self, Ok(read) if read.timestamp == TIMESTAMP)
+    }
+}
+
+impl<E> Answer for Result<basin::Comparison, E> {
+    fn accepted(&self) -> bool {
+        matches!(self, Ok(basin::Comparison::Same))
+    }
+}
+
 impl Answer for FillAnswer {
     fn accepted(&self) -> bool {
         *self == FillAnswer::Done
@@ -225,6 +267,24 @@ impl Answer for StepAnswer {
 impl Answer for RunAnswer {
     fn accepted(&self) -> bool {
         matches!(self, RunAnswer::Finished { .. })
+    }
+}
+
+impl Answer for WriteAnswer {
+    fn accepted(&self) -> bool {
+        matches!(self, WriteAnswer::Written { .. })
+    }
+}
+
+impl Answer for ReadAnswer {
+    fn accepted(&self) -> bool {
+        matches!(self, ReadAnswer::Read { timestamp, .. } if *timestamp == TIMESTAMP)
+    }
+}
+
+impl Answer for CompareAnswer {
+    fn accepted(&self) -> bool {
+        *self == CompareAnswer::Same
     }
 }
 

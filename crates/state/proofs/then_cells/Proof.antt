@@ -1,9 +1,7 @@
 -- `state::then_cells` meets its contract. Assumes nothing.
-use mathlib.Core.Path.{sym, ap, _∙_}
+use mathlib.Core.Path.{sym, _∙_}
 use borrow.Author.Needs.{needs}
-use Rattle.model.specs.Promises.{testAnswer}
-use Rattle.model.specs.declared.TestAnswer.the-variants.{Refused}
-use Rattle.state.proofs.TestLaws.{passed-then, cell-found, cell-clean}
+use Rattle.state.proofs.TestLaws.{then-found, then-clean}
 use Rattle.state.proofs.then_cells.Statement.{statement}
 use Rattle.state.proofs.then_cells.Tie as tie
 
@@ -12,16 +10,13 @@ returns-2 c =
     let k = c .before .before in
     let b = k .before .before in
     let a = b .before .before .before .args in
-    ap Refused (c .refusal-of .ensures)
-    ∙ sym (ap testAnswer (cell-found (a .w) (a .n) (a .f .now) (a .field) (a .t) _ (sym (b .first-bad .ensures) ∙ k .k .given .1)))
-    ∙ passed-then _ (b .before .enum-told .given .1)
+    then-found (a .w) (a .n) (a .f .now) (a .field) (a .t) (b .before .enum-told .given .1) (sym (b .first-bad .ensures) ∙ k .k .given .1) (c .refusal-of .ensures)
 
 returns-3 : tie.Need-returns-3
 returns-3 c =
     let b = c .before .before in
     let a = b .before .before .before .args in
-    sym (ap testAnswer (cell-clean (a .w) (a .n) (a .f .now) (a .field) (a .t) (sym (b .first-bad .ensures) ∙ c .enum-told3 .given .1)))
-    ∙ passed-then _ (b .before .enum-told .given .1)
+    then-clean (a .w) (a .n) (a .f .now) (a .field) (a .t) (b .before .enum-told .given .1) (sym (b .first-bad .ensures) ∙ c .enum-told3 .given .1)
 
 pub then-cells-spec : {M : Type 1} → statement M
 then-cells-spec =

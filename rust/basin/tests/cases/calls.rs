@@ -4,18 +4,20 @@
 use basin::{raw, Beside, Ran, Refusal};
 
 use super::common::literal::{self, Three};
-use super::{Call, Case, H, Q, U, V};
+use super::{record_size, Call, Case, H, Q, U, V};
 
 /// Numbers that no call gives.
 pub const UNTOUCHED: u64 = 0x5555_5555_5555_5555;
 pub const FENCE: i64 = 0x3333_3333_3333_3333;
-const UNFILLED: i64 = i64::MIN;
+pub const UNFILLED: i64 = i64::MIN;
+/// A byte beside a record.
+pub const FENCE_BYTE: u8 = 0xA5;
 
 /// What a call tells, and what is then in all that it may write to.
 #[derive(Clone, Debug, PartialEq)]
 pub struct Outcome {
     /// 01's number and values, 0 where nothing is refused; a run tells its
-    /// steps last.
+    /// steps last, the writer the number of its bytes.
     pub told: Vec<u64>,
     pub written: Written,
 }
@@ -23,12 +25,13 @@ pub struct Outcome {
 /// The lists that a call may write to, but for its answer; empty where it is
 /// lent none.
 #[derive(Clone, Debug, PartialEq)]
-pub struct Written<T = Vec<i64>> {
+pub struct Written<T = Vec<i64>, R = Vec<u8>> {
     /// q, or dh, du, dv, or a total.
     pub destinations: [T; 3],
     /// h, u, v of a step or run, and its work space.
     pub stepped: [T; 3],
     pub work: T,
+    pub record: R,
 }
 
 impl Outcome {
@@ -52,12 +55,8 @@ impl Outcome {
 
 impl Written {
     /// As they are lent: no two places of destinations and work space hold the
-    /// same number.
+    /// same number, and of the record no two that follow each other.
     pub fn before(case: &Case, call: Call) -> Self {
-        let junk = |length: usize, k: usize| {
-            let number = |place: usize| UNFILLED + (4 * place + k) as i64;
-            (0..length).map(number).collect()
-        };
         let lent = |is_lent: bool, length: usize| if is_lent { length } else { 0 };
         let stepped = if call.is_stepping() {
             [H, U, V].map(|field| case.fields[field].clone())
@@ -70,6 +69,9 @@ impl Written {
             }),
             stepped,
             work: junk(lent(call.is_stepping(), case.lent_work()), 3),
+            record: (0..lent(call == Call::Write, case.record))
+                .map(|place| (7 * place + 0x5B) as u8)
+                .collect(),
         }
     }
 
@@ -79,22 +81,25 @@ impl Written {
             destinations: self.destinations.each_ref().map(fenced),
             stepped: self.stepped.each_ref().map(fenced),
             work: fenced(&self.work),
+            record: self::fenced(&self.record, FENCE_BYTE),
         }
     }
 
-    pub fn slices(&mut self) -> Written<&mut [i64]> {
+    pub fn slices(&mut self) -> Written<&mut [i64], &mut [u8]> {
         Written {
             destinations: self.destinations.each_mut().map(Vec::as_mut_slice),
             stepped: self.stepped.each_mut().map(Vec::as_mut_slice),
             work: &mut self.work,
+            record: &mut self.record,
         }
     }
 
-    fn inside_fences(&mut self) -> Written<&mut [i64]> {
+    fn inside_fences(&mut self) -> Written<&mut [i64], &mut [u8]> {
         Written {
             destinations: self.destinations.each_mut().map(|list| inside(list)),
             stepped: self.stepped.each_mut().map(|list| inside(list)),
             work: inside(&mut self.work),
+            record: inside(&mut self.record),
         }
     }
 }
@@ -114,7 +119,7 @@ fn field_number(field: basin::Field) -> u64 {
     number.into()
 }
 
-fn told(result: Result<(), Refusal>) -> Vec<u64> {
+pub fn told(result: Result<(), Refusal>) -> Vec<u64> {
     let Err(refusal) = result else {
         return vec![0];
     };
@@ -127,6 +132,7 @@ fn told(result: Result<(), Refusal>) -> Vec<u64> {
         Refusal::OutOfBounds { pass, field, cell } => {
             vec![6, pass.into(), field_number(field), cell as u64]
         }
+        Refusal::Record { offset } => vec![7, offset as u64],
         Refusal::Destination => vec![8],
         _ => panic!("{refusal:?} is no refusal of these calls"),
     };
@@ -150,6 +156,13 @@ fn told_run(result: Result<Ran, Refusal>) -> Vec<u64> {
 
 fn told_total(result: Result<i64, Refusal>, total: &mut [i64]) -> Vec<u64> {
     told(result.map(|number| put_total(number, total)))
+}
+
+fn told_write(result: Result<usize, Refusal>) -> Vec<u64> {
+    match result {
+        Ok(bytes) => vec![0, bytes as u64],
+        Err(refusal) => told(Err(refusal)),
+    }
 }
 
 /// Where there is a place for it.
@@ -182,7 +195,12 @@ fn parameters(case: &Case) -> basin::Parameters {
 fn proved(case: &Case, call: Call) -> Outcome {
     let p = &parameters(case);
     let [h, b, u, v, q, s] = &case.fields;
-    let &Case { steps, work, .. } = case;
+    let &Case {
+        steps,
+        work,
+        timestamp,
+        ..
+    } = case;
     let mut written = Written::before(case, call);
     let lent = written.slices();
     let [first, second, third] = lent.destinations;
@@ -207,6 +225,7 @@ fn proved(case: &Case, call: Call) -> Outcome {
         )),
         Call::TotalDepth => told_total(basin::total_depth(p, h, b, u, v), first),
         Call::TotalEnergy => told_total(basin::total_energy(p, h, b, u, v), first),
+        Call::Write => told_write(basin::write(p, h, b, u, v, timestamp, lent.record)),
     };
     Outcome { told, written }
 }
@@ -216,7 +235,12 @@ pub fn independent(case: &Case, call: Call) -> Outcome {
     use reference::{Beside, FillAnswer, TotalAnswer};
     let Case { p, fields, .. } = case;
     let [h, b, u, v, q, s] = fields;
-    let &Case { steps, work, .. } = case;
+    let &Case {
+        steps,
+        work,
+        timestamp,
+        ..
+    } = case;
     let mut written = Written::before(case, call);
     let lent = written.slices();
     let [first, second, third] = lent.destinations;
@@ -247,6 +271,7 @@ pub fn independent(case: &Case, call: Call) -> Outcome {
         Call::Run => {
             reference::run(p, h_stepped, b, u_stepped, v_stepped, s, steps, lent.work).told()
         }
+        Call::Write => reference::write(p, h, b, u, v, timestamp, lent.record).told(),
     };
     Outcome {
         told: told.into_iter().map(|x| x as u64).collect(),
@@ -259,12 +284,17 @@ pub fn call_raw(
     case: &Case,
     call: Call,
     fields: [&[i64]; 6],
-    lent: Written<&mut [i64]>,
+    lent: Written<&mut [i64], &mut [u8]>,
     answer: &mut [u64],
 ) -> u64 {
     let p = &parameters(case);
     let [h, b, u, v, q, s] = fields;
-    let &Case { steps, work, .. } = case;
+    let &Case {
+        steps,
+        work,
+        timestamp,
+        ..
+    } = case;
     let [first, second, third] = lent.destinations;
     let [h_stepped, u_stepped, v_stepped] = lent.stepped;
     match call {
@@ -280,6 +310,7 @@ pub fn call_raw(
         ),
         Call::TotalDepth => raw::total_depth(p, h, b, u, v, first, answer),
         Call::TotalEnergy => raw::total_energy(p, h, b, u, v, first, answer),
+        Call::Write => raw::write(p, h, b, u, v, timestamp, lent.record, answer),
     }
 }
 
@@ -346,20 +377,28 @@ fn compare_raw(case: &Case, call: Call, before: &Written, expected: &Outcome, at
     }
 }
 
+/// Numbers for a list that is lent to be filled, the k-th of up to four: no two
+/// places hold the same.
+pub fn junk(length: usize, k: usize) -> Vec<i64> {
+    let number = |place: usize| UNFILLED + (4 * place + k) as i64;
+    (0..length).map(number).collect()
+}
+
 /// The numbers between two fences, so that a write beside them shows.
-fn fenced<T: Copy>(numbers: &[T], fence: T) -> Vec<T> {
+pub fn fenced<T: Copy>(numbers: &[T], fence: T) -> Vec<T> {
     [&[fence], numbers, &[fence]].concat()
 }
 
-fn inside<T>(fenced: &mut [T]) -> &mut [T] {
+pub fn inside<T>(fenced: &mut [T]) -> &mut [T] {
     let last = fenced.len() - 1;
     &mut fenced[1..last]
 }
 
 /// What 01 says of all that is lent, whatever the numbers: a refused call
-/// leaves its destinations, an accepted one fills their first places and leaves
-/// the others; without a step done h, u and v are left; the work space is
-/// cleared after tests 1 and 2, and not past its first 8·w·n numbers.
+/// leaves its destinations and its record, an accepted one fills their first
+/// places and leaves the others; without a step done h, u and v are left; the
+/// work space is cleared after tests 1 and 2, and not past its first 8·w·n
+/// numbers.
 fn assert_left(case: &Case, call: Call, before: &Written, got: &Outcome, at: &str) {
     let cells = case.p.w.wrapping_mul(case.p.n);
     let filled = match got.told[0] {
@@ -376,6 +415,22 @@ fn assert_left(case: &Case, call: Call, before: &Written, got: &Outcome, at: &st
         );
         let all = after[..rest].iter().all(|&x| x >= UNFILLED / 2);
         assert!(all, "{at}: not filled by {call:?} {case:?}");
+    }
+    if call == Call::Write {
+        let length = match got.told[..] {
+            [0, bytes] => {
+                assert_eq!(bytes as usize, record_size(cells), "{at}: {case:?}");
+                assert_eq!(bytes as usize, parameters(case).record_len());
+                record_size(cells)
+            }
+            _ => 0,
+        };
+        let (after, before) = (&got.written.record, &before.record);
+        assert_eq!(
+            after[length..],
+            before[length..],
+            "{at}: left by {call:?} {case:?}"
+        );
     }
     if got.steps(call) == 0 {
         let (after, before) = (&got.written.stepped, &before.stepped);

@@ -5,6 +5,7 @@
 #![allow(dead_code)]
 
 pub mod calls;
+pub mod records;
 // The generator of random states is shared with the reference's own tests.
 #[path = "../../../reference/tests/common/mod.rs"]
 pub mod common;
@@ -47,9 +48,11 @@ pub enum Call {
     Run,
     TotalDepth,
     TotalEnergy,
+    /// The writer of a record.
+    Write,
 }
 
-pub const CALLS: [Call; 10] = [
+pub const CALLS: [Call; 11] = [
     Call::TestState,
     Call::TestVorticity,
     Call::TestStep,
@@ -60,6 +63,7 @@ pub const CALLS: [Call; 10] = [
     Call::Run,
     Call::TotalDepth,
     Call::TotalEnergy,
+    Call::Write,
 ];
 
 /// Those of them that fill fields, those that step a state, and the totals.
@@ -72,7 +76,7 @@ impl Call {
     pub fn fields(self) -> &'static [usize] {
         match self {
             Call::TestState | Call::PotentialVorticity => &[0, 1, 2, 3],
-            Call::TotalDepth | Call::TotalEnergy => &[0, 1, 2, 3],
+            Call::TotalDepth | Call::TotalEnergy | Call::Write => &[0, 1, 2, 3],
             Call::TestVorticity | Call::Tendencies => &[0, 1, 2, 3, Q],
             Call::TestStep | Call::TestRun | Call::Step | Call::Run => &[0, 1, 2, 3, S],
         }
@@ -99,11 +103,11 @@ impl Call {
         STEPPING.contains(&self)
     }
 
-    /// How many destinations the call is lent.
+    /// How many destinations the call is lent, but for a record.
     pub fn destinations(self) -> usize {
         match self {
             Call::TestState | Call::TestVorticity | Call::TestStep | Call::TestRun => 0,
-            Call::Step | Call::Run => 0,
+            Call::Step | Call::Run | Call::Write => 0,
             Call::PotentialVorticity | Call::TotalDepth | Call::TotalEnergy => 1,
             Call::Tendencies => 3,
         }
@@ -129,6 +133,9 @@ pub struct Case {
     pub work: usize,
     /// Lengths of the destinations: q, or dh, du, dv, or a total.
     pub destinations: [usize; 3],
+    pub timestamp: u64,
+    /// Bytes for the record.
+    pub record: usize,
     /// Places for the answer.
     pub room: usize,
 }
@@ -150,6 +157,8 @@ impl Case {
             steps: 3,
             work: 8 * cells,
             destinations: [cells; 3],
+            timestamp: 0,
+            record: record_size(cells),
             room: 5,
         }
     }
@@ -241,6 +250,8 @@ impl Case {
         }
         case.work += random.pick(&[0, 0, 1, 5]);
         case.destinations = [(); 3].map(|()| cells + random.pick(&[0, 0, 1, 5]));
+        case.timestamp = random_timestamp(random);
+        case.record += random.pick(&[0, 0, 1, 5, 60]);
         case.room = random.below(7);
         case
     }
@@ -378,7 +389,11 @@ impl Case {
             [4 | 5, field, cell] => {
                 self.fields[field as usize][cell as usize] = HARMLESS[field as usize]
             }
-            [8] => self.destinations = [self.p.w * self.p.n; 3],
+            [8] => {
+                let cells = self.p.w * self.p.n;
+                self.destinations = [cells; 3];
+                self.record = record_size(cells);
+            }
             _ => panic!("{told:?} is no refusal of these calls: {self:?}"),
         }
     }
@@ -443,6 +458,8 @@ pub enum Fault {
     ShortDestination,
     /// Destinations of any lengths up to what is needed.
     OtherDestinations,
+    /// A record one byte too short, or shorter.
+    ShortRecord,
     /// A velocity on a closed edge.
     ClosedEdge,
     /// Velocities on some closed edges of u and v.
@@ -453,7 +470,7 @@ pub enum Fault {
     ClosedEdgePast,
 }
 
-pub const FAULTS: [Fault; 20] = [
+pub const FAULTS: [Fault; 21] = [
     Fault::OnePast,
     Fault::FarPast,
     Fault::SeveralPast,
@@ -470,6 +487,7 @@ pub const FAULTS: [Fault; 20] = [
     Fault::Work,
     Fault::ShortDestination,
     Fault::OtherDestinations,
+    Fault::ShortRecord,
     Fault::ClosedEdge,
     Fault::ClosedEdges,
     Fault::OpenEdges,
@@ -557,6 +575,7 @@ impl Fault {
                 let length = case.fields[H].len();
                 case.work = 8 * length;
                 case.destinations = [length; 3];
+                case.record = record_size(length);
             }
             Fault::LongSides => {
                 let sides = [
@@ -574,6 +593,7 @@ impl Fault {
                 }
                 case.work = 8 * w * n;
                 case.destinations = [w * n; 3];
+                case.record = record_size(w * n);
             }
             Fault::Kind => case.p.kind = random.next() as u8,
             Fault::Steps => {
@@ -610,6 +630,18 @@ impl Fault {
                 let needed = destination_needed(case);
                 let lengths = [0, needed, random.below(needed + 1)];
                 case.destinations = [(); 3].map(|()| random.pick(&lengths));
+            }
+            Fault::ShortRecord => {
+                let cells = destination_needed(case);
+                let needed = record_size(cells);
+                // Short by a cell, of the fields alone, of no cell at all.
+                let lengths = [needed - 12, 12 * cells, 44.min(needed - 1)];
+                case.record = match random.below(4) {
+                    0 => needed - 1,
+                    1 => 0,
+                    2 => random.pick(&lengths),
+                    _ => random.below(needed),
+                };
             }
             Fault::ClosedEdge => put_on_edges(random, case, 1, velocity),
             Fault::ClosedEdges => {
@@ -663,6 +695,21 @@ pub fn add<const N: usize>(counts: &mut [usize; N], happened: [bool; N]) {
     for (count, happened) in counts.iter_mut().zip(happened) {
         *count += usize::from(happened);
     }
+}
+
+/// A timestamp: any, with those at the ends of its range, of few bytes and of
+/// the highest bit.
+pub fn random_timestamp(random: &mut Random) -> u64 {
+    match random.below(4) {
+        0 => random.pick(&[0, 1, 1 << 63, u64::MAX]),
+        1 => random.next() >> random.below(64),
+        _ => random.next(),
+    }
+}
+
+/// 01's number of bytes of a record of so many cells.
+pub fn record_size(cells: usize) -> usize {
+    44 + 12 * cells
 }
 
 /// Places that a destination has to have, in a grid that can be known.

@@ -1,0 +1,2 @@
+-- what the comparison tells of two records, of this code
+pub mod Applied

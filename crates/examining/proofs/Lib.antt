@@ -1,0 +1,3 @@
+-- what the values of a record mean; its tests in order
+pub mod ValueLaws
+pub mod OrderLaws

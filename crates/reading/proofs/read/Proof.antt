@@ -1,0 +1,81 @@
+-- `reading::read` meets its contract. Assumes nothing.
+use mathlib.Core.Path.{_≡_, sym, ap, subst}
+use mathlib.Core.List.{List, [], _∷_}
+use Prim.Native.Nat.{ℕ, _*_, _≤_}
+use native.Mathlib.Omega.{arith}
+use lib.IntN.{ℤ}
+use borrow.Author.Needs.{needs}
+use Rattle.model.specs.State.{cells}
+use Rattle.model.specs.declared.Parameters.{Parameters}
+use Rattle.examining.specs.Tests.{stateRead, Accepted, Examined}
+use Rattle.reading.specs.Rooms.{Room}
+use Rattle.reading.proofs.ReadLaws.{sized, cells-most, read-refused, read-room, read-done}
+use Rattle.reading.proofs.read.Statement.{statement}
+use Rattle.reading.proofs.read.Tie as tie
+
+-- the function's entry
+abbrev start : tie.After-examine → tie.Start
+start c = c .before .before .before .before .before .before
+
+-- the record has passed every test
+passed : (c : tie.After-enum-told) → let x = c .before .before in Accepted (start x .args .rec .now) (x .examine .last .1 .0) (x .before .before .less3 .result ∷ [])
+passed c =
+    let x = c .before .before in
+    subst (λ r. Examined (start x .args .rec .now) (x .before .before .less3 .result ∷ []) r (x .examine .last .1 .0)) (c .enum-told .given .1) (x .examine .ensures)
+
+-- the parameters read are the state's
+cells-are : (c : tie.After-parameters-in) → let x = c .before .before .before .before in cells (stateRead (start x .args .rec .now)) ≡ c .parameters-in .result .w * c .parameters-in .result .n
+cells-are c = sym (ap (λ (p : Parameters). p .w * p .n) (c .parameters-in .ensures))
+
+most : (c : tie.After-parameters-in) → c .parameters-in .result .w * c .parameters-in .result .n ≤ 4096
+most c = omega (arith, cells-are c, cells-most (passed (c .before .before)))
+
+room-as : {m n : ℕ} {h b u v : List ℤ} → m ≡ n → Room m h b u v → Room n h b u v
+room-as {h = h} {b = b} {u = u} {v = v} e r = subst (λ m. Room m h b u v) e r
+
+fill-requires : tie.Need-fill-requires
+fill-requires c κs =
+    let m = c .before .before .before .before .before .before .before .before in
+    let a = passed (m .before .before) in
+    let l = m .before .before .before .before .before .before in
+    let s = l .before .before .before .before in
+    (sized a, cells-are m, room-as (cells-are m) (read-room (s .args .rec .now) (s .args .h .now) (s .args .b .now) (s .args .u .now) (s .args .v .now) (l .before .before .less .ensures) (l .before .less2 .ensures) (l .less3 .ensures) a))
+
+returns : tie.Need-returns
+returns c =
+    let f = c .before .before .before .before in
+    let m = f .before .before .before .before .before .before .before .before .before in
+    let l = m .before .before .before .before .before .before in
+    let a = l .before .before .before .before .args in
+    let t = f .before .before .before .before .before .before .before in
+    read-done (a .rec .now) (a .h .now) (a .b .now) (a .u .now) (a .v .now) (l .before .before .less .ensures) (l .before .less2 .ensures) (l .less3 .ensures)
+    (passed (m .before .before)) (m .parameters-in .ensures) (t .timestamp-in .ensures) (cells-are m) (f .fill .ensures)
+
+returns-2 : tie.Need-returns-2
+returns-2 c =
+    let x = c .before .before .before in
+    let l = x .before .before in
+    let a = start x .args in
+    read-refused (a .rec .now) (a .h .now) (a .b .now) (a .u .now) (a .v .now) (l .before .before .less .ensures) (l .before .less2 .ensures) (l .less3 .ensures)
+    (subst (λ r. Examined (a .rec .now) (l .less3 .result ∷ []) r (x .examine .last .1 .0)) (c .before .refusal .given .1) (x .examine .ensures))
+
+pub read-spec : {M : Type 1} → statement M
+read-spec =
+    tie.close
+    (tie.spec
+    (λ c κs. search needs)
+    (λ c κs. search needs)
+    (λ c κs. search needs)
+    (λ c κs. search needs)
+    (λ c. search needs)
+    (λ c κs. passed (c .before) .placed)
+    (λ c κs. passed (c .before .before .before) .placed)
+    (λ c. omega (arith, most (c .before .before .before .before)))
+    fill-requires
+    (λ c. search needs)
+    (λ c. search needs)
+    (λ c. search needs)
+    (λ c. search needs)
+    (λ c. search needs)
+    returns
+    returns-2)

@@ -1,0 +1,57 @@
+// The record reader: all tests of a record, and only then the four fields.
+ghost use mathlib.Core.Path.{_≡_};
+ghost use Rattle.model.specs.Grid.{filled};
+ghost use Rattle.model.specs.State.{parametersOf, cells};
+ghost use Rattle.model.specs.Promises.{ReadPromise};
+ghost use Rattle.examining.specs.Tests.{stateRead, Sized};
+ghost use Rattle.reading.specs.Rooms.{Room, Least};
+use model::ReadAnswer;
+use model::TestAnswer;
+use wire::Size;
+
+// Fills the first m places of each field.
+fn fill(
+    rec: &[u8],
+    at: &[usize; 8],
+    m: usize,
+    h: &mut [i64],
+    b: &mut [i64],
+    u: &mut [i64],
+    v: &mut [i64],
+)
+    requires { ⌜ (let s = stateRead (now rec) in Sized (now rec) (now at) (parametersOf s) × (cells s ≡ m) × Room m (now h) (now b) (now u) (now v)) ⌝ }
+    ensures { λ _. ⌜ (let s = stateRead (now (rec .entry)) in (now (h .exit) ≡ filled m (s .h) (now (h .entry))) × (now (b .exit) ≡ filled m (s .b) (now (b .entry))) × (now (u .exit) ≡ filled m (s .u) (now (u .entry))) × (now (v .exit) ≡ filled m (s .v) (now (v .entry)))) ⌝ }
+{
+    wire::read_numbers(walking::value_of(rec, at, 4), m, h, Size::Four);
+    wire::read_numbers(walking::value_of(rec, at, 5), m, b, Size::Four);
+    wire::read_numbers(walking::value_of(rec, at, 6), m, u, Size::Two);
+    wire::read_numbers(walking::value_of(rec, at, 7), m, v, Size::Two);
+}
+
+// The shorter of two lengths.
+fn less(a: usize, b: usize) -> usize
+    ensures { λ r. ⌜ Least a b r ⌝ }
+{
+    if a < b { a } else { b }
+}
+
+// The state of a record into the first w·n places of h, b, u and v, and its parameters and timestamp. Refusals: 7, 1, 2, 8, 3, 4, 5.
+// It rules out, for instance: fields filled before test 5; the sign of a velocity lost.
+pub fn read(rec: &[u8], h: &mut [i64], b: &mut [i64], u: &mut [i64], v: &mut [i64]) -> ReadAnswer
+    ensures { λ r. ⌜ ReadPromise (now (rec .entry)) (now (h .entry)) (now (b .entry)) (now (u .entry)) (now (v .entry)) r (now (h .exit)) (now (b .exit)) (now (u .exit)) (now (v .exit)) ⌝ }
+{
+    let mut at = [rec.len(); 8];
+    let room = less(less(h.len(), b.len()), less(u.len(), v.len()));
+    match examining::examine(rec, &mut at, room) {
+        TestAnswer::Passed => {
+            let p = examining::parameters_in(rec, &at);
+            let timestamp = examining::timestamp_in(rec, &at);
+            fill(rec, &at, p.w * p.n, h, b, u, v);
+            ReadAnswer::Read {
+                parameters: p,
+                timestamp,
+            }
+        }
+        TestAnswer::Refused(refusal) => ReadAnswer::Refused(refusal),
+    }
+}

@@ -1,0 +1,3 @@
+-- the tests at a tag, and the walk under way
+pub mod TagLaws
+mod WalkLaws

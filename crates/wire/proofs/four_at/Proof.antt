@@ -1,0 +1,37 @@
+-- `wire::four_at` meets its contract. Assumes nothing.
+use borrow.Author.Needs.{needs}
+use Rattle.wire.specs.Bytes.{four-is}
+use Rattle.wire.proofs.four_at.Statement.{statement}
+use Rattle.wire.proofs.four_at.Tie as tie
+
+returns : tie.Need-returns
+returns c =
+    let third = c .before .before in
+    let second = third .before .before in
+    let first = second .before .before in
+    let s = first .before .before .before in
+    let r = four-is (s .args .s .now) (s .args .k) (s .pre) (first .wide .ensures) (second .wide2 .ensures) (third .wide3 .ensures) (c .wide4 .ensures) in
+    (r .holds, r .small)
+
+pub four-at-spec : {M : Type 1} → statement M
+four-at-spec =
+    tie.close
+    (tie.spec
+    (λ c. search needs)
+    (λ c κs. search needs)
+    (λ c. search needs)
+    (λ c. search needs)
+    (λ c κs. search needs)
+    (λ c. search needs)
+    (λ c. search needs)
+    (λ c κs. search needs)
+    (λ c. search needs)
+    (λ c. search needs)
+    (λ c κs. search needs)
+    (λ c. search needs)
+    (λ c. search needs)
+    (λ c. search needs)
+    (λ c. search needs)
+    (λ c. search needs)
+    (λ c. search needs)
+    returns)

@@ -1,0 +1,3 @@
+pub mod Parts
+-- laws of the record's parts, and from the tests of the call to its promise
+pub mod WriteLaws

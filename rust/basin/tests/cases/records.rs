@@ -1,0 +1,372 @@
+//! A record that is read, and two that are compared, by both versions: what
+//! they tell and write is compared, and everything lent is looked at before and
+//! after. Where that fails, the records are printed in hex.
+
+use basin::{raw, Comparison, Read, Refusal, Refused};
+use reference::{Parameters, ReadAnswer, State};
+
+use super::calls::{self, fenced, inside, junk, told};
+use super::calls::{FENCE, FENCE_BYTE, UNFILLED, UNTOUCHED};
+use super::common::{record_fields, record_of, within_limits, Random};
+use super::{record_size, Call, Case};
+
+pub fn hex(record: &[u8]) -> String {
+    record.iter().map(|byte| format!("{byte:02X}")).collect()
+}
+
+// ---- records to begin with
+
+/// Two cells that wrap, with a negative number wherever one is allowed.
+pub fn two_cells() -> State {
+    State {
+        parameters: Parameters {
+            w: 2,
+            n: 1,
+            kind: 0,
+            g: 9_810,
+            c: -10,
+            r: 1_000,
+        },
+        h: vec![2_000, 3_000],
+        b: vec![0, 17],
+        u: vec![100, -1],
+        v: vec![-50, 5_000],
+    }
+}
+
+/// 3 by 2 cells in a basin.
+pub fn basin() -> State {
+    Case::basin().state()
+}
+
+pub const TIMESTAMP: u64 = 0x0102_0304_0506_0708;
+
+/// Shuffles the fields of a record.
+pub fn shuffle(random: &mut Random, fields: &mut [Vec<u8>]) {
+    for k in (1..fields.len()).rev() {
+        fields.swap(k, random.below(k + 1));
+    }
+}
+
+/// A record in some order of its tags.
+pub fn shuffled(random: &mut Random, state: &State, timestamp: u64) -> Vec<u8> {
+    let mut fields = record_fields(state, timestamp);
+    shuffle(random, &mut fields);
+    fields.concat()
+}
+
+/// One of the state's fields, by its place in the order h, b, u, v.
+pub fn field(state: &mut State, which: usize) -> &mut Vec<i64> {
+    let State { h, b, u, v, .. } = state;
+    [h, b, u, v].into_iter().nth(which).expect("a field")
+}
+
+// ---- reading
+
+/// What is lent to a read beside the record, by its lengths.
+#[derive(Clone, Copy, Debug, PartialEq)]
+pub struct Lent {
+    /// h, b, u, v
+    pub fields: [usize; 4],
+    pub constants: usize,
+    /// Places for the answer.
+    pub room: usize,
+}
+
+impl Lent {
+    /// Just enough for so many cells.
+    pub fn enough(cells: usize) -> Self {
+        Lent {
+            fields: [cells; 4],
+            constants: 3,
+            room: 5,
+        }
+    }
+
+    /// Enough for so many cells, or more, and any places for constants and
+    /// answer.
+    pub fn any(random: &mut Random, cells: usize) -> Self {
+        Lent {
+            fields: [(); 4].map(|()| cells + random.pick(&[0, 0, 1, 5])),
+            constants: random.below(6),
+            room: random.below(7),
+        }
+    }
+}
+
+/// What a read tells, and what is then in all that it may write to, but for its
+/// answer.
+#[derive(Clone, Debug, PartialEq)]
+pub struct Outcome {
+    /// 0, w, n, kind and timestamp; or 01's number and values.
+    pub told: Vec<u64>,
+    /// h, b, u, v
+    pub fields: [Vec<i64>; 4],
+    /// G, c, R
+    pub constants: Vec<i64>,
+}
+
+impl Outcome {
+    /// Nothing told, and the lists as they are lent.
+    fn before(lent: Lent) -> Self {
+        Outcome {
+            told: vec![],
+            fields: std::array::from_fn(|k| junk(lent.fields[k], k)),
+            // No number of a field's.
+            constants: junk(lent.constants, 0)
+                .iter()
+                .map(|x| x - UNFILLED / 4)
+                .collect(),
+        }
+    }
+
+    fn is_accepted(&self) -> bool {
+        self.told[0] == 0
+    }
+
+    /// The state and timestamp that were read, where the constants had room.
+    pub fn state(&self) -> Option<(State, u64)> {
+        let ([0, w, n, kind, timestamp], [g, c, r, ..]) = (&self.told[..], &self.constants[..])
+        else {
+            return None;
+        };
+        let parameters = Parameters {
+            w: *w as usize,
+            n: *n as usize,
+            kind: *kind as u8,
+            g: *g,
+            c: *c,
+            r: *r,
+        };
+        let cells = parameters.w * parameters.n;
+        let [h, b, u, v] = self.fields.each_ref().map(|field| field[..cells].to_vec());
+        let state = State {
+            parameters,
+            h,
+            b,
+            u,
+            v,
+        };
+        Some((state, *timestamp))
+    }
+}
+
+/// As far as there is room.
+fn put_constants(constants: &mut [i64], numbers: [i64; 3]) {
+    for (place, number) in constants.iter_mut().zip(numbers) {
+        *place = number;
+    }
+}
+
+/// The independent version.
+fn independent(record: &[u8], lent: Lent) -> Outcome {
+    let mut outcome = Outcome::before(lent);
+    let [h, b, u, v] = &mut outcome.fields;
+    outcome.told = match reference::read(record, h, b, u, v) {
+        ReadAnswer::Read {
+            parameters: p,
+            timestamp,
+        } => {
+            put_constants(&mut outcome.constants, [p.g, p.c, p.r]);
+            vec![0, p.w as u64, p.n as u64, p.kind.into(), timestamp]
+        }
+        ReadAnswer::Refused(refusal) => refusal.told().iter().map(|&x| x as u64).collect(),
+    };
+    outcome
+}
+
+/// The proved library, by its safe call.
+fn proved(record: &[u8], lent: Lent) -> Outcome {
+    let mut outcome = Outcome::before(lent);
+    let [h, b, u, v] = &mut outcome.fields;
+    outcome.told = match basin::read(record, h, b, u, v) {
+        Ok(Read {
+            parameters: p,
+            timestamp,
+        }) => {
+            put_constants(&mut outcome.constants, [p.g, p.c, p.r]);
+            vec![0, p.w as u64, p.n as u64, p.kind.into(), timestamp]
+        }
+        Err(refusal) => told(Err(refusal)),
+    };
+    outcome
+}
+
+/// What both give; `at` is where the record came from.
+pub fn compare_read(record: &[u8], lent: Lent, at: &str) -> Outcome {
+    let sides = || {
+        let record = hex(record);
+        format!("{at}: the proved library (left) and the independent version (right) read {record} into {lent:?}")
+    };
+    let expected = independent(record, lent);
+
+    // The function of the C interface, between fences.
+    let fenced_record = fenced(record, FENCE_BYTE);
+    let before = Outcome::before(lent);
+    let mut fields = before.fields.each_ref().map(|field| fenced(field, FENCE));
+    let mut constants = fenced(&before.constants, FENCE);
+    let mut answer = fenced(&vec![UNTOUCHED; lent.room], UNTOUCHED);
+    let [h, b, u, v] = fields.each_mut().map(|field| inside(field));
+    let number = raw::read(
+        &fenced_record[1..=record.len()],
+        h,
+        b,
+        u,
+        v,
+        inside(&mut constants),
+        inside(&mut answer),
+    );
+    assert_eq!(number, expected.told[0], "{}", sides());
+    assert_eq!(answer, answered(&expected.told, lent.room), "{}", sides());
+    let left = expected.fields.each_ref().map(|field| fenced(field, FENCE));
+    assert_eq!(fields, left, "{}", sides());
+    let left = fenced(&expected.constants, FENCE);
+    assert_eq!(constants, left, "{}", sides());
+    assert_untouched(&fenced_record, record, at);
+
+    let got = proved(record, lent);
+    assert_eq!(got, expected, "{}", sides());
+    assert_left(record, &before, &got, at);
+    got
+}
+
+/// Both tell this.
+pub fn expect_read(record: &[u8], lent: Lent, told: &[u64], at: &str) -> Outcome {
+    let outcome = compare_read(record, lent, at);
+    assert_eq!(outcome.told, told, "{at}: {} into {lent:?}", hex(record));
+    outcome
+}
+
+/// What a slice for the answer holds after a call, with its fences.
+fn answered(told: &[u64], room: usize) -> Vec<u64> {
+    let mut answer = vec![UNTOUCHED; room + 2];
+    for (place, number) in answer[1..=room].iter_mut().zip(told) {
+        *place = *number;
+    }
+    answer
+}
+
+fn assert_untouched(fenced: &[u8], record: &[u8], at: &str) {
+    let same = matches!(fenced, [FENCE_BYTE, within @ .., FENCE_BYTE] if within == record);
+    assert!(same, "{at}: left {} of {}", hex(fenced), hex(record));
+}
+
+/// What 01 says of all that is lent, whatever the numbers: a refused read leaves
+/// everything, an accepted one fills the first places with a state within the
+/// limits and leaves the others.
+fn assert_left(record: &[u8], before: &Outcome, got: &Outcome, at: &str) {
+    if !got.is_accepted() {
+        let left = got.fields == before.fields && got.constants == before.constants;
+        assert!(left, "{at}: refused, not left by {}", hex(record));
+        return;
+    }
+    let cells = (got.told[1] * got.told[2]) as usize;
+    assert_eq!(record.len(), record_size(cells), "{at}");
+    for (after, before) in got.fields.iter().zip(&before.fields) {
+        let (after, before) = (&after[cells..], &before[cells..]);
+        assert_eq!(after, before, "{at}: not left by {}", hex(record));
+    }
+    let constants = got.constants.len().min(3);
+    let (after, before) = (&got.constants[constants..], &before.constants[constants..]);
+    assert_eq!(after, before, "{at}: not left by {}", hex(record));
+    if let Some((state, _)) = got.state() {
+        assert!(within_limits(&state), "{at}: read from {}", hex(record));
+    }
+}
+
+// ---- comparing
+
+/// What both tell; `at` is where the records came from.
+pub fn compare_pair(first: &[u8], second: &[u8], room: usize, at: &str) -> Vec<u64> {
+    let sides = || {
+        let (first, second) = (hex(first), hex(second));
+        format!("{at}: the proved library (left) and the independent version (right) compare {first} with {second}")
+    };
+    let expected = independent_pair(first, second);
+
+    let fenced_records = [first, second].map(|record| fenced(record, FENCE_BYTE));
+    let mut answer = fenced(&vec![UNTOUCHED; room], UNTOUCHED);
+    let number = raw::compare(
+        &fenced_records[0][1..=first.len()],
+        &fenced_records[1][1..=second.len()],
+        inside(&mut answer),
+    );
+    assert_eq!(number, expected[0], "{}", sides());
+    assert_eq!(answer, answered(&expected, room), "{}", sides());
+    for (after, record) in fenced_records.iter().zip([first, second]) {
+        assert_untouched(after, record, at);
+    }
+
+    let got = match basin::compare(first, second) {
+        Ok(Comparison::Same) => vec![0, 0],
+        Ok(Comparison::FirstNewer) => vec![0, 1],
+        Ok(Comparison::SecondNewer) => vec![0, 2],
+        Ok(Comparison::Conflict) => vec![0, 3],
+        Err(Refused { record, refusal }) => {
+            assert_ne!(refusal, Refusal::Destination, "{at}: none is lent");
+            of_record(&told(Err(refusal)), record)
+        }
+    };
+    assert_eq!(got, expected, "{}", sides());
+    got
+}
+
+fn independent_pair(first: &[u8], second: &[u8]) -> Vec<u64> {
+    let told = reference::compare(first, second).told();
+    told.iter().map(|&x| x as u64).collect()
+}
+
+/// What a comparison tells where reading this record tells so.
+pub fn of_record(told: &[u64], record: u8) -> Vec<u64> {
+    let mut of_record = vec![told[0], record.into()];
+    of_record.extend(&told[1..]);
+    of_record
+}
+
+/// Both tell this.
+pub fn expect_pair(first: &[u8], second: &[u8], told: &[u64], at: &str) {
+    let got = compare_pair(first, second, 4, at);
+    assert_eq!(got, told, "{at}: {} and {}", hex(first), hex(second));
+}
+
+// ---- what a record of this state does
+
+/// What a read of this state's record tells.
+pub fn told_for(state: &State, timestamp: u64) -> [u64; 5] {
+    let p = state.parameters;
+    [0, p.w as u64, p.n as u64, p.kind.into(), timestamp]
+}
+
+/// Reads a record of a state within the limits: what is told and filled in is
+/// that state.
+pub fn expect_state(record: &[u8], lent: Lent, (state, timestamp): (&State, u64), at: &str) {
+    let outcome = expect_read(record, lent, &told_for(state, timestamp), at);
+    let cells = state.h.len();
+    let State { h, b, u, v, .. } = state;
+    for (got, field) in outcome.fields.iter().zip([h, b, u, v]) {
+        assert_eq!(got[..cells], field[..], "{at}: {}", hex(record));
+    }
+    let Parameters { g, c, r, .. } = state.parameters;
+    for (got, constant) in outcome.constants.iter().zip([g, c, r]) {
+        assert_eq!(*got, constant, "{at}: {}", hex(record));
+    }
+}
+
+/// Reading the record is refused with this, and so is comparing it with a good
+/// one, whichever is the first.
+pub fn expect_refused(record: &[u8], told: &[u64], at: &str) {
+    let good = record_of(&two_cells(), TIMESTAMP);
+    expect_read(record, Lent::enough(64), told, at);
+    expect_pair(record, &good, &of_record(told, 1), at);
+    expect_pair(&good, record, &of_record(told, 2), at);
+}
+
+/// Writes a state by both versions.
+pub fn written(state: &State, timestamp: u64, at: &str) -> Vec<u8> {
+    let cells = state.h.len();
+    let mut case = Case::beside(state.clone(), vec![0; cells], vec![0; cells]);
+    case.timestamp = timestamp;
+    let outcome = calls::compare(&case, Call::Write, at);
+    assert_eq!(outcome.told, [0, record_size(cells) as u64], "{at}");
+    outcome.written.record
+}

@@ -1,0 +1,665 @@
+//! The record calls of the proved library beside those of the independent
+//! version: records in every order of their tags, of every size and timestamp,
+//! every answer of a comparison, and records changed at random. (Damage, and
+//! what else a read is refused with, is in record_refusals.rs; the writer's
+//! tests, and calls of it with faults, are in comparison.rs.)
+//!
+//! Every comparison is of all that is told and of all that is lent: fields and
+//! constants with what lies past the part that is filled, and the fences beside
+//! them ([`cases::records`], [`cases::calls`]). One that fails prints the record
+//! in hex, and where it was made at random the seed and the number of the case.
+
+mod cases;
+
+use std::cmp::Ordering;
+
+use cases::common::{any_state, random_state, within_limits, Random, SPREADS};
+use cases::common::{record_field, record_fields, record_of};
+use cases::records::{basin, two_cells, TIMESTAMP};
+use cases::records::{compare_pair, compare_read, expect_pair, expect_read, expect_state};
+use cases::records::{field, hex, of_record, shuffle, shuffled, written, Lent};
+use cases::{add, random_timestamp, Case, BOUNDS, U, V};
+use reference::{Parameters, State};
+
+// ---- good records
+
+#[test]
+fn example_10_one_cell() {
+    let record = "010003010100 02000C000026520000000A000003E8 0300080000000000000000 \
+                  040004000007D0 05000400000000 0600020064 070002FFCE";
+    let record = record.replace(' ', "");
+    let state = Case::example_2().state();
+    let written = written(&state, 0, "example 10");
+    assert_eq!(hex(&written), record);
+    expect_state(&written, Lent::enough(1), (&state, 0), "example 10");
+    expect_pair(&written, &written, &[0, 0], "example 10");
+    let p = basin::Parameters {
+        w: 1,
+        n: 1,
+        kind: 0,
+        g: 9_810,
+        c: 10,
+        r: 1_000,
+    };
+    assert_eq!(p.record_len(), 56);
+}
+
+#[test]
+fn lengths_of_records_and_work_spaces_do_not_overflow() {
+    let lengths = |w, n| {
+        let p = basin::Parameters {
+            w,
+            n,
+            kind: 0,
+            g: 0,
+            c: 0,
+            r: 0,
+        };
+        [p.record_len(), p.work_len()]
+    };
+    assert_eq!(lengths(64, 64), [49_196, 32_768]);
+    assert_eq!(lengths(0, 7), [44, 0]);
+    for (w, n) in [(1 << 32, 1 << 32), (usize::MAX, 1), (1, usize::MAX / 8)] {
+        assert_eq!(lengths(w, n)[0], usize::MAX, "{w} {n}");
+    }
+}
+
+/// Calls `visit` with every order of the fields from `from` on.
+fn every_order(fields: &mut [Vec<u8>], from: usize, visit: &mut impl FnMut(&[Vec<u8>])) {
+    if from == fields.len() {
+        return visit(fields);
+    }
+    for k in from..fields.len() {
+        fields.swap(from, k);
+        every_order(fields, from + 1, visit);
+        fields.swap(from, k);
+    }
+}
+
+#[test]
+fn tags_in_every_order_of_small_grids() {
+    let mut random = Random::new(61);
+    let mut orders = 0;
+    for state in [Case::example_2().state(), two_cells(), basin()] {
+        let rising = written(&state, TIMESTAMP, "an order");
+        let cells = state.h.len();
+        let mut neighbour = state.clone();
+        neighbour.h[cells - 1] += 1;
+        let neighbour = record_of(&neighbour, TIMESTAMP);
+        every_order(&mut record_fields(&state, TIMESTAMP), 0, &mut |fields| {
+            let record = fields.concat();
+            let lent = Lent::any(&mut random, cells);
+            expect_state(&record, lent, (&state, TIMESTAMP), "an order");
+            expect_pair(&rising, &record, &[0, 0], "an order");
+            expect_pair(&record, &neighbour, &[0, 3], "an order");
+            orders += 1;
+        });
+    }
+    assert_eq!(orders, 3 * 5_040);
+}
+
+#[test]
+fn records_of_every_size_are_written_and_read_to_the_last_cell() {
+    let mut random = Random::new(62);
+    let mut kinds = [0; 3];
+    for w in 1..=64 {
+        for n in 1..=64 {
+            let kind = random.below(3);
+            let spread = random.pick(&SPREADS);
+            let state = random_state(&mut random, spread, (w, n), kind as u8);
+            let timestamp = random_timestamp(&mut random);
+            let rising = written(&state, timestamp, "a size");
+            assert_eq!(rising, record_of(&state, timestamp), "{state:?}");
+            let record = match random.below(2) {
+                0 => rising.clone(),
+                _ => shuffled(&mut random, &state, timestamp),
+            };
+            let lent = Lent::any(&mut random, w * n);
+            expect_state(&record, lent, (&state, timestamp), "a size");
+            expect_pair(&rising, &record, &[0, 0], "a size");
+            kinds[kind] += 1;
+
+            // A place too few for the last cell, in one field.
+            let mut short = lent;
+            short.fields[random.below(4)] = w * n - 1;
+            expect_read(&record, short, &[8], "a last place");
+            // Its number outside, and velocities on the last closed edges.
+            let refused = |random: &mut Random, (which, cell), number: i64, told: u64| {
+                let mut state = state.clone();
+                field(&mut state, which)[cell] = number;
+                let record = shuffled(random, &state, timestamp);
+                let told = [told, which as u64, cell as u64];
+                expect_read(&record, lent, &told, "a last cell");
+                expect_pair(&rising, &record, &of_record(&told, 2), "a last cell");
+            };
+            let which = random.below(4);
+            let (low, high) = BOUNDS[which];
+            let past = random.pick(&[low - 1, high + 1]);
+            refused(&mut random, (which, w * n - 1), past, 4);
+            if kind == 2 {
+                refused(&mut random, (U, (n - 1) * w), -1, 5);
+            }
+            if kind != 0 {
+                refused(&mut random, (V, w - 1), 1, 5);
+            }
+            // A depth there that is all that differs.
+            let mut other = state.clone();
+            let depth = &mut other.h[w * n - 1];
+            *depth += if *depth == BOUNDS[0].1 { -1 } else { 1 };
+            let other = shuffled(&mut random, &other, timestamp);
+            expect_pair(&rising, &other, &[0, 3], "a last cell");
+        }
+    }
+    assert!(kinds.iter().all(|&k| k > 1_000), "{kinds:?}");
+}
+
+#[test]
+fn what_was_written_reads_back_and_what_was_read_writes_back() {
+    let seed = 63;
+    let mut random = Random::new(seed);
+    // By kind; with tags that rise; with every constant at a bound.
+    let (mut kinds, mut rising_tags, mut at_bounds) = ([0; 3], 0, 0);
+    for number in 0..12_000 {
+        let at = format!("seed {seed}, case {number}");
+        let state = any_state(&mut random);
+        let timestamp = random_timestamp(&mut random);
+        let rising = written(&state, timestamp, &at);
+        let record = shuffled(&mut random, &state, timestamp);
+        let mut lent = Lent::any(&mut random, state.h.len());
+        lent.constants = 3;
+        for record in [&rising, &record] {
+            let outcome = compare_read(record, lent, &at);
+            let read = outcome.state().expect("three constants are enough");
+            assert_eq!(read, (state.clone(), timestamp), "{at}: {}", hex(record));
+            // From another order the tags rise again.
+            assert_eq!(written(&read.0, read.1, &at), rising, "{at}");
+        }
+        kinds[usize::from(state.parameters.kind)] += 1;
+        rising_tags += usize::from(record == rising);
+        let Parameters { g, c, r, .. } = state.parameters;
+        let ends = [1, 10_000].contains(&g) && c.abs() == 10_000;
+        at_bounds += usize::from(ends && [1_000, 1_000_000].contains(&r));
+    }
+    println!("{kinds:?} {rising_tags} {at_bounds}");
+    assert!(kinds.iter().all(|&k| k > 3_000), "{kinds:?}");
+    assert!(at_bounds > 2_000 && rising_tags > 0);
+}
+
+#[test]
+fn timestamps_of_every_bit_are_kept_and_compared_without_a_sign() {
+    let mut stamps = vec![0, 2, 3, u64::MAX, u64::MAX - 1, TIMESTAMP];
+    stamps.extend((0..64).map(|bit| 1 << bit));
+    stamps.extend((0..64).map(|bit| u64::MAX >> bit));
+    let state = two_cells();
+    let mut other = two_cells();
+    other.v[1] = -5_000;
+    for &stamp in &stamps {
+        let record = written(&state, stamp, "a timestamp");
+        expect_state(&record, Lent::enough(2), (&state, stamp), "a timestamp");
+        for &later in &stamps {
+            let told = answer_for(stamp, later, true);
+            let same = record_of(&state, later);
+            expect_pair(&record, &same, &[0, told], "a timestamp");
+            let told = answer_for(stamp, later, false);
+            let other = record_of(&other, later);
+            expect_pair(&record, &other, &[0, told], "a timestamp");
+        }
+    }
+}
+
+#[test]
+fn only_what_fits_of_constants_and_answer_is_written() {
+    let good = record_of(&two_cells(), TIMESTAMP);
+    let with = |change: fn(&mut State)| {
+        let mut state = two_cells();
+        change(&mut state);
+        record_of(&state, TIMESTAMP)
+    };
+    let records = [
+        good.clone(),
+        with(|s| s.parameters.kind = 3),
+        with(|s| s.b.push(0)),
+        with(|s| s.parameters.c = 10_001),
+        with(|s| s.u[1] = 5_001),
+        with(|s| s.parameters.kind = 2),
+        good[..60].to_vec(),
+    ];
+    let mut met = [0; 9];
+    for record in &records {
+        for constants in 0..=5 {
+            for room in 0..=7 {
+                for cells in [1, 2] {
+                    let lent = Lent {
+                        constants,
+                        room,
+                        ..Lent::enough(cells)
+                    };
+                    let told = compare_read(record, lent, "room").told;
+                    met[told[0] as usize] += 1;
+                }
+                compare_pair(record, &good, room, "room");
+                compare_pair(&good, record, room, "room");
+            }
+        }
+    }
+    assert!([0, 1, 2, 3, 4, 5, 7, 8].iter().all(|&k| met[k] > 40));
+}
+
+// ---- comparison
+
+/// What a comparison of two good records tells after its 0.
+fn answer_for(time: u64, other_time: u64, same: bool) -> u64 {
+    match time.cmp(&other_time) {
+        Ordering::Greater => 1,
+        Ordering::Less => 2,
+        Ordering::Equal if same => 0,
+        Ordering::Equal => 3,
+    }
+}
+
+/// What it tells with the two the other way round.
+fn turned(answer: u64) -> u64 {
+    [0, 2, 1, 3][answer as usize]
+}
+
+/// States that differ from the basin in one part each, all within the limits.
+fn neighbours() -> Vec<State> {
+    let mut neighbours = vec![];
+    let changes: [fn(&mut Parameters); 7] = [
+        |p| (p.w, p.n) = (2, 3),
+        |p| p.kind = 0,
+        |p| p.kind = 1,
+        |p| p.g += 1,
+        |p| p.g -= 256,
+        |p| p.c = -p.c,
+        |p| p.r -= 65_536,
+    ];
+    for change in changes {
+        let mut state = basin();
+        change(&mut state.parameters);
+        if state.parameters.w == 2 {
+            // At rest, so that no edge is closed to it.
+            state.u.fill(0);
+            state.v.fill(0);
+        }
+        neighbours.push(state);
+    }
+    for which in 0..4 {
+        for cell in 0..6 {
+            for by in [1, -1, 256, 2_048] {
+                let mut state = basin();
+                field(&mut state, which)[cell] += by;
+                if within_limits(&state) {
+                    neighbours.push(state);
+                }
+            }
+            // A velocity the other way.
+            let mut state = basin();
+            let number = &mut field(&mut state, which)[cell];
+            *number = -*number;
+            if within_limits(&state) && state != basin() {
+                neighbours.push(state);
+            }
+        }
+    }
+    neighbours
+}
+
+#[test]
+fn states_that_differ_in_one_part_are_told_apart() {
+    let mut random = Random::new(68);
+    let neighbours = neighbours();
+    let mut still = basin();
+    still.u.fill(0);
+    still.v.fill(0);
+    let mut by_answer = [0; 4];
+    for state in &neighbours {
+        assert!(within_limits(state), "{state:?}");
+        // The one with its sides changed differs from the still one alone.
+        let from = if state.parameters.w == 2 {
+            &still
+        } else {
+            &basin()
+        };
+        for (time, other_time) in [(5, 5), (5, 4), (4, 5), (0, u64::MAX), (u64::MAX, 1 << 63)] {
+            let told = answer_for(time, other_time, false);
+            for _ in 0..4 {
+                let first = shuffled(&mut random, from, time);
+                let second = shuffled(&mut random, state, other_time);
+                expect_pair(&first, &second, &[0, told], "neighbours");
+                by_answer[told as usize] += 1;
+                expect_pair(&second, &first, &[0, turned(told)], "neighbours");
+                // The same state in another order.
+                let again = shuffled(&mut random, state, other_time);
+                expect_pair(&second, &again, &[0, 0], "the same");
+                by_answer[0] += 1;
+            }
+        }
+    }
+    println!("{} {by_answer:?}", neighbours.len());
+    assert!(neighbours.len() > 60, "{}", neighbours.len());
+    assert!(by_answer.iter().all(|&k| k > 200), "{by_answer:?}");
+}
+
+#[test]
+fn the_first_record_is_tested_wholly_before_the_second() {
+    let good = |time| record_of(&basin(), time);
+    let bad = |time: u64| {
+        let with = |change: fn(&mut State)| {
+            let mut state = basin();
+            change(&mut state);
+            record_of(&state, time)
+        };
+        let whole = good(time);
+        let records: [(Vec<u8>, &[u64]); 13] = [
+            (vec![], &[7, 0]),
+            (whole[..1].to_vec(), &[7, 0]),
+            (whole[..115].to_vec(), &[7, 101]),
+            ([&whole[..], &[1]].concat(), &[7, 116]),
+            (whole[..101].to_vec(), &[7, 101]),
+            (with(|s| s.parameters.n = 65), &[1]),
+            (with(|s| s.u.push(0)), &[2]),
+            (with(|s| s.parameters.r = 999), &[3]),
+            (with(|s| s.parameters.g = 10_001), &[3]),
+            (with(|s| s.v[5] = -5_001), &[4, 3, 5]),
+            (with(|s| s.h[3] = 999), &[4, 0, 3]),
+            (with(|s| s.u[3] = 1), &[5, 2, 3]),
+            (with(|s| s.v[2] = -1), &[5, 3, 2]),
+        ];
+        records.map(|(record, told)| (record, told.to_vec()))
+    };
+    let times = [0, 5, u64::MAX];
+    let mut pairs = 0;
+    for time in times {
+        for other_time in times {
+            for (record, told) in bad(time) {
+                let first = of_record(&told, 1);
+                let second = of_record(&told, 2);
+                expect_pair(&record, &good(other_time), &first, "the first refused");
+                expect_pair(&good(other_time), &record, &second, "the second refused");
+                for (other, _) in bad(other_time) {
+                    expect_pair(&record, &other, &first, "both refused");
+                    pairs += 1;
+                }
+            }
+        }
+    }
+    assert_eq!(pairs, 9 * 13 * 13);
+}
+
+#[test]
+fn random_pairs_are_compared_alike_and_the_other_way_round() {
+    let seed = 69;
+    let mut random = Random::new(seed);
+    let mut by_answer = [0; 4];
+    for number in 0..15_000 {
+        let at = format!("seed {seed}, case {number}");
+        let first = any_state(&mut random);
+        let mut second = first.clone();
+        if random.once_in(2) {
+            // One number moved, where it may be.
+            let which = random.below(4);
+            let numbers = field(&mut second, which);
+            let cell = random.below(numbers.len());
+            numbers[cell] += random.pick(&[-1, 1, 256, -256, 2_048]);
+            if !within_limits(&second) {
+                second = first.clone();
+            }
+        } else if random.once_in(8) {
+            second = any_state(&mut random);
+        }
+        let time = random_timestamp(&mut random);
+        let other_time = match random.below(5) {
+            0..=2 => time,
+            3 => time ^ 1 << random.below(64),
+            _ => random_timestamp(&mut random),
+        };
+        let told = answer_for(time, other_time, first == second);
+        let one = shuffled(&mut random, &first, time);
+        let other = shuffled(&mut random, &second, other_time);
+        expect_pair(&one, &other, &[0, told], &at);
+        expect_pair(&other, &one, &[0, turned(told)], &at);
+        // The same bytes lent twice.
+        assert_eq!(basin::compare(&one, &one), Ok(basin::Comparison::Same));
+        by_answer[told as usize] += 1;
+    }
+    println!("{by_answer:?}");
+    assert!(by_answer.iter().all(|&k| k > 1_500), "{by_answer:?}");
+}
+
+// ---- records changed at random
+
+/// A byte that means something in a record, or any.
+fn byte(random: &mut Random) -> u8 {
+    match random.below(3) {
+        0 => random.next() as u8,
+        1 => random.below(9) as u8,
+        _ => random.pick(&[0, 64, 65, 0x7F, 0x80, 0xEC, 0xFF]),
+    }
+}
+
+fn any_small_state(random: &mut Random) -> State {
+    let size = match random.below(8) {
+        0 => (1, 1),
+        1 => (1 + random.below(20), 1 + random.below(5)),
+        _ => (1 + random.below(4), 1 + random.below(4)),
+    };
+    let (spread, kind) = (random.pick(&SPREADS), random.below(3) as u8);
+    random_state(random, spread, size, kind)
+}
+
+/// Changes a number, a side, the kind, or the length of a field. The state may
+/// stay within the limits.
+fn change_state(random: &mut Random, state: &mut State) {
+    let near = |random: &mut Random, (low, high): (i64, i64)| {
+        random.pick(&[low - 1, low, high, high + 1, high + (1 << 14)])
+    };
+    let p = &mut state.parameters;
+    let (w, side) = (p.w, random.pick(&[0, 1, p.w, p.n, 64, 65, 255]));
+    match random.below(12) {
+        0 => p.w = side,
+        1 => p.n = side,
+        2 => p.kind = random.pick(&[0, 1, 2, 3, 0x82, 0xFF]),
+        3 => p.g = near(random, (1, 10_000)),
+        4 => p.c = near(random, (-10_000, 10_000)),
+        5 => p.r = near(random, (1_000, 1_000_000)),
+        6 => {
+            let which = random.below(4);
+            let numbers = field(state, which);
+            let length = (numbers.len() + random.below(3)).saturating_sub(1);
+            numbers.resize(length, 1_000);
+        }
+        7..=9 => {
+            let which = random.below(4);
+            let number = near(random, BOUNDS[which]);
+            let numbers = field(state, which);
+            let cell = random.below(numbers.len().max(1));
+            if let Some(place) = numbers.get_mut(cell) {
+                *place = number;
+            }
+        }
+        _ => {
+            // A velocity, mostly on a wall where there is one.
+            let which = random.pick(&[U, V]);
+            let cell = match which {
+                U => w * random.below(4),
+                _ => random.below(w + 1),
+            };
+            if let Some(place) = field(state, which).get_mut(cell) {
+                *place = random.pick(&[-5_000, -1, 1, 300]);
+            }
+        }
+    }
+}
+
+/// Changes the row of fields: one twice, one less, or its tag, length or bytes.
+fn change_fields(random: &mut Random, fields: &mut Vec<Vec<u8>>) {
+    let which = random.below(fields.len());
+    let field = fields[which].clone();
+    let length = field.len() as u16 - 3;
+    match random.below(6) {
+        0 => fields.insert(random.below(fields.len() + 1), field),
+        1 => drop(fields.remove(which)),
+        2 => fields[which][0] = byte(random),
+        3 => {
+            // The length alone, of which the bytes are not changed.
+            let bit = 1 << random.below(16);
+            let lengths = [length ^ bit, length + 1, length.wrapping_sub(1)];
+            let near = random.pick(&lengths);
+            let length = random.pick(&[near, near, 0, 3, 8, 12, 0xFFFF]);
+            fields[which][1..3].copy_from_slice(&length.to_be_bytes());
+        }
+        4 => {
+            let mut value = field[3..].to_vec();
+            let lengths = [
+                value.len() + 1,
+                value.len() + 4,
+                value.len().saturating_sub(1),
+            ];
+            value.resize(random.pick(&lengths), 0);
+            fields[which] = record_field(field[0], &value);
+        }
+        _ => fields[which] = (0..random.below(12)).map(|_| byte(random)).collect(),
+    }
+}
+
+/// Changes, puts in or takes away some bytes.
+fn change_bytes(random: &mut Random, record: &mut Vec<u8>) {
+    let place = random.below(record.len() + 1);
+    match random.below(6) {
+        0 | 1 if place == record.len() => {}
+        0 => record[place] ^= 1 << random.below(8),
+        1 => record[place] = byte(random),
+        2 => drop(record.drain(place..(place + 1).min(record.len()))),
+        3 => record.insert(place, byte(random)),
+        4 => record.truncate(place),
+        _ => {
+            let more = random.pick(&[1, 2, 3, 4, 7]);
+            record.extend((0..more).map(|_| byte(random)));
+        }
+    }
+}
+
+/// How often what happened.
+#[derive(Debug, Default)]
+struct Coverage {
+    records: usize,
+    /// Reads by number.
+    read: [usize; 9],
+    /// 7 at the front, within, and at the record's length.
+    damage: [usize; 3],
+    /// 4 and 5 by field.
+    fields: [[usize; 4]; 2],
+    /// Comparisons by answer, and by refused record, then number.
+    answers: [usize; 4],
+    refused: [[usize; 9]; 2],
+    /// Accepted though a byte was changed, and in another order than the
+    /// writer's.
+    accepted: [usize; 2],
+}
+
+impl Coverage {
+    fn count_read(&mut self, record: &[u8], told: &[u64]) {
+        self.records += 1;
+        self.read[told[0] as usize] += 1;
+        match *told {
+            [7, 0] => self.damage[0] += 1,
+            [7, offset] => self.damage[1 + usize::from(offset as usize == record.len())] += 1,
+            [number @ (4 | 5), field, _] => {
+                self.fields[number as usize - 4][field as usize] += 1;
+            }
+            _ => {}
+        }
+    }
+
+    fn count_pair(&mut self, told: &[u64]) {
+        match *told {
+            [0, answer] => self.answers[answer as usize] += 1,
+            [number, record, ..] => {
+                self.refused[record as usize - 1][number as usize] += 1;
+            }
+            _ => panic!("{told:?} is told by no comparison"),
+        }
+    }
+
+    fn assert_enough(&self) {
+        let often = |counts: &[usize], least: usize, what: &str| {
+            assert!(counts.iter().all(|&k| k >= least), "{what}: {self:#?}");
+        };
+        assert!(self.records >= 150_000, "{self:#?}");
+        for number in [0, 1, 2, 3, 4, 5, 7, 8] {
+            often(&self.read[number..=number], 2_000, "reads");
+        }
+        often(&self.damage, 2_000, "damage");
+        often(&self.fields[0], 500, "a 4 by field");
+        often(&self.fields[1][U..], 500, "a 5 by field");
+        often(&self.answers, 500, "answers");
+        for number in [1, 2, 3, 4, 5, 7] {
+            for refused in self.refused {
+                often(&refused[number..=number], 500, "refused records");
+            }
+        }
+        often(&self.accepted[..1], 300, "accepted, though changed");
+        often(&self.accepted[1..], 2_000, "accepted in any order");
+    }
+}
+
+#[test]
+fn records_changed_at_random_are_answered_alike() {
+    let mut coverage = Coverage::default();
+    for seed in 71..=74 {
+        let mut random = Random::new(seed);
+        let mut last = record_of(&two_cells(), 0);
+        for number in 0..50_000 {
+            let mut state = any_small_state(&mut random);
+            let cells = state.h.len();
+            let timestamp = match random.below(2) {
+                0 => random.pick(&[0, 1]),
+                _ => random_timestamp(&mut random),
+            };
+            let good = shuffled(&mut random, &state, timestamp);
+            let times = random.pick(&[0, 1, 1, 2, 3]);
+            (0..times).for_each(|_| change_state(&mut random, &mut state));
+            let rising = record_of(&state, timestamp);
+            let mut fields = record_fields(&state, timestamp);
+            if !random.once_in(4) {
+                shuffle(&mut random, &mut fields);
+            }
+            if random.once_in(4) {
+                change_fields(&mut random, &mut fields);
+            }
+            let mut record = fields.concat();
+            let unchanged = record.clone();
+            if random.once_in(4) {
+                let times = 1 + random.below(3);
+                (0..times).for_each(|_| change_bytes(&mut random, &mut record));
+            } else if random.once_in(12) {
+                // Bytes that never were a record.
+                let length = random.below(80);
+                record = (0..length).map(|_| byte(&mut random)).collect();
+            }
+            let mut lent = Lent::any(&mut random, cells);
+            if random.once_in(12) {
+                lent.fields[random.below(4)] = random.below(cells + 1);
+            }
+
+            let at = format!("seed {seed}, case {number}");
+            let told = compare_read(&record, lent, &at).told;
+            coverage.count_read(&record, &told);
+            let accepted = told[0] == 0;
+            let accepted = [record != unchanged, record != rising].map(|other| accepted && other);
+            add(&mut coverage.accepted, accepted);
+            // With the record it was made from, and with the last one.
+            let room = random.below(6);
+            for other in [&good, &last] {
+                let told = compare_pair(&record, other, room, &at);
+                coverage.count_pair(&told);
+                let told = compare_pair(other, &record, room, &at);
+                coverage.count_pair(&told);
+            }
+            last = record;
+        }
+    }
+    println!("{coverage:?}");
+    coverage.assert_enough();
+}

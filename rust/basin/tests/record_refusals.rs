@@ -1,0 +1,775 @@
+//! What reading a record is refused with, by the proved library and by the
+//! independent version: every kind of damage at every place (7); every byte of a
+//! small record set to any, taken out, put in; every w, n and kind (1); other
+//! lengths than the grid's (2); destinations too short (8); every bound from
+//! both sides (3, 4); every closed edge (5); and of two causes the first, in the
+//! order 7, 1, 2, 8, 3, 4, 5. A comparison is refused for the same, but for 8.
+//!
+//! As in record.rs, all that is told and all that is lent is compared.
+
+mod cases;
+
+use cases::common::{record_field, record_fields, record_of, Random};
+use cases::records::{basin, two_cells, TIMESTAMP};
+use cases::records::{compare_pair, compare_read, expect_read, expect_refused, expect_state};
+use cases::records::{field, hex, of_record, shuffle, shuffled, told_for, Lent};
+use cases::{BOUNDS, U, V};
+use reference::{Parameters, State};
+
+// ---- damage
+
+/// The fields of the two cells' record, rising, falling and in a third order.
+fn three_orders() -> [Vec<Vec<u8>>; 3] {
+    let rising = record_fields(&two_cells(), TIMESTAMP);
+    let falling = rising.iter().rev().cloned().collect();
+    let third = [3, 6, 0, 4, 2, 5, 1].map(|k: usize| rising[k].clone());
+    [rising, falling, third.to_vec()]
+}
+
+#[test]
+fn a_record_cut_off_anywhere_is_refused() {
+    // Cut off within a field, and between two.
+    let mut cuts = [0; 2];
+    let larger = record_fields(&basin(), TIMESTAMP);
+    for fields in three_orders().into_iter().chain([larger]) {
+        // Each field is the last of some record.
+        for turn in 0..7 {
+            let mut fields = fields.clone();
+            fields.rotate_left(turn);
+            let record = fields.concat();
+            let mut start = 0;
+            let mut starts: Vec<_> = fields
+                .iter()
+                .map(|field| {
+                    start += field.len();
+                    start - field.len()
+                })
+                .collect();
+            starts.push(start);
+            for length in 0..record.len() {
+                // Where a tag is missing, the length is told.
+                let offset = starts.iter().filter(|&&start| start <= length).max();
+                let offset = *offset.expect("0 is one");
+                expect_refused(&record[..length], &[7, offset as u64], "cut off");
+                cuts[usize::from(offset == length)] += 1;
+            }
+        }
+    }
+    println!("{cuts:?}");
+    assert_eq!(cuts[1], 4 * 7 * 7);
+    assert!(cuts[0] > 2_000, "{cuts:?}");
+}
+
+#[test]
+fn one_or_two_bytes_left_are_refused() {
+    for fields in three_orders() {
+        for count in 0..=7 {
+            let record = fields[..count].concat();
+            let offset = record.len() as u64;
+            for byte in 0..=255 {
+                let rests: [&[u8]; 3] = [&[byte], &[byte, 0], &[1, byte]];
+                for rest in rests {
+                    let record = [&record, rest].concat();
+                    expect_refused(&record, &[7, offset], "bytes left");
+                }
+            }
+        }
+    }
+}
+
+#[test]
+fn every_bit_flipped_and_every_byte_set_to_any() {
+    // By number, of flips and of bytes.
+    let mut met = [[0; 9]; 2];
+    let good = record_of(&two_cells(), TIMESTAMP);
+    let mut channel = basin();
+    channel.parameters.kind = 1;
+    let channel = record_of(&channel, 1 << 63);
+    let mut check = |record: &[u8], which: usize| {
+        let told = compare_read(record, Lent::enough(6), "a byte").told;
+        met[which][told[0] as usize] += 1;
+        let as_first = compare_pair(record, &good, 4, "a byte");
+        let as_second = compare_pair(&good, record, 4, "a byte");
+        if told[0] != 0 {
+            assert_eq!(as_first, of_record(&told, 1), "{}", hex(record));
+            assert_eq!(as_second, of_record(&told, 2), "{}", hex(record));
+        }
+    };
+    let orders = three_orders().map(|fields| fields.concat());
+    for record in orders.iter().chain([&channel]) {
+        for place in 0..record.len() {
+            for bit in 0..8 {
+                let mut record = record.clone();
+                record[place] ^= 1 << bit;
+                check(&record, 0);
+            }
+        }
+    }
+    for record in &orders {
+        for place in 0..record.len() {
+            for byte in 0..=255 {
+                let mut record = record.clone();
+                record[place] = byte;
+                check(&record, 1);
+            }
+        }
+    }
+    println!("{met:?}");
+    assert_eq!(met[0].iter().sum::<usize>(), 8 * (3 * 68 + 116));
+    assert_eq!(met[1].iter().sum::<usize>(), 256 * 3 * 68);
+    for met in met {
+        assert!([0, 1, 3, 4, 7].iter().all(|&k| met[k] > 40), "{met:?}");
+    }
+}
+
+#[test]
+fn a_byte_taken_out_or_put_in_anywhere() {
+    let mut refused = 0;
+    for fields in three_orders() {
+        let record = fields.concat();
+        for place in 0..=record.len() {
+            if place < record.len() {
+                let mut shorter = record.clone();
+                shorter.remove(place);
+                let told = compare_read(&shorter, Lent::enough(6), "taken out").told;
+                assert_ne!(told[0], 0, "{}", hex(&shorter));
+            }
+            for byte in 0..=255 {
+                let mut longer = record.clone();
+                longer.insert(place, byte);
+                let told = compare_read(&longer, Lent::enough(6), "put in").told;
+                assert_ne!(told[0], 0, "{}", hex(&longer));
+                refused += 1;
+            }
+        }
+    }
+    assert_eq!(refused, 3 * 69 * 256);
+}
+
+#[test]
+fn an_unknown_tag_is_refused_at_every_place() {
+    for fields in three_orders() {
+        for tag in (0..=255).filter(|tag| !(1..=7).contains(tag)) {
+            for place in 0..=7 {
+                let offset = fields[..place].concat().len() as u64;
+                // For a field, and between two.
+                let mut instead = fields.clone();
+                if place < 7 {
+                    instead[place][0] = tag;
+                    expect_refused(&instead.concat(), &[7, offset], "an unknown tag");
+                }
+                let mut between = fields.clone();
+                let length = usize::from(tag % 5);
+                between.insert(place, record_field(tag, &vec![1; length]));
+                expect_refused(&between.concat(), &[7, offset], "an unknown tag between");
+            }
+        }
+    }
+}
+
+#[test]
+fn a_repeated_tag_is_refused_at_every_place() {
+    let mut other = two_cells();
+    (other.h[0], other.b[0], other.u[0], other.v[0]) = (5_000, 5, 5, 5);
+    let others = record_fields(&other, 9);
+    for fields in three_orders() {
+        for again in 0..7 {
+            let tag = fields[again][0];
+            let repeats = [
+                fields[again].clone(),
+                // With another value, none, one past the end, a wrong length.
+                others[usize::from(tag) - 1].clone(),
+                record_field(tag, &[]),
+                vec![tag, 0xFF, 0xFF],
+                record_field(tag, &[1; 5]),
+            ];
+            for repeat in repeats {
+                for place in again + 1..=7 {
+                    let offset = fields[..place].concat().len() as u64;
+                    let mut damaged = fields.clone();
+                    damaged.insert(place, repeat.clone());
+                    expect_refused(&damaged.concat(), &[7, offset], "a repeated tag");
+                    // For another field, which is then missing.
+                    if place < 7 {
+                        damaged.remove(place + 1);
+                        expect_refused(&damaged.concat(), &[7, offset], "a repeat instead");
+                    }
+                }
+            }
+        }
+        // Before the first as well: then the first is the second.
+        for again in 0..7 {
+            let mut damaged = fields.clone();
+            damaged.insert(0, fields[again].clone());
+            let offset = damaged[..=again].concat().len() as u64;
+            expect_refused(&damaged.concat(), &[7, offset], "a tag before");
+        }
+    }
+}
+
+#[test]
+fn a_value_past_the_end_is_refused() {
+    for fields in three_orders() {
+        for turn in 0..7 {
+            let mut fields = fields.clone();
+            fields.rotate_left(turn);
+            let record = fields.concat();
+            let offset = record.len() - fields[6].len();
+            let length = fields[6].len() - 3;
+            let most = 0xFFFF - length;
+            for more in (1..=300).chain([most - 1, most]) {
+                let mut record = record.clone();
+                let length = (length + more) as u16;
+                record[offset + 1..offset + 3].copy_from_slice(&length.to_be_bytes());
+                expect_refused(&record, &[7, offset as u64], "a value past the end");
+            }
+        }
+    }
+}
+
+#[test]
+fn huge_lengths_are_refused_at_every_place() {
+    let lengths = [
+        0x7FFF, 0x8000, 0x8001, 0xFF00, 0xFFFE, 0xFFFF, 0x0100, 0x0201,
+    ];
+    for fields in three_orders() {
+        for place in 0..7 {
+            let offset = fields[..place].concat().len();
+            for length in lengths {
+                let mut record = fields.concat();
+                record[offset + 1..offset + 3].copy_from_slice(&u16::to_be_bytes(length));
+                expect_refused(&record, &[7, offset as u64], "a huge length");
+                // The same with the bytes that it asks for: of h, b, u and v it
+                // is a 2.
+                let mut whole = fields.clone();
+                let tag = fields[place][0];
+                whole[place] = record_field(tag, &vec![0; length.into()]);
+                let told: &[u64] = match tag {
+                    1..=3 => &[7, offset as u64],
+                    _ => &[2],
+                };
+                expect_refused(&whole.concat(), told, "a huge value");
+            }
+        }
+    }
+    // As long as a record can be that is damaged nowhere, and then damaged at
+    // its end.
+    let mut fields = record_fields(&two_cells(), TIMESTAMP);
+    for field in &mut fields[3..] {
+        *field = record_field(field[0], &[0; 0xFFFF]);
+    }
+    let mut record = fields.concat();
+    expect_refused(&record, &[2], "the longest");
+    let length = record.len() as u64;
+    assert_eq!(length, 44 + 4 * 0xFFFF);
+    let last = fields.pop().expect("seven");
+    expect_refused(&fields.concat(), &[7, length - 3 - 0xFFFF], "no last field");
+    fields.push(last);
+    record.push(1);
+    expect_refused(&record, &[7, length], "a byte past the longest");
+    record.truncate(length as usize - 1);
+    expect_refused(&record, &[7, length - 3 - 0xFFFF], "a byte less");
+}
+
+#[test]
+fn tags_1_2_and_3_of_a_wrong_length_are_refused() {
+    for fields in three_orders() {
+        for place in 0..7 {
+            let tag = fields[place][0];
+            if tag > 3 {
+                continue;
+            }
+            let right = [3, 12, 8][usize::from(tag) - 1];
+            let offset = fields[..place].concat().len() as u64;
+            let value = &fields[place][3..];
+            for length in (0..300).chain([512 + right, 65_535]) {
+                if length == right {
+                    continue;
+                }
+                // What is there of the value is right.
+                let mut longer = value.to_vec();
+                longer.resize(length, 0);
+                let mut damaged = fields.clone();
+                damaged[place] = record_field(tag, &longer);
+                expect_refused(&damaged.concat(), &[7, offset], "a wrong length");
+            }
+        }
+    }
+}
+
+#[test]
+fn missing_tags_are_refused_at_the_records_length() {
+    let mut random = Random::new(64);
+    // The empty record is one of them.
+    for fields in three_orders() {
+        for set in 0..127 {
+            let mut some: Vec<_> = (0..7)
+                .filter(|k| set >> k & 1 == 1)
+                .map(|k| fields[k].clone())
+                .collect();
+            for _ in 0..3 {
+                let record = some.concat();
+                expect_refused(&record, &[7, record.len() as u64], "missing tags");
+                shuffle(&mut random, &mut some);
+            }
+        }
+    }
+}
+
+#[test]
+fn of_two_damages_the_first_in_the_record_is_told() {
+    type Damage = fn(&mut [Vec<u8>], usize);
+    let damages: [Damage; 4] = [
+        |fields, place| fields[place][0] |= 0x80,
+        |fields, place| fields[place][0] = fields[place - 1][0],
+        |fields, place| fields[place][1..3].fill(0xFF),
+        |fields, place| fields[place].truncate(2),
+    ];
+    let mut pairs = 0;
+    for fields in three_orders() {
+        for place in 1..7 {
+            for damage in damages {
+                let mut damaged = fields.clone();
+                damage(&mut damaged, place);
+                let offset = fields[..place].concat().len() as u64;
+                if damaged[place].len() == 2 {
+                    // They are left only where nothing follows.
+                    damaged.truncate(place + 1);
+                }
+                expect_refused(&damaged.concat(), &[7, offset], "damage");
+                // Any other behind it, a field missing there too.
+                for behind in place + 1..damaged.len() {
+                    for other in damages {
+                        let mut damaged = damaged.clone();
+                        other(&mut damaged, behind);
+                        expect_refused(&damaged.concat(), &[7, offset], "two damages");
+                        pairs += 1;
+                    }
+                    let mut missing = damaged.clone();
+                    missing.remove(behind);
+                    expect_refused(&missing.concat(), &[7, offset], "then one is missing");
+                }
+                // A field missing before it.
+                if place > 1 {
+                    let short = fields[0].len() as u64;
+                    let missing = damaged[1..].concat();
+                    expect_refused(&missing, &[7, offset - short], "one is missing before");
+                }
+            }
+        }
+    }
+    assert_eq!(pairs, 3 * 15 * 3 * 4);
+}
+
+// ---- refusals 1, 2, 8, 3, 4 and 5
+
+#[test]
+fn every_width_height_and_kind_is_known_or_not() {
+    let known = |byte: u8| (1..=64).contains(&byte);
+    // Every byte in each place, with as many cells as that makes, or some.
+    for byte in 0..=255 {
+        for other in [0, 1, 2, 64, 65, 255] {
+            for (w, n) in [(byte, other), (other, byte)] {
+                for kind in [0, 1, 2, 3, 128, 255] {
+                    let cells = match usize::from(w) * usize::from(n) {
+                        few @ 0..=130 => few,
+                        _ => 1,
+                    };
+                    let state = State {
+                        parameters: Parameters {
+                            w: w.into(),
+                            n: n.into(),
+                            kind,
+                            ..two_cells().parameters
+                        },
+                        h: vec![1_000; cells],
+                        b: vec![0; cells],
+                        u: vec![0; cells],
+                        v: vec![0; cells],
+                    };
+                    let record = record_of(&state, 5);
+                    let good = known(w) && known(n) && kind < 3;
+                    let fits = cells == usize::from(w) * usize::from(n);
+                    let told = match (good, fits) {
+                        (true, true) => told_for(&state, 5).to_vec(),
+                        (true, false) => vec![2],
+                        (false, _) => vec![1],
+                    };
+                    expect_read(&record, Lent::enough(130), &told, "a grid");
+                }
+            }
+        }
+        let mut state = basin();
+        state.parameters.kind = byte;
+        state.u.fill(0);
+        state.v.fill(0);
+        let told = match byte {
+            0..=2 => told_for(&state, 6).to_vec(),
+            _ => vec![1],
+        };
+        let record = record_of(&state, 6);
+        expect_read(&record, Lent::enough(6), &told, "a kind");
+    }
+}
+
+#[test]
+fn values_of_other_lengths_than_the_grids_are_a_2() {
+    let mut random = Random::new(65);
+    for state in [two_cells(), basin()] {
+        for which in 0..4 {
+            let bytes = [4, 4, 2, 2][which];
+            let right = bytes * state.h.len();
+            let lengths = (0..=2 * right + 4).chain([256 + right, 0x8000, 0xFFFF]);
+            for length in lengths {
+                let mut fields = record_fields(&state, TIMESTAMP);
+                let mut value = fields[3 + which][3..].to_vec();
+                value.resize(length, 0);
+                fields[3 + which] = record_field(4 + which as u8, &value);
+                shuffle(&mut random, &mut fields);
+                let record = fields.concat();
+                if length == right {
+                    let told = told_for(&state, TIMESTAMP);
+                    expect_read(&record, Lent::enough(6), &told, "a length");
+                } else {
+                    expect_refused(&record, &[2], "a length");
+                }
+            }
+        }
+        // All of them of one length that is wrong: a cell less or more, none.
+        for cells in [0, state.h.len() - 1, state.h.len() + 1, 100] {
+            let mut other = state.clone();
+            (0..4).for_each(|which| field(&mut other, which).resize(cells, 1_000));
+            expect_refused(&record_of(&other, 1), &[2], "lengths");
+        }
+    }
+}
+
+#[test]
+fn destinations_of_fewer_places_are_refused() {
+    for (state, cells) in [(two_cells(), 2), (basin(), 6)] {
+        let record = record_of(&state, TIMESTAMP);
+        for which in 0..4 {
+            for length in 0..=2 * cells + 1 {
+                for others in [0, cells - 1, cells, cells + 1, 3 * cells] {
+                    let mut lent = Lent::enough(others);
+                    lent.fields[which] = length;
+                    if length.min(others) < cells {
+                        expect_read(&record, lent, &[8], "a destination");
+                    } else {
+                        expect_state(&record, lent, (&state, TIMESTAMP), "a destination");
+                    }
+                }
+            }
+        }
+    }
+}
+
+#[test]
+fn every_bound_of_a_field_is_exact_at_every_cell() {
+    let mut random = Random::new(66);
+    // By field: inside, outside, on a closed edge.
+    let mut met = [[0; 3]; 4];
+    for kind in 0..3 {
+        let mut still = basin();
+        still.parameters.kind = kind;
+        still.u.fill(0);
+        still.v.fill(0);
+        for which in 0..4 {
+            let (low, high) = BOUNDS[which];
+            let (least, most): (i64, i64) = match which {
+                0 | 1 => (i32::MIN.into(), i32::MAX.into()),
+                _ => (i16::MIN.into(), i16::MAX.into()),
+            };
+            let near = [low - 1, low, low + 1, -1, 0, 1, high - 1, high, high + 1];
+            // Those of four bytes whose low bytes are those of a number within.
+            let bits = [16, 17, 24, 31].map(|bit| 2_000 - (1 << bit));
+            let bits_too = [17, 20, 24, 30].map(|bit| 2_000 + (1 << bit));
+            let numbers = near.into_iter().chain([least, most]);
+            for number in numbers.chain(bits).chain(bits_too) {
+                if !(least..=most).contains(&number) {
+                    continue;
+                }
+                for cell in 0..6 {
+                    let mut state = still.clone();
+                    field(&mut state, which)[cell] = number;
+                    let inside = (low..=high).contains(&number);
+                    let closed = match which {
+                        U => kind == 2 && cell % 3 == 0,
+                        V => kind != 0 && cell < 3,
+                        _ => false,
+                    };
+                    let place = [which as u64, cell as u64];
+                    let (told, outcome) = match (inside, closed && number != 0) {
+                        (false, _) => (vec![4, place[0], place[1]], 1),
+                        (true, false) => (told_for(&state, 8).to_vec(), 0),
+                        (true, true) => (vec![5, place[0], place[1]], 2),
+                    };
+                    met[which][outcome] += 1;
+                    let record = shuffled(&mut random, &state, 8);
+                    if outcome == 0 {
+                        expect_state(&record, Lent::enough(6), (&state, 8), "a bound");
+                    } else {
+                        expect_refused(&record, &told, "a bound");
+                    }
+                }
+            }
+        }
+    }
+    println!("{met:?}");
+    for (which, [inside, outside, closed]) in met.into_iter().enumerate() {
+        assert!(inside > 50 && outside > 50, "{met:?}");
+        assert_eq!(closed > 10, which == U || which == V, "{met:?}");
+    }
+}
+
+#[test]
+fn every_bound_of_a_constant_is_exact() {
+    type Put = fn(&mut Parameters, i64);
+    let constants: [(i64, i64, Put); 3] = [
+        (1, 10_000, |p, g| p.g = g),
+        (-10_000, 10_000, |p, c| p.c = c),
+        (1_000, 1_000_000, |p, r| p.r = r),
+    ];
+    for (low, high, put) in constants {
+        let mut numbers = vec![low - 1, low, high, high + 1, -1, 0, i32::MIN.into()];
+        numbers.push(i32::MAX.into());
+        // A bit too many in a higher byte.
+        numbers.extend((14..31).flat_map(|bit| [(1 << bit) + 2_000, 2_000 - (1 << bit)]));
+        for number in numbers {
+            let mut state = two_cells();
+            put(&mut state.parameters, number);
+            let record = record_of(&state, 8);
+            if (low..=high).contains(&number) {
+                expect_state(&record, Lent::enough(2), (&state, 8), "a constant");
+            } else {
+                expect_refused(&record, &[3], "a constant");
+            }
+        }
+    }
+}
+
+#[test]
+fn closed_edges_are_those_of_01() {
+    for (w, n) in [(1, 1), (1, 3), (3, 1), (4, 3), (64, 2), (2, 64)] {
+        let mut closed = 0;
+        for kind in 0..3 {
+            let still = State {
+                parameters: Parameters {
+                    w,
+                    n,
+                    kind,
+                    ..two_cells().parameters
+                },
+                h: vec![1_000; w * n],
+                b: vec![0; w * n],
+                u: vec![0; w * n],
+                v: vec![0; w * n],
+            };
+            for which in [U, V] {
+                for cell in 0..w * n {
+                    let on_wall = match which {
+                        U => kind == 2 && cell % w == 0,
+                        _ => kind != 0 && cell < w,
+                    };
+                    closed += usize::from(on_wall);
+                    for velocity in [-5_000, -1, 1, 256, 5_000] {
+                        let mut state = still.clone();
+                        field(&mut state, which)[cell] = velocity;
+                        let record = record_of(&state, 8);
+                        if on_wall {
+                            let told = [5, which as u64, cell as u64];
+                            expect_read(&record, Lent::enough(w * n), &told, "an edge");
+                        } else {
+                            let lent = Lent::enough(w * n);
+                            expect_state(&record, lent, (&state, 8), "an edge");
+                        }
+                    }
+                }
+            }
+        }
+        // The south wall of kinds 1 and 2, and the west wall of kind 2.
+        assert_eq!(closed, 2 * w + n);
+    }
+}
+
+/// A cause of refusal that can be put into the basin of 3 by 2 cells, or into
+/// its record.
+#[derive(Clone, Copy, Debug, PartialEq)]
+enum Cause {
+    /// A byte past the record.
+    Damage,
+    /// A field of an unknown tag at the front.
+    DamageInFront,
+    Columns(usize),
+    Rows(usize),
+    Kind(u8),
+    /// A field of so many numbers.
+    Length(usize, usize),
+    /// A destination of so many places.
+    Destination(usize, usize),
+    Gravity(i64),
+    Coriolis(i64),
+    SpacingRate(i64),
+    /// A number outside, in this field at this cell.
+    Value(usize, usize, i64),
+    /// A velocity on a closed edge, in this field at this cell.
+    Edge(usize, usize),
+}
+
+impl Cause {
+    fn all() -> Vec<Self> {
+        let mut causes = vec![Cause::Damage, Cause::DamageInFront];
+        for side in [0, 65, 255] {
+            causes.extend([Cause::Columns(side), Cause::Rows(side)]);
+        }
+        // Known, but the lengths do not fit: a 2.
+        causes.extend([Cause::Columns(2), Cause::Rows(4)]);
+        causes.extend([3, 255].map(Cause::Kind));
+        for which in 0..4 {
+            causes.extend([0, 5, 7].map(|length| Cause::Length(which, length)));
+            causes.extend([0, 5].map(|length| Cause::Destination(which, length)));
+        }
+        causes.extend([0, 10_001].map(Cause::Gravity));
+        causes.extend([-10_001, 10_001].map(Cause::Coriolis));
+        causes.extend([999, 1_000_001].map(Cause::SpacingRate));
+        for (which, (low, high)) in BOUNDS[..4].iter().enumerate() {
+            for cell in [0, 2, 5] {
+                causes.extend([low - 1, high + 1].map(|x| Cause::Value(which, cell, x)));
+            }
+        }
+        causes.extend([0, 3].map(|cell| Cause::Edge(U, cell)));
+        causes.extend([0, 1, 2].map(|cell| Cause::Edge(V, cell)));
+        causes
+    }
+
+    fn put(self, state: &mut State, lent: &mut Lent, damage: &mut [bool; 2]) {
+        let mut put = |which: usize, cell: usize, x| {
+            // A shortened field may not have the cell.
+            if let Some(place) = field(state, which).get_mut(cell) {
+                *place = x;
+            }
+        };
+        match self {
+            Cause::Damage => damage[0] = true,
+            Cause::DamageInFront => damage[1] = true,
+            Cause::Value(which, cell, x) => put(which, cell, x),
+            Cause::Edge(which, cell) => put(which, cell, 1),
+            Cause::Columns(w) => state.parameters.w = w,
+            Cause::Rows(n) => state.parameters.n = n,
+            Cause::Kind(kind) => state.parameters.kind = kind,
+            Cause::Length(which, length) => field(state, which).resize(length, BOUNDS[which].0),
+            Cause::Destination(which, length) => lent.fields[which] = length,
+            Cause::Gravity(g) => state.parameters.g = g,
+            Cause::Coriolis(c) => state.parameters.c = c,
+            Cause::SpacingRate(r) => state.parameters.r = r,
+        }
+    }
+}
+
+/// What these causes make of the basin: its record in this order, and what is
+/// lent.
+fn with(causes: &[Cause], order: &[usize; 7]) -> (Vec<u8>, Lent) {
+    let (mut state, mut lent, mut damage) = (basin(), Lent::enough(6), [false; 2]);
+    for cause in causes {
+        cause.put(&mut state, &mut lent, &mut damage);
+    }
+    let fields = record_fields(&state, TIMESTAMP);
+    let mut record = order.map(|k| fields[k].clone()).concat();
+    if damage[1] {
+        record.splice(0..0, record_field(0, &[]));
+    }
+    if damage[0] {
+        record.push(1);
+    }
+    (record, lent)
+}
+
+#[test]
+fn of_two_causes_the_first_of_7_1_2_8_3_4_5_is_told() {
+    let rank = |told: &Vec<u64>| {
+        let order = [7, 1, 2, 8, 3, 4, 5, 0];
+        let rank = order.iter().position(|&number| number == told[0]);
+        (rank.expect("a number"), told.clone())
+    };
+    let mut random = Random::new(67);
+    let causes = Cause::all();
+    // By the two numbers that they are told by themselves.
+    let mut met = [[0; 9]; 9];
+    for &one in &causes {
+        for &other in &causes {
+            let mut order = [0, 1, 2, 3, 4, 5, 6];
+            for k in (1..7).rev() {
+                order.swap(k, random.below(k + 1));
+            }
+            let (record, lent) = with(&[one, other], &order);
+            if one != other && with(&[other], &order) == (record.clone(), lent) {
+                // Put over the first, so not two causes.
+                continue;
+            }
+            let alone = [one, other].map(|cause| {
+                let (record, lent) = with(&[cause], &order);
+                compare_read(&record, lent, "a cause").told
+            });
+            let [a, b] = alone.each_ref().map(|told| told[0] as usize);
+            met[a][b] += 1;
+            let told = compare_read(&record, lent, &format!("{one:?}, {other:?}")).told;
+            let first = alone.iter().min_by_key(|told| rank(told)).expect("two");
+            let at = format!("{one:?}, {other:?}: {} {lent:?}", hex(&record));
+            assert_eq!(told[0], first[0], "{at}");
+            // A byte past the record is told at its length, which the other
+            // cause may change.
+            if told[0] != 7 {
+                assert_eq!(told, *first, "{at}");
+            }
+            // A comparison is lent no destination.
+            let without: Vec<_> = alone.iter().filter(|told| told[0] != 8).collect();
+            let first = without.iter().min_by_key(|told| rank(told));
+            let good = record_of(&basin(), TIMESTAMP);
+            let pair = compare_pair(&record, &good, 4, "causes");
+            let number = first.map_or(0, |told| told[0]);
+            assert_eq!(pair[0], number, "{at}");
+        }
+    }
+    println!("{met:?}");
+    for one in [1, 2, 3, 4, 5, 7, 8] {
+        for other in [1, 2, 3, 4, 5, 7, 8] {
+            assert!(met[one][other] > 1, "{one} {other} {met:?}");
+        }
+    }
+}
+
+#[test]
+fn every_cause_of_a_basin_goes_in_the_order_7_1_2_8_3_4_5() {
+    // Bad in every way; each cause is then taken away in turn.
+    let causes = [
+        (Cause::DamageInFront, vec![7, 0]),
+        (Cause::Columns(0), vec![1]),
+        (Cause::Length(3, 7), vec![2]),
+        (Cause::Destination(3, 5), vec![8]),
+        (Cause::SpacingRate(999), vec![3]),
+        (Cause::Value(0, 5, 100_001), vec![4, 0, 5]),
+        (Cause::Value(1, 4, -1), vec![4, 1, 4]),
+        (Cause::Value(2, 1, 5_001), vec![4, 2, 1]),
+        (Cause::Value(3, 4, -5_001), vec![4, 3, 4]),
+        (Cause::Edge(U, 0), vec![5, 2, 0]),
+        (Cause::Edge(U, 3), vec![5, 2, 3]),
+        (Cause::Edge(V, 0), vec![5, 3, 0]),
+        (Cause::Edge(V, 2), vec![5, 3, 2]),
+    ];
+    let orders = [
+        [0, 1, 2, 3, 4, 5, 6],
+        [6, 5, 4, 3, 2, 1, 0],
+        [5, 6, 3, 4, 2, 0, 1],
+        [4, 3, 6, 5, 1, 2, 0],
+    ];
+    for order in orders {
+        for taken in 0..=causes.len() {
+            let left: Vec<_> = causes[taken..].iter().map(|(cause, _)| *cause).collect();
+            let (record, lent) = with(&left, &order);
+            match causes.get(taken) {
+                Some((_, told)) => expect_read(&record, lent, told, "causes"),
+                None => expect_read(&record, lent, &told_for(&basin(), TIMESTAMP), "none"),
+            };
+        }
+    }
+}
