@@ -32,7 +32,7 @@ four true true false d = refl
 four true false c d = refl
 four false b c d = refl
 
-pub rooms-least : {a b c d x y r : ℕ} → Least a b x → Least c d y → Least x y r → (m : ℕ) → roomTest m (r ∷ []) ≡ roomTest m (a ∷ b ∷ c ∷ d ∷ [])
+rooms-least : {a b c d x y r : ℕ} → Least a b x → Least c d y → Least x y r → (m : ℕ) → roomTest m (r ∷ []) ≡ roomTest m (a ∷ b ∷ c ∷ d ∷ [])
 unfolding roomTest
 rooms-least {a} {b} {c} {d} p q r m = ap (λ t. must t Destination) (ap (λ t. t && true) (r .room m ∙ ap₂ _&&_ (p .room m) (q .room m)) ∙ four (leb m a) (leb m b) (leb m c) (leb m d))
 

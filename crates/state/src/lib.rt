@@ -77,7 +77,7 @@ pub fn is_bad(t: Fault, x: i64, i: usize, j: usize) -> bool
 }
 
 // How many columns, from the first on, can have the fault, and how many rows: a wall stands along the first ones alone. They rule out,
-// for instance: the last column left out of a scan for values.
+// for instance: the last column left out of a scan for values; the south wall looked for at its first cell alone.
 pub fn columns_of(t: Fault, w: usize) -> usize
     ensures { λ r. ⌜ ColumnsOf t w r ⌝ }
 {

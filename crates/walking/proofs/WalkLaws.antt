@@ -52,7 +52,7 @@ module _ (t : ℕ) where
 
 -- ---- the places of the fields found so far
 
-pub seen-none : (rec : List ℕ) → Seen rec [] (replicate 8 (length rec))
+seen-none : (rec : List ℕ) → Seen rec [] (replicate 8 (length rec))
 seen-none rec =
     let n = length rec in
     let e : (t : ℕ) → t < 8 → getD (replicate 8 n) t 0 ≡ n = λ t h. getD-replicate 8 t n 0 h in
@@ -111,7 +111,7 @@ module _ {rec at : List ℕ} {k : ℕ} {parts : List Part} (s : Seen rec parts a
       subst (Stands rec more t) (sym q)
       (record { inside = o .inside; value = value-old t parts (partAt rec k) (s .found t h ∙ lt-ltb (getD at t 0) (length rec) l′) ∙ o .value; sized = o .sized })
 
-  pub seen-more : Seen rec more (set at tag k)
+  seen-more : Seen rec more (set at tag k)
   seen-more = record { long = length-set at tag k ∙ s .long; found = λ t. found-by t (eqb tag t) refl; stands = λ t. stands-by t (eqb tag t) refl }
 
 -- ---- the walk

@@ -53,7 +53,7 @@ module _ {s : List ℕ} {k i x y : ℕ} where
 -- ---- put
 
 -- one byte less
-pub rest-more : (x i : ℕ) → x / 256 ^ i / 256 ≡ x / 256 ^ suc i
+rest-more : (x i : ℕ) → x / 256 ^ i / 256 ≡ x / 256 ^ suc i
 rest-more x i = rw (pow-suc 256 i) (div-div-eq-div-mul x (256 ^ i) 256)
 
 -- all but the first `left` of the last `count` bytes of x stand at k + left on, and `rest` is what is left of x
@@ -90,7 +90,7 @@ module _ {d₀ : List ℕ} {k count x : ℕ} where
 
 -- ---- fields of numbers
 
-pub wide-of : (z : Size) → 2 ^ bits (widthOf z) ≡ 256 ^ sizeOf z
+wide-of : (z : Size) → 2 ^ bits (widthOf z) ≡ 256 ^ sizeOf z
 wide-of Two = refl
 wide-of Four = refl
 
@@ -139,10 +139,6 @@ number-is z m value i h = getD-tabulate m (λ k. signedBy z (take (sizeOf z) (dr
 
 pub numbers-long : (z : Size) (m : ℕ) (value : List ℕ) → length (numbersBy z m value) ≡ m
 numbers-long z m value = length-tabulate m (λ k. signedBy z (take (sizeOf z) (drop (k * sizeOf z) value)))
-
-pub size-most : (z : Size) → sizeOf z ≤ 4
-size-most Two = lit≤ tt
-size-most Four = lit≤ tt
 
 -- a number's place is at least its index
 pub place-least : (z : Size) (k : ℕ) → k ≤ k * sizeOf z

@@ -14,8 +14,8 @@ mod cases;
 use std::cmp::Ordering;
 
 use cases::common::{any_state, random_state, within_limits, Random, SPREADS};
-use cases::common::{record_field, record_fields, record_of};
-use cases::records::{basin, two_cells, TIMESTAMP};
+use cases::common::{every_order, record_field, record_fields, record_of, two_cells};
+use cases::records::{basin, TIMESTAMP};
 use cases::records::{compare_pair, compare_read, expect_pair, expect_read, expect_state};
 use cases::records::{field, hex, of_record, shuffle, shuffled, written, Lent};
 use cases::{add, random_timestamp, Case, BOUNDS, U, V};
@@ -61,18 +61,6 @@ fn lengths_of_records_and_work_spaces_do_not_overflow() {
     assert_eq!(lengths(0, 7), [44, 0]);
     for (w, n) in [(1 << 32, 1 << 32), (usize::MAX, 1), (1, usize::MAX / 8)] {
         assert_eq!(lengths(w, n)[0], usize::MAX, "{w} {n}");
-    }
-}
-
-/// Calls `visit` with every order of the fields from `from` on.
-fn every_order(fields: &mut [Vec<u8>], from: usize, visit: &mut impl FnMut(&[Vec<u8>])) {
-    if from == fields.len() {
-        return visit(fields);
-    }
-    for k in from..fields.len() {
-        fields.swap(from, k);
-        every_order(fields, from + 1, visit);
-        fields.swap(from, k);
     }
 }
 

@@ -9,8 +9,8 @@
 
 mod cases;
 
-use cases::common::{record_field, record_fields, record_of, Random};
-use cases::records::{basin, two_cells, TIMESTAMP};
+use cases::common::{record_field, record_fields, record_of, two_cells, Random};
+use cases::records::{basin, TIMESTAMP};
 use cases::records::{compare_pair, compare_read, expect_read, expect_refused, expect_state};
 use cases::records::{field, hex, of_record, shuffle, shuffled, told_for, Lent};
 use cases::{BOUNDS, U, V};

@@ -3,9 +3,9 @@
 
 mod common;
 
-use common::{any_state, random_state, record_field, record_fields, record_of, written};
-use common::{Random, Spread};
-use reference::{compare, read, CompareAnswer, Parameters, State};
+use common::{any_state, every_order, random_state, record_field, record_fields, record_of};
+use common::{two_cells, written, Random, Spread};
+use reference::{compare, read, CompareAnswer, State};
 
 /// A destination place that reading must not touch.
 const KEPT: i64 = -77;
@@ -45,23 +45,6 @@ fn assert_refused(record: &[u8], expected: &[i128], what: &str) {
     }
 }
 
-fn small_state() -> State {
-    State {
-        parameters: Parameters {
-            w: 2,
-            n: 1,
-            kind: 0,
-            g: 9_810,
-            c: -10,
-            r: 1_000,
-        },
-        h: vec![2_000, 3_000],
-        b: vec![0, 17],
-        u: vec![100, -1],
-        v: vec![-50, 5_000],
-    }
-}
-
 #[test]
 fn reading_what_was_written_gives_the_state_back() {
     let mut random = Random::new(100);
@@ -83,7 +66,7 @@ fn reading_what_was_written_gives_the_state_back() {
 
 #[test]
 fn writing_keeps_the_rest_of_its_destination() {
-    let state = small_state();
+    let state = two_cells();
     let p = &state.parameters;
     let mut out = vec![0xEE; 44 + 24 + 3];
     let answer = reference::write(p, &state.h, &state.b, &state.u, &state.v, 5, &mut out);
@@ -128,21 +111,9 @@ fn the_largest_record_has_49_196_bytes() {
     assert_eq!(h, state.h);
 }
 
-/// Calls `visit` with every order of the seven fields.
-fn every_order(fields: &mut [Vec<u8>], from: usize, visit: &mut impl FnMut(&[Vec<u8>])) {
-    if from == fields.len() {
-        return visit(fields);
-    }
-    for k in from..fields.len() {
-        fields.swap(from, k);
-        every_order(fields, from + 1, visit);
-        fields.swap(from, k);
-    }
-}
-
 #[test]
 fn tags_in_every_order_read_the_same() {
-    let state = small_state();
+    let state = two_cells();
     let rising = record_of(&state, 12);
     let expected = read_into(&rising, 3);
     assert_eq!(expected.0, told_for(&state, 12));
@@ -158,9 +129,9 @@ fn tags_in_every_order_read_the_same() {
 
 #[test]
 fn a_record_cut_off_anywhere_is_refused() {
-    let record = record_of(&small_state(), 12);
+    let record = record_of(&two_cells(), 12);
     let mut starts = vec![0];
-    for field in record_fields(&small_state(), 12) {
+    for field in record_fields(&two_cells(), 12) {
         starts.push(starts[starts.len() - 1] + field.len());
     }
     for length in 0..record.len() {
@@ -183,7 +154,7 @@ fn a_record_cut_off_anywhere_is_refused() {
 /// The fields of the small state with one of them replaced, and the offset of
 /// that one.
 fn with_field(place: usize, field: Vec<u8>) -> (Vec<u8>, usize) {
-    let mut fields = record_fields(&small_state(), 12);
+    let mut fields = record_fields(&two_cells(), 12);
     let offset = fields[..place].concat().len();
     fields[place] = field;
     (fields.concat(), offset)
@@ -191,7 +162,7 @@ fn with_field(place: usize, field: Vec<u8>) -> (Vec<u8>, usize) {
 
 #[test]
 fn one_or_two_bytes_left_are_refused() {
-    let whole = record_of(&small_state(), 12);
+    let whole = record_of(&two_cells(), 12);
     for rest in [&[1][..], &[0], &[9], &[1, 0], &[200, 200]] {
         let record = [&whole, rest].concat();
         let expected = [7, whole.len() as i128];
@@ -204,12 +175,12 @@ fn one_or_two_bytes_left_are_refused() {
 fn an_unknown_tag_is_refused() {
     for tag in (0..=255).filter(|tag| !(1..=7).contains(tag)) {
         for place in 0..7 {
-            let mut field = record_fields(&small_state(), 12)[place].clone();
+            let mut field = record_fields(&two_cells(), 12)[place].clone();
             field[0] = tag;
             let (record, offset) = with_field(place, field);
             assert_refused(&record, &[7, offset as i128], "unknown tag");
         }
-        let whole = record_of(&small_state(), 12);
+        let whole = record_of(&two_cells(), 12);
         let record = [whole.clone(), record_field(tag, &[])].concat();
         let expected = [7, whole.len() as i128];
         assert_refused(&record, &expected, "unknown tag at the end");
@@ -218,7 +189,7 @@ fn an_unknown_tag_is_refused() {
 
 #[test]
 fn a_repeated_tag_is_refused() {
-    let fields = record_fields(&small_state(), 12);
+    let fields = record_fields(&two_cells(), 12);
     for again in 0..7 {
         for place in 0..=7 {
             let mut damaged = fields.clone();
@@ -238,7 +209,7 @@ fn a_repeated_tag_is_refused() {
 
 #[test]
 fn a_value_past_the_end_is_refused() {
-    let fields = record_fields(&small_state(), 12);
+    let fields = record_fields(&two_cells(), 12);
     for last in 0..7 {
         let mut order = fields.clone();
         let field = order.remove(last);
@@ -271,7 +242,7 @@ fn tags_1_2_and_3_of_a_wrong_length_are_refused() {
 
 #[test]
 fn a_missing_tag_is_refused_at_the_records_length() {
-    let fields = record_fields(&small_state(), 12);
+    let fields = record_fields(&two_cells(), 12);
     // Every set of the seven but the whole one.
     for set in 0..127 {
         let record: Vec<u8> = (0..7)
@@ -285,14 +256,14 @@ fn a_missing_tag_is_refused_at_the_records_length() {
 
 #[test]
 fn the_first_bad_tag_is_reported() {
-    let fields = record_fields(&small_state(), 12);
+    let fields = record_fields(&two_cells(), 12);
     // Field 2 unknown, field 5 of a wrong length, the last one missing.
     let mut damaged = fields[..6].to_vec();
     damaged[2][0] = 99;
     let offset = fields[..2].concat().len() as i128;
     assert_refused(&damaged.concat(), &[7, offset], "two bad tags");
     // A bad tag goes before a bad grid, length or value.
-    let mut state = small_state();
+    let mut state = two_cells();
     state.parameters.kind = 3;
     state.h = vec![999];
     let mut record = record_of(&state, 12);
@@ -321,7 +292,7 @@ fn tags_4_to_7_of_a_wrong_length_are_a_2() {
 #[test]
 fn reading_tests_7_1_2_8_3_4_5_in_this_order() {
     // Bad in every way; each cause is then taken away in turn.
-    let mut state = small_state();
+    let mut state = two_cells();
     state.parameters.kind = 2;
     state.u[0] = 1; // 5
     state.b[1] = 100_001; // 4
@@ -368,7 +339,7 @@ fn reading_tests_7_1_2_8_3_4_5_in_this_order() {
 
 #[test]
 fn a_value_is_reported_by_field_and_not_by_place() {
-    let mut state = small_state();
+    let mut state = two_cells();
     state.h[1] = 999;
     state.b[0] = -1;
     state.u[1] = 5_001;
@@ -390,14 +361,14 @@ fn a_value_is_reported_by_field_and_not_by_place() {
 fn numbers_of_every_sign_are_read_and_bounded() {
     // Lowest and highest four-byte and two-byte numbers.
     for value in [i32::MIN.into(), -1, i32::MAX.into()] {
-        let mut state = small_state();
+        let mut state = two_cells();
         state.h[0] = value;
         assert_refused(&record_of(&state, 0), &[4, 0, 0], "h");
-        state = small_state();
+        state = two_cells();
         state.b[1] = value;
         assert_refused(&record_of(&state, 0), &[4, 1, 1], "b");
         for constant in 0..2 {
-            state = small_state();
+            state = two_cells();
             match constant {
                 0 => state.parameters.g = value,
                 _ => state.parameters.r = value,
@@ -406,14 +377,14 @@ fn numbers_of_every_sign_are_read_and_bounded() {
         }
     }
     for value in [i16::MIN.into(), i16::MAX.into()] {
-        let mut state = small_state();
+        let mut state = two_cells();
         state.u[1] = value;
         assert_refused(&record_of(&state, 0), &[4, 2, 1], "u");
-        state = small_state();
+        state = two_cells();
         state.v[1] = value;
         assert_refused(&record_of(&state, 0), &[4, 3, 1], "v");
     }
-    let mut state = small_state();
+    let mut state = two_cells();
     state.parameters.c = -10_000;
     state.u = vec![-5_000, 5_000];
     assert_eq!(read_into(&written(&state, 9), 2).0, told_for(&state, 9));
@@ -493,7 +464,7 @@ fn comparison_orders_by_timestamp_and_tells_states_apart() {
 
 #[test]
 fn comparison_tells_every_part_of_a_state_apart() {
-    let state = small_state();
+    let state = two_cells();
     let record = written(&state, 5);
     let changes: [fn(&mut State); 9] = [
         |s| (s.parameters.w, s.parameters.n) = (1, 2),
@@ -526,7 +497,7 @@ fn comparison_tells_every_part_of_a_state_apart() {
 #[test]
 fn comparison_tells_kinds_apart() {
     // At rest a state is within the limits under each kind.
-    let mut states = [small_state(), small_state(), small_state()];
+    let mut states = [two_cells(), two_cells(), two_cells()];
     for (kind, state) in states.iter_mut().enumerate() {
         state.parameters.kind = kind as u8;
         (state.u, state.v) = (vec![0, 0], vec![0, 0]);
@@ -543,7 +514,7 @@ fn comparison_tells_kinds_apart() {
 
 #[test]
 fn comparison_says_which_record_is_refused() {
-    let good = record_of(&small_state(), 1);
+    let good = record_of(&two_cells(), 1);
     type Change = fn(&mut State);
     let bad: [(Change, &[i128]); 5] = [
         (|s| s.parameters.n = 65, &[1]),
@@ -555,7 +526,7 @@ fn comparison_says_which_record_is_refused() {
     let records: Vec<(Vec<u8>, Vec<i128>)> = bad
         .iter()
         .map(|(change, told)| {
-            let mut state = small_state();
+            let mut state = two_cells();
             change(&mut state);
             (record_of(&state, 1), told.to_vec())
         })
@@ -586,7 +557,7 @@ fn any_bytes_are_answered() {
             let length = random.below(90);
             (0..length).map(|_| random.next() as u8).collect()
         } else {
-            record_of(&small_state(), random.next())
+            record_of(&two_cells(), random.next())
         };
         for _ in 0..random.below(4) {
             if !record.is_empty() {
@@ -600,7 +571,7 @@ fn any_bytes_are_answered() {
         if told[0] != 0 {
             assert!(fields.concat().iter().all(|&x| x == KEPT), "{record:?}");
         }
-        let other = record_of(&small_state(), 7);
+        let other = record_of(&two_cells(), 7);
         let first = compare(&record, &other).told();
         let second = compare(&other, &record).told();
         if first[0] == 0 {

@@ -7,7 +7,7 @@ use reference::{Parameters, ReadAnswer, State};
 
 use super::calls::{self, fenced, inside, junk, told};
 use super::calls::{FENCE, FENCE_BYTE, UNFILLED, UNTOUCHED};
-use super::common::{record_fields, record_of, within_limits, Random};
+use super::common::{record_fields, record_of, two_cells, within_limits, Random};
 use super::{record_size, Call, Case};
 
 pub fn hex(record: &[u8]) -> String {
@@ -15,24 +15,6 @@ pub fn hex(record: &[u8]) -> String {
 }
 
 // ---- records to begin with
-
-/// Two cells that wrap, with a negative number wherever one is allowed.
-pub fn two_cells() -> State {
-    State {
-        parameters: Parameters {
-            w: 2,
-            n: 1,
-            kind: 0,
-            g: 9_810,
-            c: -10,
-            r: 1_000,
-        },
-        h: vec![2_000, 3_000],
-        b: vec![0, 17],
-        u: vec![100, -1],
-        v: vec![-50, 5_000],
-    }
-}
 
 /// 3 by 2 cells in a basin.
 pub fn basin() -> State {

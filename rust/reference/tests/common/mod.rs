@@ -268,3 +268,33 @@ pub fn record_fields(state: &State, timestamp: u64) -> Vec<Vec<u8>> {
 pub fn record_of(state: &State, timestamp: u64) -> Vec<u8> {
     record_fields(state, timestamp).concat()
 }
+
+/// Two cells that wrap, with a negative number wherever one is allowed.
+pub fn two_cells() -> State {
+    State {
+        parameters: Parameters {
+            w: 2,
+            n: 1,
+            kind: 0,
+            g: 9_810,
+            c: -10,
+            r: 1_000,
+        },
+        h: vec![2_000, 3_000],
+        b: vec![0, 17],
+        u: vec![100, -1],
+        v: vec![-50, 5_000],
+    }
+}
+
+/// Calls `visit` with every order of the fields from `from` on.
+pub fn every_order(fields: &mut [Vec<u8>], from: usize, visit: &mut impl FnMut(&[Vec<u8>])) {
+    if from == fields.len() {
+        return visit(fields);
+    }
+    for k in from..fields.len() {
+        fields.swap(from, k);
+        every_order(fields, from + 1, visit);
+        fields.swap(from, k);
+    }
+}
