@@ -8,13 +8,16 @@
  * Every function takes any numbers and any lengths, and always returns. A
  * field is lent as a pointer and the number of its elements. What is asked of
  * a caller:
- * - each pointer is valid and aligned for the length after it. Pass a valid
- *   pointer where the length is 0 too: nothing is promised of a null pointer;
+ * - each pointer is valid and aligned for the length after it. Where that is 0
+ *   nothing is read or written there, and any aligned pointer but a null
+ *   pointer will do: of that one nothing is promised;
  * - what a function writes (every pointer that is not to const) overlaps
  *   nothing else lent to it. What is only read may overlap.
  *
  * A state is w columns by n rows, the kind of its boundary, the constants g,
  * c and r, and the fields h, b, u and v, which have a number for each cell.
+ * kind is a byte, as in a record: a larger number is cut to its lowest byte by
+ * the caller's own compiler, before the call, so that 256 is taken as kind 0.
  * Column i of row j is cell j*w + i. The edges u(0,j) are closed for kind 2,
  * the edges v(i,0) for kinds 1 and 2; kind 0 closes none.
  *
@@ -85,6 +88,8 @@ extern "C" {
  * Where a is -2^58 to 2^58, b is 1 to 2^43 and rounded_len is at least 1:
  * returns 1, rounded[0] is the result, and the rest of rounded is untouched.
  * Otherwise returns 0 and rounded is untouched.
+ *
+ * Warning: unlike all other functions here, it returns 1 where it is accepted.
  */
 uint64_t basin_rnd(int64_t a, int64_t b, int64_t *rounded, size_t rounded_len);
 

@@ -1,1 +1,2 @@
+-- numbers of the independent version, computed from the model
 pub mod Agreement

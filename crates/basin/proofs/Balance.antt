@@ -14,13 +14,13 @@ use lib.IntN.{ℤ, pos, _+ℤ_}
 use lib.ListN.{length, getD}
 use lib.Seq.{sets, getD-set-same}
 use Rattle.model.specs.State.{State}
+use Rattle.model.specs.Answers.{totalNumbers, totalIn}
 use Rattle.model.specs.Claims.{raised}
 use Rattle.model.specs.Promises.{TotalDepthPromise}
 use Rattle.model.specs.Histories.{Call, step, run, History, stepped, ran, inflowDue}
 use Rattle.model.specs.declared.TotalAnswer.{TotalAnswer}
 use Rattle.model.specs.declared.TotalAnswer.the-variants.{Total, Refused}
 use Rattle.theorems.specs.Theorems.{theorems}
-use Rattle.telling.specs.Told.{totalNumbers, totalIn}
 use Rattle.basin.specs.Told.{stateIn, TotalTold}
 use Rattle.basin.proofs.Applied.{from-one}
 use Rattle.basin.proofs.basin_step.Kinds as step-kinds

@@ -1,3 +1,4 @@
+-- an answer of the tests, told
 pub mod Tells
 -- the theorems speak of the C interface
 pub mod Applied

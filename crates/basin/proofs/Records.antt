@@ -8,7 +8,7 @@ use lib.Dec.{T}
 use lib.IntN.{ℤ}
 use lib.ListN.{length, take, getD}
 use lib.Seq.{sets}
-use Rattle.model.specs.Answers.{writeNumbers}
+use Rattle.model.specs.Answers.{writeNumbers, readNumbers, constantsIn}
 use Rattle.model.specs.State.{State, stateOf, parametersOf, cells, WithinLimits}
 use Rattle.model.specs.Record.{Timestamp, recordLength, rising, decode, accepted}
 use Rattle.model.specs.Promises.{ReadPromise}
@@ -17,7 +17,7 @@ use Rattle.model.specs.declared.Parameters.{Parameters}
 use Rattle.model.specs.declared.ReadAnswer.the-variants.{Read}
 use Rattle.model.specs.declared.CompareAnswer.the-variants.{Same}
 use Rattle.theorems.specs.Theorems.{theorems}
-use Rattle.telling.specs.Told.{Told, readNumbers, constantsIn}
+use Rattle.telling.specs.Told.{Told}
 use Rattle.reading.specs.Rooms.{Room}
 use Rattle.basin.specs.Told.{WriteTold, ReadTold, CompareTold}
 
@@ -35,7 +35,7 @@ pub write-then-read : {s : State} {t : Timestamp} {d d′ h₀ h₁ e x : List �
     → WriteTold s t d d′ h₀ k h₁ → ReadTold (take (recordLength s) d′) h b u v h′ b′ u′ v′ constants constants′ e r x
     → CameBack s t h′ b′ u′ v′ constants constants′ k r e x
 write-then-read {s} {t} {d} {d′} {h₀} {h₁} {e} {x} {h} {b} {u} {v} {h′} {b′} {u′} {v′} {constants} {constants′} {k} {r} l q room fit w g =
-    let y = theorems .write-then-read s t d d′ (w .answer) h b u v h′ b′ u′ v′ (g .answer) l q room (w .promise) (fit .depth) (fit .bottom) (fit .west) (fit .south) (g .promise) in
+    let y = theorems .write-then-read s t d d′ (w .answer) h b u v h′ b′ u′ v′ (g .answer) l q room (w .promise) (fit .depth) (fit .bottom) (fit .velocity-u) (fit .velocity-v) (g .promise) in
     record {
       written = w .told .returns ∙ ap (λ a. getD (writeNumbers a) 0 0) (y .0);
       fields = y .2;

@@ -10,7 +10,7 @@ use lib.ListN.{length}
 use lib.Seq.{sets}
 use Rattle.model.specs.Numbers.{_to_, within, rnd}
 use Rattle.model.specs.State.{State, stateOf}
-use Rattle.model.specs.Answers.{testNumbers, fillNumbers, stepNumbers, runNumbers, writeNumbers, compareNumbers}
+use Rattle.model.specs.Answers.{testNumbers, fillNumbers, stepNumbers, runNumbers, totalNumbers, totalIn, writeNumbers, readNumbers, constantsIn, compareNumbers}
 use Rattle.model.specs.Record.{Timestamp}
 use Rattle.model.specs.Promises.{testOf, testAnswer, VorticityPromise, TendenciesPromise, StepPromise, RunPromise, WritePromise, ReadPromise, ComparePromise}
 use Rattle.model.specs.declared.Beside.{Beside}
@@ -21,7 +21,7 @@ use Rattle.model.specs.declared.TotalAnswer.{TotalAnswer}
 use Rattle.model.specs.declared.WriteAnswer.{WriteAnswer}
 use Rattle.model.specs.declared.ReadAnswer.{ReadAnswer}
 use Rattle.model.specs.declared.CompareAnswer.{CompareAnswer}
-use Rattle.telling.specs.Told.{Told, totalNumbers, totalIn, readNumbers, constantsIn}
+use Rattle.telling.specs.Told.{Told}
 
 -- 01's state, from the numbers and slices that a C function takes
 abbrev pub stateIn : (w n kind : ℕ) (g c r : ℤ) (h b u v : List ℤ) → State

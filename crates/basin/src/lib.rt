@@ -38,6 +38,7 @@ pub extern "C" fn basin_test_state(
         c,
         r,
     };
+    // the last argument stands for a further field, which nothing looks at here
     telling::tell_test(answer, state::test_state(p, h, b, u, v, Beside::Nothing, h))
 }
 
@@ -332,8 +333,8 @@ pub extern "C" fn basin_total_energy(
 
 // Each is the proved call, its answer told as above: the writer's with the number of bytes; the reader's with w, n, kind and the
 // timestamp, while G, c and R, which have a sign, go into the first three places of a lent slice, as far as there is room; the
-// comparison's with 0 same, 1 first newer, 2 second newer, 3 clash, or which record is refused. They rule out, for instance: the fields
-// of a record swapped; the records swapped; G told in the place of c.
+// comparison's with 0 same, 1 first newer, 2 second newer, 3 conflict, or which record is refused. They rule out, for instance: the
+// fields of a record swapped; the records swapped; G told in the place of c.
 
 #[no_mangle]
 pub extern "C" fn basin_write(
@@ -403,7 +404,8 @@ fn is_roundable(a: i64, b: i64) -> bool
     integers::within(a, dividend) && integers::within(b, divisor)
 }
 
-// 01's rnd(a/b) into the first place of a lent slice. It rules out, for instance: the largest dividend refused.
+// 01's rnd(a/b) into the first place of a lent slice. It rules out, for instance: the largest dividend refused; 1 returned where there
+// is no room.
 #[no_mangle]
 pub extern "C" fn basin_rnd(a: i64, b: i64, rounded: &mut [i64]) -> u64
     ensures { λ k. ⌜ Rounded a b (now (rounded .entry)) k (now (rounded .exit)) ⌝ }

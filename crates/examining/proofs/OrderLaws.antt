@@ -19,8 +19,8 @@ use Rattle.model.specs.declared.Refusal.the-variants.{Grid, Lengths, Constants,
 use Rattle.model.specs.declared.TestAnswer.{TestAnswer}
 use Rattle.model.specs.declared.TestAnswer.the-variants.{Passed, Refused}
 use Rattle.model.specs.declared.BoundaryByte.{BoundaryByte}
-use Rattle.state.specs.declared.Fault.the-variants.{West, South}
-use Rattle.state.specs.Faults.{cellTest}
+use Rattle.faults.specs.declared.Fault.the-variants.{West, South}
+use Rattle.faults.specs.Faults.{cellTest}
 use Rattle.state.proofs.TestLaws.{edges-are}
 use Rattle.theorems.specs.Limits.{known-iff}
 use Rattle.theorems.specs.Tests.{true-T}

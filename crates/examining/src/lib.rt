@@ -10,25 +10,20 @@ ghost use Rattle.model.specs.State.{State, parametersOf, cells};
 ghost use Rattle.model.specs.Refusals.{_then_, fieldsOf, valueTest, edgeTest};
 ghost use Rattle.model.specs.Record.{valueOf, timestampIn, bytesRight, recordTest};
 ghost use Rattle.model.specs.Promises.{testAnswer};
-ghost use Rattle.state.specs.Faults.{limitsOf, badIn, foundBy, cellTest, foundIn};
+ghost use Rattle.faults.specs.Faults.{limitsOf, badIn, foundBy, cellTest};
+ghost use Rattle.state.specs.InOrder.{foundIn};
 ghost use Rattle.wire.specs.Sizes.{sizeOf, numbersBy};
 ghost use Rattle.walking.specs.Places.{partsIn, Placed};
 ghost use Rattle.examining.specs.Tests.{stateRead, Sized, Examined};
+use faults::Fault;
+use faults::Found;
 use model::Field;
 use model::Parameters;
 use model::Refusal;
 use model::TestAnswer;
-use state::Fault;
-use state::Found;
 use wire::Size;
 
 // ---- tags 1, 2 and 3
-
-fn index(x: u8) -> usize
-    ensures { λ r. ⌜ r ≡ x ⌝ }
-{
-    x as usize
-}
 
 // What tags 1 and 2 say. It rules out, for instance: rows read for columns; c read for G.
 pub fn parameters_in(rec: &[u8], at: &[usize; 8]) -> Parameters
@@ -38,8 +33,8 @@ pub fn parameters_in(rec: &[u8], at: &[usize; 8]) -> Parameters
     let grid = walking::value_of(rec, at, 1);
     let constants = walking::value_of(rec, at, 2);
     Parameters {
-        w: index(grid[0]),
-        n: index(grid[1]),
+        w: wire::index(grid[0]),
+        n: wire::index(grid[1]),
         kind: grid[2],
         g: wire::number_at(constants, 0, Size::Four),
         c: wire::number_at(constants, 4, Size::Four),
@@ -47,7 +42,7 @@ pub fn parameters_in(rec: &[u8], at: &[usize; 8]) -> Parameters
     }
 }
 
-// What tag 3 says: the timestamp (01: stamp). It rules out, for instance: its last four bytes alone.
+// What tag 3 says: the timestamp (01: stamp). It rules out, for instance: its last four bytes alone; the lowest byte first.
 pub fn timestamp_in(rec: &[u8], at: &[usize; 8]) -> u64
     requires { ⌜ Placed (now rec) (now at) ⌝ }
     ensures { λ r. ⌜ r ≡ timestampIn (partsIn (now (rec .entry))) ⌝ }
@@ -91,14 +86,14 @@ fn first_bad_in(w: usize, n: usize, value: &[u8], size: Size, t: Fault) -> Found
     ensures { λ r. ⌜ r ≡ foundBy (firstFrom (badIn t w (numbersBy size (w * n) (now (value .entry)))) (w * n) 0) ⌝ }
 {
     let each = wire::bytes_of(size);
-    let columns = state::columns_of(t, w);
-    let rows = state::rows_of(t, n);
+    let columns = faults::columns_of(t, w);
+    let rows = faults::rows_of(t, n);
     let mut found = Found::Nowhere;
     'scan: for j in 0..rows {
         for i in 0..columns {
             let k = j * w + i;
             let x = wire::number_at(value, k * each, size);
-            if state::is_bad(t, x, i, j) {
+            if faults::is_bad(t, x, i, j) {
                 found = Found::At(k);
                 break 'scan;
             }
@@ -124,7 +119,7 @@ fn then_cells_in(
         return earlier;
     };
     match first_bad_in(w, n, value, size, t) {
-        Found::At(k) => TestAnswer::Refused(state::refusal_of(t, field, k)),
+        Found::At(k) => TestAnswer::Refused(faults::refusal_of(t, field, k)),
         Found::Nowhere => TestAnswer::Passed,
     }
 }
@@ -148,7 +143,7 @@ fn then_field_in(
         value,
         size,
         field,
-        Fault::Outside(state::limits(field)),
+        Fault::Outside(faults::limits(field)),
     )
 }
 

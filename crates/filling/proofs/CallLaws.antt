@@ -20,7 +20,7 @@ use Rattle.model.specs.declared.TestAnswer.the-variants.{Passed, Refused}
 use Rattle.model.specs.declared.FillAnswer.the-variants as F
 use Rattle.theorems.specs.Limits.{known-iff, accepted}
 use Rattle.theorems.specs.Tested.{passed-none, refused-some}
-use Rattle.state.specs.Faults.{foundIn}
+use Rattle.state.specs.InOrder.{foundIn}
 use Rattle.state.proofs.TestLaws.{found-answer, after}
 use Rattle.scheme.specs.Reading.{TendenciesReady}
 use Rattle.filling.specs.Handing.{Room}

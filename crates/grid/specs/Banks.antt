@@ -86,7 +86,7 @@ module _ {a e : ℕ} {d₀ d : List ℤ} (h : Elsewhere a e d₀ d) where
       (λ y q. getD-drop x d y (pos 0) ∙ h .behind (x + y) (omega arith) ∙ sym (getD-drop x d₀ y (pos 0)))
 
 -- a part replaced changes no other place
-pub elsewhere-replaced : (a : ℕ) (l d : List ℤ) → a + length l ≤ length d → Elsewhere a (a + length l) d (replaced a l d)
+elsewhere-replaced : (a : ℕ) (l d : List ℤ) → a + length l ≤ length d → Elsewhere a (a + length l) d (replaced a l d)
 unfolding replaced
 elsewhere-replaced a l d r = record { long = ap length (sym (sets-eq l d a r)) ∙ length-sets d a l; before = first; behind = last }
   where

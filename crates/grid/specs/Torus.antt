@@ -12,7 +12,7 @@ use native.Mathlib.Omega.{arith}
 use lib.Dec.{T, ltb, eqb, eqb→eq}
 use lib.ListN.{getD}
 use lib.IntN.{ℤ, pos, _+ℤ_, _-ℤ_, _*ℤ_, +ℤ-idl, +ℤ-idr}
-use Rattle.integers.specs.Ring.{Expr, var, _⊕_, _⊖_, _⊜_, Identity, ring, den, Mono, Terms, none, term, terms, pure, leaf, gather, zeros, _and_, and-l, and-r, dm, dt, terms-den, gather-den, zeros-den}
+use Rattle.integers.specs.Ring.{Expr, var, _⊕_, _⊖_, _⊜_, Identity, ring, den, Mono, Terms, none, term, terms, leaf, gather, zeros, _and_, and-l, and-r, dm, dt, terms-den, gather-den, zeros-den}
 use Rattle.grid.specs.Sums.{grid, grid-cong, grid-zero, grid-add, grid-shift, east, west}
 
 abbrev pub scalar : ℕ → Expr
@@ -63,7 +63,7 @@ canonT none = none
 canonT (term c m p) = term c (canon m) (canonT p)
 
 abbrev pub cancels : Expr → Bool
-cancels e = pure e and zeros (gather (canonT (terms e)) leaf)
+cancels e = zeros (gather (canonT (terms e)) leaf)
 
 -- ---- what an expression stands for at a cell
 
@@ -152,10 +152,10 @@ module _ (w n : ℕ) (ks : List ℤ) (fs : List (ℕ → ℕ → ℤ)) where
 
   base-law : (e : Expr) → T (cancels e) → grid w n (λ i j. den (base w n ks fs i j) e) ≡ pos 0
   base-law e t =
-      grid-cong w n (λ i j p q. sym (terms-den (base w n ks fs i j) e (and-l (pure e) (zeros (gather (canonT (terms e)) leaf)) t)))
+      grid-cong w n (λ i j p q. sym (terms-den (base w n ks fs i j) e))
       ∙ canon-sum (terms e)
       ∙ grid-cong w n (λ i j p q. sym (gather-den (base w n ks fs i j) (canonT (terms e)) leaf ∙ +ℤ-idr (dt (base w n ks fs i j) (canonT (terms e))))
-      ∙ zeros-den (base w n ks fs i j) (gather (canonT (terms e)) leaf) (and-r (pure e) (zeros (gather (canonT (terms e)) leaf)) t))
+      ∙ zeros-den (base w n ks fs i j) (gather (canonT (terms e)) leaf) t)
       ∙ grid-zero w n
 
   centred : (i j : ℕ) → i < w → j < n → (e : Expr) → den (cell w n ks fs ((i + 2) % w) ((j + 2) % n)) e ≡ den (base w n ks fs i j) e

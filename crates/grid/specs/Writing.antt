@@ -7,8 +7,8 @@ use native.Mathlib.Nat.{le-antisymm, zero-add, zero-mul, mul-comm, mul-le-mul-ri
 use native.Mathlib.Numerals.{add-one}
 use native.Mathlib.Omega.{arith}
 use lib.IntN.{ℤ, pos}
-use lib.ListN.{length, take, drop, getD, set, take-append-drop, length-drop, length-set}
-use lib.Seq.{length-take-le, take-append-le, drop-append-le, take-append-seam, drop-at, drop-drop, getD-drop, paste, paste-zero, paste-suc, drop-paste, take-length}
+use lib.ListN.{length, take, drop, getD, set, length-set}
+use lib.Seq.{length-take-le, take-append-seam, drop-at, getD-drop, paste, paste-zero, paste-suc, drop-paste, take-length}
 use Rattle.model.specs.Grid.{byCell, filled}
 use Rattle.grid.specs.Cells.{cell-lt, row-end, by-index}
 use Rattle.grid.specs.Fields.{length-byCell, getD-byCell}
@@ -94,33 +94,12 @@ module _ (w n : ℕ) (g : ℕ → ℕ → ℤ) where
   pub rows-filled : {j : ℕ} {e d : List ℤ} → Writing 0 field e (j * w) d → n ≤ j → d ≡ filled (w * n) field e
   rows-filled {j} h l = filling-done h (length-byCell w n g) (rw (mul-comm w n) (mul-le-mul-right w l))
 
-  pub rows-written : {a j : ℕ} {e d : List ℤ} → Writing a field e (j * w) d → n ≤ j → d ≡ replaced a field e
-  rows-written {j = j} h l = writing-done h (rw (length-byCell w n g, mul-comm w n) (mul-le-mul-right w l))
-
 -- ---- what a loop that writes leaves to read
 
 module _ {A : Type 0} {a : ℕ} {l d₀ : List A} where
-  -- a part that lies wholly before the place written, or wholly behind what is written
-  pub part-before : {k : ℕ} {d : List A} (x m : ℕ) → Writing a l d₀ k d → x + m ≤ a → a ≤ length d₀ → part x m d ≡ part x m d₀
-  part-before {k} {d} x m h p r =
-      ap (part x m) (h .holds ∙ append-assoc (take a d₀) (take k l) (drop (a + k) d₀))
-      ∙ front (take k l ++ drop (a + k) d₀) ∙ sym (front (drop a d₀)) ∙ ap (part x m) (take-append-drop a d₀)
-    where
-      front : (rest : List A) → part x m (take a d₀ ++ rest) ≡ part x m (take a d₀)
-      front rest =
-          let e : length (take a d₀) ≡ a = length-take-le a d₀ r in
-          ap (take m) (drop-append-le x (take a d₀) rest (omega arith))
-          ∙ take-append-le m (drop x (take a d₀)) rest (omega (arith, length-drop x (take a d₀)))
-
   -- from the place that is written next on, all is as it was
   rest-kept : {k : ℕ} {d : List A} → Writing a l d₀ k d → a ≤ length d₀ → drop (a + k) d ≡ drop (a + k) d₀
   rest-kept {k} h r = ap (drop (a + k)) (h .holds) ∙ drop-paste d₀ a l k r (h .so-far)
-
-  pub part-behind : {k : ℕ} {d : List A} (x m : ℕ) → Writing a l d₀ k d → a + k ≤ x → a ≤ length d₀ → part x m d ≡ part x m d₀
-  part-behind {k} {d} x m h p r =
-      let e : x ≡ (a + k) + (x - (a + k)) = omega arith in
-      ap (λ y. part y m d) e ∙ ap (take m) (sym (drop-drop (x - (a + k)) (a + k) d) ∙ ap (drop (x - (a + k))) (rest-kept h r) ∙ drop-drop (x - (a + k)) (a + k) d₀)
-      ∙ sym (ap (λ y. part y m d₀) e)
 
   -- an element that is not written yet
   pub ahead : {k : ℕ} {d : List A} (x : ℕ) (z : A) → Writing a l d₀ k d → a + k ≤ x → a ≤ length d₀ → getD d x z ≡ getD d₀ x z

@@ -26,7 +26,7 @@ pub fn boundary_of(kind: u8) -> BoundaryByte
     }
 }
 
-// Whether a byte stood for a boundary.
+// Whether a byte stood for a boundary. It rules out, for instance: an unknown byte taken for known; a basin taken for unknown.
 pub fn known(e: BoundaryByte) -> bool
     ensures { λ r. ⌜ r ≡ State.known e ⌝ }
 {
@@ -36,7 +36,8 @@ pub fn known(e: BoundaryByte) -> bool
     }
 }
 
-// Whether the west edges of column i are closed. It rules out, for instance: a basin without its west wall.
+// Whether the west edges of column i are closed. It rules out, for instance: a basin without its west wall; a channel with a west
+// wall.
 pub fn wall_west(e: BoundaryByte, i: usize) -> bool
     ensures { λ r. ⌜ r ≡ wallWest e i ⌝ }
 {
@@ -50,7 +51,7 @@ pub fn wall_west(e: BoundaryByte, i: usize) -> bool
     }
 }
 
-// Whether the south edges of row j are closed. It rules out, for instance: a channel without its wall.
+// Whether the south edges of row j are closed. It rules out, for instance: a channel without its wall; the wall along the last row.
 pub fn wall_south(e: BoundaryByte, j: usize) -> bool
     ensures { λ r. ⌜ r ≡ wallSouth e j ⌝ }
 {
@@ -64,8 +65,8 @@ pub fn wall_south(e: BoundaryByte, j: usize) -> bool
     }
 }
 
-// The next place on a side of w places, and the one before: both wrap, without a division. They rule out, for instance: the last
-// place for the one before, always.
+// The next place on a side of w places, and the one before: both wrap, without a division. They rule out, for instance: the last place
+// for the one before, always; no wrap at the last place.
 pub fn next(w: usize, i: usize) -> usize
     requires { ⌜ i < w ⌝ }
     ensures { λ r. ⌜ (r ≡ Grid.next w i) × (r < w) ⌝ }
@@ -119,7 +120,7 @@ pub fn around(w: usize, n: usize, i: usize, j: usize) -> Stencil
     }
 }
 
-// The m numbers of a work space from place a on. It rules out, for instance: a part of another length.
+// The m numbers of a work space from place a on. It rules out, for instance: a part of another length; the part one place on.
 pub fn part_of(work: &[i64], a: usize, m: usize) -> &[i64]
     requires { ⌜ a + m ≤ length (now work) ⌝ }
     ensures { λ r. ⌜ now r ≡ part a m (now (work .entry)) ⌝ }
@@ -128,7 +129,8 @@ pub fn part_of(work: &[i64], a: usize, m: usize) -> &[i64]
     &work[a..end]
 }
 
-// Puts the numbers of src into a work space from place a on. It rules out, for instance: another place.
+// Puts the numbers of src into a work space from place a on. It rules out, for instance: another place; a number changed past the
+// part.
 pub fn copy_into(work: &mut [i64], a: usize, src: &[i64])
     requires { ⌜ a + length (now src) ≤ length (now work) ⌝ }
     ensures { λ _. ⌜ now (work .exit) ≡ replaced a (now (src .entry)) (now (work .entry)) ⌝ }
@@ -148,7 +150,7 @@ pub fn copy_out(work: &[i64], a: usize, m: usize, d: &mut [i64])
     }
 }
 
-// Makes the first m numbers of a work space zero. It rules out, for instance: each made one.
+// Makes the first m numbers of a work space zero. It rules out, for instance: each made one; a number past them changed.
 pub fn clear(work: &mut [i64], m: usize)
     requires { ⌜ m ≤ length (now work) ⌝ }
     ensures { λ _. ⌜ now (work .exit) ≡ filled m (replicate m (pos 0)) (now (work .entry)) ⌝ }

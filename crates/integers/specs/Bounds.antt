@@ -4,12 +4,12 @@
 use mathlib.Core.Path.{_≡_, refl, sym, _∙_, ap, ap₂, subst}
 use mathlib.Core.Bool.{Bool}
 use mathlib.Core.List.{List, [], _∷_}
-use Prim.Native.Nat.{ℕ, zero, suc, _+_, _-_, _*_, _^_, _<_, _≤_, max, zero-le, suc-le-suc}
-use native.Mathlib.Nat.{le-refl, le-trans, le-of-eq, le-suc, lt-of-le-of-lt, mul-le-mul, add-le-add, div-le-self}
+use Prim.Native.Nat.{ℕ, zero, suc, _+_, _-_, _*_, _^_, _<_, _≤_, max, zero-le}
+use native.Mathlib.Nat.{le-refl, le-trans, le-of-eq, le-suc, lt-of-le-of-lt, mul-le-mul, add-le-add}
 use native.Mathlib.Omega.{arith}
 use lib.Dec.{T, leb, leb→le, ltb, ltb→lt, eqb}
 use lib.ListN.{getD}
-use lib.Signed.{mag, nonNeg, quotZ, _≤ℤ_}
+use lib.Signed.{mag, nonNeg, _≤ℤ_}
 use lib.IntN.{ℤ, pos, negsuc, negℤ, natAbs, _+ℤ_, _-ℤ_, _*ℤ_}
 use borrow.Author.Tests.{ne-eqb}
 use mir.Syntax.{Width, w64}
@@ -17,7 +17,7 @@ use mir.Val.{Fits, SFits, hbits, toZ, ofZ}
 use mir.Facts.{toZ-ofZ}
 use Rattle.model.specs.Numbers.{Limits, Within, eqℤ}
 use Rattle.integers.specs.Laws.{abs-neg, abs-add, abs-mul}
-use Rattle.integers.specs.Ring.{Expr, var, con, _⊕_, _⊖_, _⊗_, _⊘_, den, _and_, and-l, and-r}
+use Rattle.integers.specs.Ring.{Expr, var, con, _⊕_, _⊖_, _⊗_, den, _and_, and-l, and-r}
 
 -- ---- the machine
 
@@ -32,7 +32,6 @@ mach w ρ (con z) = z
 mach w ρ (a ⊕ b) = held w (mach w ρ a +ℤ mach w ρ b)
 mach w ρ (a ⊖ b) = held w (mach w ρ a -ℤ mach w ρ b)
 mach w ρ (a ⊗ b) = held w (mach w ρ a *ℤ mach w ρ b)
-mach w ρ (a ⊘ b) = held w (quotZ (mach w ρ a) (mach w ρ b))
 
 abbrev pub raw : Width → (ℕ → ℤ) → Expr → ℤ
 raw w ρ (var n) = ρ n
@@ -40,7 +39,6 @@ raw w ρ (con z) = z
 raw w ρ (a ⊕ b) = mach w ρ a +ℤ mach w ρ b
 raw w ρ (a ⊖ b) = mach w ρ a -ℤ mach w ρ b
 raw w ρ (a ⊗ b) = mach w ρ a *ℤ mach w ρ b
-raw w ρ (a ⊘ b) = quotZ (mach w ρ a) (mach w ρ b)
 
 -- ---- what an expression is at most
 
@@ -50,7 +48,6 @@ bound A (con z) = natAbs z
 bound A (a ⊕ b) = bound A a + bound A b
 bound A (a ⊖ b) = bound A a + bound A b
 bound A (a ⊗ b) = bound A a * bound A b
-bound A (a ⊘ b) = bound A a
 
 -- each part is below the width's half
 abbrev pub small : Width → (ℕ → ℕ) → Expr → Bool
@@ -62,16 +59,9 @@ below w A (con z) = small w A (con z)
 below w A (a ⊕ b) = small w A (a ⊕ b) and below w A a and below w A b
 below w A (a ⊖ b) = small w A (a ⊖ b) and below w A a and below w A b
 below w A (a ⊗ b) = small w A (a ⊗ b) and below w A a and below w A b
-below w A (a ⊘ b) = small w A (a ⊘ b) and below w A a and below w A b
 
 split : (a b c : Bool) → T (a and b and c) → T a × T b × T c
 split a b c t = (and-l a (b and c) t, and-l b c (and-r a (b and c) t), and-r b c (and-r a (b and c) t))
-
-abs-quot : (x y : ℤ) → natAbs (quotZ x y) ≤ natAbs x
-abs-quot (pos a) (pos b) = div-le-self a b
-abs-quot (pos a) (negsuc b) = rw abs-neg (div-le-self a (suc b))
-abs-quot (negsuc a) (pos b) = rw abs-neg (div-le-self (suc a) b)
-abs-quot (negsuc a) (negsuc b) = div-le-self (suc a) (suc b)
 
 mag-le : (x : ℤ) → mag x ≤ natAbs x
 mag-le (pos a) = le-refl a
@@ -84,7 +74,6 @@ module _ (ρ : ℕ → ℤ) (A : ℕ → ℕ) (h : (n : ℕ) → natAbs (ρ n) �
   bounded (a ⊕ b) = le-trans (abs-add (den ρ a) (den ρ b)) (add-le-add (bounded a) (bounded b))
   bounded (a ⊖ b) = le-trans (abs-add (den ρ a) (negℤ (den ρ b))) (add-le-add (bounded a) (le-trans (le-of-eq (abs-neg (den ρ b))) (bounded b)))
   bounded (a ⊗ b) = le-trans (le-of-eq (abs-mul (den ρ a) (den ρ b))) (mul-le-mul (bounded a) (bounded b))
-  bounded (a ⊘ b) = le-trans (abs-quot (den ρ a) (den ρ b)) (bounded a)
 
   module _ (w : Width) where
     ok : (e : Expr) → T (small w A e) → SFits w (den ρ e)
@@ -96,7 +85,6 @@ module _ (ρ : ℕ → ℤ) (A : ℕ → ℕ) (h : (n : ℕ) → natAbs (ρ n) �
     top (a ⊕ b) t = split (small w A (a ⊕ b)) (below w A a) (below w A b) t .0
     top (a ⊖ b) t = split (small w A (a ⊖ b)) (below w A a) (below w A b) t .0
     top (a ⊗ b) t = split (small w A (a ⊗ b)) (below w A a) (below w A b) t .0
-    top (a ⊘ b) t = split (small w A (a ⊘ b)) (below w A a) (below w A b) t .0
 
     -- an operation whose operands are their values, and whose result fits
     kept : (f : ℤ → ℤ → ℤ) {x y x′ y′ : ℤ} → SFits w (f x′ y′) → x ≡ x′ → y ≡ y′ → held w (f x y) ≡ f x′ y′
@@ -109,7 +97,6 @@ module _ (ρ : ℕ → ℤ) (A : ℕ → ℕ) (h : (n : ℕ) → natAbs (ρ n) �
     mach-is (a ⊕ b) t = let s = split (small w A (a ⊕ b)) (below w A a) (below w A b) t in kept _+ℤ_ (ok (a ⊕ b) (s .0)) (mach-is a (s .1)) (mach-is b (s .2))
     mach-is (a ⊖ b) t = let s = split (small w A (a ⊖ b)) (below w A a) (below w A b) t in kept _-ℤ_ (ok (a ⊖ b) (s .0)) (mach-is a (s .1)) (mach-is b (s .2))
     mach-is (a ⊗ b) t = let s = split (small w A (a ⊗ b)) (below w A a) (below w A b) t in kept _*ℤ_ (ok (a ⊗ b) (s .0)) (mach-is a (s .1)) (mach-is b (s .2))
-    mach-is (a ⊘ b) t = let s = split (small w A (a ⊘ b)) (below w A a) (below w A b) t in kept quotZ (ok (a ⊘ b) (s .0)) (mach-is a (s .1)) (mach-is b (s .2))
 
     raw-is : (e : Expr) → T (below w A e) → raw w ρ e ≡ den ρ e
     raw-is (var n) t = refl
@@ -117,7 +104,6 @@ module _ (ρ : ℕ → ℤ) (A : ℕ → ℕ) (h : (n : ℕ) → natAbs (ρ n) �
     raw-is (a ⊕ b) t = let s = split (small w A (a ⊕ b)) (below w A a) (below w A b) t in ap₂ _+ℤ_ (mach-is a (s .1)) (mach-is b (s .2))
     raw-is (a ⊖ b) t = let s = split (small w A (a ⊖ b)) (below w A a) (below w A b) t in ap₂ _-ℤ_ (mach-is a (s .1)) (mach-is b (s .2))
     raw-is (a ⊗ b) t = let s = split (small w A (a ⊗ b)) (below w A a) (below w A b) t in ap₂ _*ℤ_ (mach-is a (s .1)) (mach-is b (s .2))
-    raw-is (a ⊘ b) t = let s = split (small w A (a ⊘ b)) (below w A a) (below w A b) t in ap₂ quotZ (mach-is a (s .1)) (mach-is b (s .2))
 
 -- ---- the laws, over a list of values and a list of their sizes
 
@@ -177,15 +163,6 @@ held-is w p e = toZ-ofZ (record { sfits = p }) ∙ e
 -- a number that is not negative becomes an unsigned one
 pub unsigned : {z : ℤ} (n : ℕ) → z ≡ pos n → n < 2 ^ 64 → T (nonNeg z) × Fits w64 (natAbs z)
 unsigned n e l = subst (λ (z : ℤ). T (nonNeg z) × Fits w64 (natAbs z)) (sym e) (tt, record { fits = l })
-
--- ---- a divisor above 0: so are its bits, which a division asks
-
-above : (n : ℕ) {z : ℤ} → toZ w64 n ≡ z → pos 1 ≤ℤ z → 0 < n
-above zero {z} e h = absurd (rw (← e) at (h .le))
-above (suc n) e h = suc-le-suc zero-le
-
-pub divisor : (e : Expr) {zs : List ℤ} {bs : List ℕ} → Sizes zs bs → T (below w64 (sized bs) e) → pos 1 ≤ℤ den (valued zs) e → 0 < ofZ w64 (raw w64 (valued zs) e)
-divisor e {zs} {bs} h t p = above (ofZ w64 (raw w64 (valued zs) e)) (toZ-ofZ (fits e h t) ∙ raw-is (valued zs) (sized bs) (each h) w64 e t) p
 
 -- ---- a test for zero, which code makes on the bits
 

@@ -160,20 +160,8 @@ add′ = order tt
 pub ≤-add : {x y z t : ℤ} → x ≤ℤ y → z ≤ℤ t → (x +ℤ z) ≤ℤ (y +ℤ t)
 ≤-add {x} {y} {z} {t} p q = add′ .at x y z t (p, (q, tt))
 
-sub′ : Inequality 4 (λ x y z t. record { given = (x ≼ y) ∷ (z ≼ t) ∷ []; shows = x ⊖ t ≼ y ⊖ z; why = hyp 0 ⊹ hyp 1 })
-sub′ = order tt
-
-pub ≤-sub : {x y z t : ℤ} → x ≤ℤ y → z ≤ℤ t → (x -ℤ t) ≤ℤ (y -ℤ z)
-≤-sub {x} {y} {z} {t} p q = sub′ .at x y z t (p, (q, tt))
-
 mul⁺ : Inequality 3 (λ k x y. record { given = (con (pos 0) ≼ k) ∷ (x ≼ y) ∷ []; shows = k ⊗ x ≼ k ⊗ y; why = hyp 0 ⋆ hyp 1 })
 mul⁺ = order tt
 
-mul⁻ : Inequality 3 (λ k x y. record { given = (k ≼ con (pos 0)) ∷ (x ≼ y) ∷ []; shows = k ⊗ y ≼ k ⊗ x; why = hyp 0 ⋆ hyp 1 })
-mul⁻ = order tt
-
 pub ≤-mul : {k x y : ℤ} → pos 0 ≤ℤ k → x ≤ℤ y → (k *ℤ x) ≤ℤ (k *ℤ y)
 ≤-mul {k} {x} {y} p q = mul⁺ .at k x y (p, (q, tt))
-
-pub ≤-mul⁻ : {k x y : ℤ} → k ≤ℤ pos 0 → x ≤ℤ y → (k *ℤ y) ≤ℤ (k *ℤ x)
-≤-mul⁻ {k} {x} {y} p q = mul⁻ .at k x y (p, (q, tt))

@@ -5,20 +5,17 @@ use mathlib.Core.Bool.{Bool, true, false}
 use mathlib.Core.List.{List, [], _∷_}
 use Prim.Native.Nat.{ℕ, zero, suc, compare, Ordering, Ordering·lt, Ordering·eq, Ordering·gt}
 use lib.Dec.{T, leb, isEq, eqb→eq}
-use lib.Signed.{quotZ}
 use lib.IntN.{ℤ, pos, negsuc, negℤ, _+ℤ_, _-ℤ_, _*ℤ_, +ℤ-assoc, +ℤ-idl, +ℤ-idr, zero-*ℤ, *ℤ-comm, negℤ-+ℤ}
 use Rattle.integers.specs.Laws.{+-lswap, distr, distl, neg-mul, eq-of-sub, *-assoc, one-*, *-swap, *-inner}
 
 infixl 60 _⊕_ _⊖_
-infixl 70 _⊗_ _⊘_
+infixl 70 _⊗_
 pub data Expr : Type 0 where
   var : ℕ → Expr
   con : ℤ → Expr
   _⊕_ : Expr → Expr → Expr
   _⊖_ : Expr → Expr → Expr
   _⊗_ : Expr → Expr → Expr
-  -- a quotient, toward zero: no polynomial (see `pure`), but code has it, and Bounds.antt bounds it
-  _⊘_ : Expr → Expr → Expr
 
 abbrev pub den : (ℕ → ℤ) → Expr → ℤ
 den ρ (var n) = ρ n
@@ -26,20 +23,11 @@ den ρ (con z) = z
 den ρ (a ⊕ b) = den ρ a +ℤ den ρ b
 den ρ (a ⊖ b) = den ρ a -ℤ den ρ b
 den ρ (a ⊗ b) = den ρ a *ℤ den ρ b
-den ρ (a ⊘ b) = quotZ (den ρ a) (den ρ b)
 
 infixr 30 _and_
 abbrev pub _and_ : Bool → Bool → Bool
 true and b = b
 false and b = false
-
-abbrev pub pure : Expr → Bool
-pure (var n) = true
-pure (con z) = true
-pure (a ⊕ b) = pure a and pure b
-pure (a ⊖ b) = pure a and pure b
-pure (a ⊗ b) = pure a and pure b
-pure (a ⊘ b) = false
 
 -- ---- monomials: sorted lists of variables
 
@@ -89,7 +77,6 @@ terms (con z) = term z [] none
 terms (a ⊕ b) = tadd (terms a) (terms b)
 terms (a ⊖ b) = tadd (terms a) (tneg (terms b))
 terms (a ⊗ b) = tmul (terms a) (terms b)
-terms (a ⊘ b) = none
 
 -- ---- a search tree of coefficients
 
@@ -115,7 +102,7 @@ zeros leaf = true
 zeros (node l n d r) = isZero d and (zeros l and zeros r)
 
 abbrev pub vanishes : Expr → Bool
-vanishes e = pure e and zeros (gather (terms e) leaf)
+vanishes e = zeros (gather (terms e) leaf)
 
 -- ---- soundness
 
@@ -190,13 +177,12 @@ module _ (ρ : ℕ → ℤ) where
   tmul-den none q = sym (zero-*ℤ (dt q))
   tmul-den (term c m p) q = tscale-den c m q (tmul p q) ∙ ap (λ z. (c *ℤ dm m) *ℤ dt q +ℤ z) (tmul-den p q) ∙ sym (distr (c *ℤ dm m) (dt p) (dt q))
 
-  pub terms-den : (e : Expr) → T (pure e) → dt (terms e) ≡ den ρ e
-  terms-den (var n) h = +ℤ-idr (pos 1 *ℤ (ρ n *ℤ pos 1)) ∙ one-* (ρ n *ℤ pos 1) ∙ *ℤ-comm (ρ n) (pos 1) ∙ one-* (ρ n)
-  terms-den (con z) h = +ℤ-idr (z *ℤ pos 1) ∙ *ℤ-comm z (pos 1) ∙ one-* z
-  terms-den (a ⊕ b) h = tadd-den (terms a) (terms b) ∙ ap₂ _+ℤ_ (terms-den a (and-l (pure a) (pure b) h)) (terms-den b (and-r (pure a) (pure b) h))
-  terms-den (a ⊖ b) h = tadd-den (terms a) (tneg (terms b)) ∙ ap₂ _+ℤ_ (terms-den a (and-l (pure a) (pure b) h)) (tneg-den (terms b) ∙ ap negℤ (terms-den b (and-r (pure a) (pure b) h)))
-  terms-den (a ⊗ b) h = tmul-den (terms a) (terms b) ∙ ap₂ _*ℤ_ (terms-den a (and-l (pure a) (pure b) h)) (terms-den b (and-r (pure a) (pure b) h))
-  terms-den (a ⊘ b) h = absurd h
+  pub terms-den : (e : Expr) → dt (terms e) ≡ den ρ e
+  terms-den (var n) = +ℤ-idr (pos 1 *ℤ (ρ n *ℤ pos 1)) ∙ one-* (ρ n *ℤ pos 1) ∙ *ℤ-comm (ρ n) (pos 1) ∙ one-* (ρ n)
+  terms-den (con z) = +ℤ-idr (z *ℤ pos 1) ∙ *ℤ-comm z (pos 1) ∙ one-* z
+  terms-den (a ⊕ b) = tadd-den (terms a) (terms b) ∙ ap₂ _+ℤ_ (terms-den a) (terms-den b)
+  terms-den (a ⊖ b) = tadd-den (terms a) (tneg (terms b)) ∙ ap₂ _+ℤ_ (terms-den a) (tneg-den (terms b) ∙ ap negℤ (terms-den b))
+  terms-den (a ⊗ b) = tmul-den (terms a) (terms b) ∙ ap₂ _*ℤ_ (terms-den a) (terms-den b)
 
   put-den : (m : Mono) (c : ℤ) (t : Tree) → dr (put m c t) ≡ c *ℤ dm m +ℤ dr t
   put-den m c leaf = +ℤ-idr (c *ℤ dm m +ℤ pos 0)
@@ -225,8 +211,7 @@ module _ (ρ : ℕ → ℤ) where
       ∙ ap (λ z. (pos 0 +ℤ pos 0) +ℤ z) (zeros-den r (and-r (zeros l) (zeros r) (and-r (isZero d) (zeros l and zeros r) h)))
 
   vanish : (e : Expr) → T (vanishes e) → den ρ e ≡ pos 0
-  vanish e h = sym (terms-den e (and-l (pure e) (zeros (gather (terms e) leaf)) h)) ∙ sym (gather-den (terms e) leaf ∙ +ℤ-idr (dt (terms e)))
-      ∙ zeros-den (gather (terms e) leaf) (and-r (pure e) (zeros (gather (terms e) leaf)) h)
+  vanish e h = sym (terms-den e) ∙ sym (gather-den (terms e) leaf ∙ +ℤ-idr (dt (terms e))) ∙ zeros-den (gather (terms e) leaf) h
 
 -- two expressions that agree at every valuation
 pub ring-law : (a b : Expr) → T (vanishes (a ⊖ b)) → (ρ : ℕ → ℤ) → den ρ a ≡ den ρ b

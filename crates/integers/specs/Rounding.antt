@@ -1,10 +1,10 @@
 -- Rounding: rnd gives the nearest whole number, halves away from zero; and its laws, which is all that other proofs use of it. Assumes nothing.
 use mathlib.Core.Path.{_≡_, refl, sym, ap, subst, _∙_}
-use Prim.Native.Nat.{ℕ, zero, suc, _+_, _-_, _*_, _/_, _%_, _^_, _≤_, _<_, zero-le}
-use native.Mathlib.Nat.{not-suc-le-zero, mod-lt, div-add-mod', div-eq-of-lt, div-lt-iff-lt-mul, mul-comm, mul-assoc, suc-mul, mul-left-comm}
+use Prim.Native.Nat.{ℕ, zero, suc, _+_, _-_, _*_, _/_, _%_, _^_, _≤_, _<_}
+use native.Mathlib.Nat.{mod-lt, div-add-mod', div-eq-of-lt, div-lt-iff-lt-mul, mul-comm, mul-assoc, suc-mul, mul-left-comm}
 use native.Mathlib.Omega.{arith}
-use lib.Dec.{leb→le, le→leb}
-use lib.IntN.{ℤ, pos, negsuc, negℤ, natAbs, _-ℤ_, _*ℤ_, negℤ-negℤ}
+use lib.Dec.{leb→le}
+use lib.IntN.{ℤ, pos, negsuc, negℤ, natAbs, _-ℤ_, _*ℤ_}
 use lib.Signed.{_≤ℤ_}
 use Rattle.model.specs.Numbers.{rnd}
 use Rattle.model.specs.Claims.{RoundingClaim}
@@ -53,29 +53,6 @@ rnd-size k a b z h = rw rnd-abs (below ((2 * natAbs a + natAbs b) / (2 * natAbs 
 
     below : (x k : ℕ) → x < suc k → x ≤ k
     below x k l = omega arith
-
--- ---- its sign
-
-pub rnd-neg : (a b : ℤ) → rnd (negℤ a) b ≡ negℤ (rnd a b)
-unfolding rnd
-rnd-neg (pos zero) b = rnd-zero b ∙ sym (ap negℤ (rnd-zero b))
-rnd-neg (pos (suc a)) b = refl
-rnd-neg (negsuc a) b = sym (negℤ-negℤ (pos ((2 * suc a + natAbs b) / (2 * natAbs b))))
-
-pub rnd-not-negative : (a b : ℤ) → pos 0 ≤ℤ a → pos 0 ≤ℤ rnd a b
-unfolding rnd
-rnd-not-negative (pos a) b h = record { le = le→leb 0 ((2 * a + natAbs b) / (2 * natAbs b)) zero-le }
-rnd-not-negative (negsuc a) b h = absurd (h .le)
-
-not-positive : (n : ℕ) → negℤ (pos n) ≤ℤ pos 0
-not-positive zero = record { le = tt }
-not-positive (suc n) = record { le = tt }
-
-pub rnd-not-positive : (a b : ℤ) → a ≤ℤ pos 0 → rnd a b ≤ℤ pos 0
-unfolding rnd
-rnd-not-positive (pos zero) b h = subst (λ (z : ℤ). z ≤ℤ pos 0) (sym (rnd-zero b)) (record { le = tt })
-rnd-not-positive (pos (suc a)) b h = absurd (not-suc-le-zero (leb→le (suc a) 0 (h .le)))
-rnd-not-positive (negsuc a) b h = not-positive ((2 * suc a + natAbs b) / (2 * natAbs b))
 
 -- ---- nearest, halves away from zero
 

@@ -7,12 +7,12 @@ ghost use Rattle.model.specs.Numbers;
 ghost use Rattle.integers.specs.Ranges.{between};
 ghost use Rattle.integers.specs.Rounding.{Roundable, mostDividend, mostDivisor};
 
-// The size of a number.
-fn magnitude(a: i64) -> u64
-    requires { ⌜ natAbs a ≤ mostDividend ⌝ }
+// The size of any number, also of the least one, whose negative does not fit. It rules out, for instance: one less for a negative
+// number; the bits of a negative number.
+pub fn magnitude(a: i64) -> u64
     ensures { λ r. ⌜ r ≡ natAbs a ⌝ }
 {
-    if a < 0 { (-a) as u64 } else { a as u64 }
+    if a < 0 { (-1 - a) as u64 + 1 } else { a as u64 }
 }
 
 // The nearest whole number to t/d, halves up: one division gives quotient and remainder.

@@ -1,6 +1,6 @@
 -- What each answer means: 01's number, then the values returned with it in 01's order, as one list. 0 stands for no refusal.
 -- 01 leaves open how a field, a comparison's answer and the refused record are numbered: the numbers here are ours.
-use mathlib.Core.List.{List, [], _∷_, map}
+use mathlib.Core.List.{List, [], _∷_, _++_, map}
 use Prim.Native.Nat.{ℕ}
 use lib.IntN.{ℤ, pos}
 use Rattle.model.specs.declared.Field.{Field}
@@ -96,9 +96,17 @@ runNumbers (R.Stopped m p f k) = 6 ∷ p ∷ fieldNumber f ∷ k ∷ m ∷ []
 abbrev pub toldRun : RunAnswer → List ℤ
 toldRun a = whole (runNumbers a)
 
+-- a total has a sign, so a caller of the C interface reads it beside the numbers
+abbrev pub totalNumbers : TotalAnswer → List ℕ
+totalNumbers (T.Total x) = 0 ∷ []
+totalNumbers (T.Refused r) = refusalNumbers r
+
+abbrev pub totalIn : TotalAnswer → List ℤ
+totalIn (T.Total x) = x ∷ []
+totalIn (T.Refused r) = []
+
 abbrev pub toldTotal : TotalAnswer → List ℤ
-toldTotal (T.Total x) = pos 0 ∷ x ∷ []
-toldTotal (T.Refused r) = told r
+toldTotal a = whole (totalNumbers a) ++ totalIn a
 
 abbrev pub writeNumbers : WriteAnswer → List ℕ
 writeNumbers (W.Written m) = 0 ∷ m ∷ []
@@ -107,7 +115,16 @@ writeNumbers (W.Refused r) = refusalNumbers r
 abbrev pub toldWrite : WriteAnswer → List ℤ
 toldWrite a = whole (writeNumbers a)
 
--- w, n, kind, G, c, R and the timestamp
+-- w, n, kind and the timestamp; G, c and R have a sign, so they stand beside the numbers, as a total does
+abbrev pub readNumbers : ReadAnswer → List ℕ
+readNumbers (D.Read p t) = 0 ∷ p .w ∷ p .n ∷ p .kind ∷ t ∷ []
+readNumbers (D.Refused r) = refusalNumbers r
+
+abbrev pub constantsIn : ReadAnswer → List ℤ
+constantsIn (D.Read p t) = p .g ∷ p .c ∷ p .r ∷ []
+constantsIn (D.Refused r) = []
+
+-- in 01's order: w, n, kind, G, c, R and the timestamp
 abbrev pub toldRead : ReadAnswer → List ℤ
 toldRead (D.Read p t) = pos 0 ∷ pos (p .w) ∷ pos (p .n) ∷ pos (p .kind) ∷ p .g ∷ p .c ∷ p .r ∷ pos t ∷ []
 toldRead (D.Refused r) = told r

@@ -4,13 +4,13 @@ use mathlib.Core.Bool.{Bool, false, _&&_}
 use mathlib.Core.Logic.{_↔_, _⊎_}
 use mathlib.Core.List.{List, [], _∷_, _++_}
 use mathlib.Core.Option.{Option, none, some}
-use Prim.Native.Nat.{ℕ, zero, suc, _*_, _^_, _≤_, _<_}
+use Prim.Native.Nat.{ℕ, zero, suc, _+_, _*_, _^_, _≤_, _<_}
 use lib.Dec.{T}
 use lib.IntN.{ℤ, pos, negℤ, natAbs, _+ℤ_, _-ℤ_, _*ℤ_}
 use lib.ListN.{length, getD, take, drop, replicate}
 use lib.Signed.{_≤ℤ_}
 use Rattle.model.specs.Numbers.{rnd, vorticityLimits, all}
-use Rattle.model.specs.Grid.{at, byCell, firstFrom}
+use Rattle.model.specs.Grid.{at, byCell, filled, firstFrom}
 use Rattle.model.specs.State.{State, stateOf, parametersOf, withFlow, cells, closedWest, closedSouth, WithinLimits, FieldWithin, OpenEverywhere}
 use Rattle.model.specs.Answers.{number}
 use Rattle.model.specs.Refusals.{Place, Taken, fieldsOf, besideTaken, runShort, workEnough, outside, long, moving, workLength, gridKnown, constantsWithin, stateTest, callTest}
@@ -18,16 +18,17 @@ use Rattle.model.specs.Scheme.{vorticityAt, vorticity, D, tendencyU, ten
 use Rattle.model.specs.Rates.{energyRate, enstrophyRate}
 use Rattle.model.specs.Totals.{totalDepth, energy4}
 use Rattle.model.specs.Step.{pass, leaves, moved, stuck, twoPass, stepTest, stepAnswer, cleared}
-use Rattle.model.specs.Record.{Timestamp, recordLength, rising, decode, accepted, refused}
-use Rattle.model.specs.Program.{programCells, programWork}
+use Rattle.model.specs.Record.{Timestamp, Part, valueOf, tagAt, sizeAt, partAt, stateIn, timestampIn, recordLength, rising, decode, accepted, refused}
+use Rattle.model.specs.Program.{programCells, programWork, outputRoom, programOutput}
 use Rattle.model.specs.Promises.{TestPromise, VorticityPromise, TendenciesPromise, StepPromise, RunPromise, TotalDepthPromise, TotalEnergyPromise, WritePromise, ReadPromise, ComparePromise}
 use Rattle.model.specs.Histories.{Call, step, History, inflowDue, runCount}
 use Rattle.model.specs.declared.Parameters.{Parameters}
 use Rattle.model.specs.declared.Field.{Field}
 use Rattle.model.specs.declared.Field.the-variants.{VelocityU, VelocityV}
 use Rattle.model.specs.declared.Refusal.{Refusal}
-use Rattle.model.specs.declared.Refusal.the-variants.{Grid, Lengths, Constants, Value, ClosedEdge}
+use Rattle.model.specs.declared.Refusal.the-variants.{Grid, Lengths, Constants, Value, ClosedEdge, Record, Destination}
 use Rattle.model.specs.declared.Beside.{Beside}
+use Rattle.model.specs.declared.Beside.the-variants.{Nothing, Vorticity}
 use Rattle.model.specs.declared.TestAnswer.{TestAnswer}
 use Rattle.model.specs.declared.FillAnswer.{FillAnswer}
 use Rattle.model.specs.declared.StepAnswer.{StepAnswer}
@@ -111,6 +112,106 @@ pub record TestClaim : Type 0 where
   pub passed : (s : State) (beside : Beside) (x : List ℤ)
       → TestPromise s beside x Q.Passed ↔ (WithinLimits s × EachWithin (besideTaken (cells s) beside x) × T (runShort beside) × T (workEnough (cells s) beside))
   pub refused : (s : State) (beside : Beside) (x : List ℤ) (r : Refusal) → TestPromise s beside x (Q.Refused r) ↔ Cause s beside x r
+
+-- why a call that fills m places of each destination refuses with r, where the destinations have these lengths (`rooms`):
+-- a cause of 1 to 5, the same as for the tests by themselves; or none of these, and 8: not each destination has m places
+abbrev pub FillCause : State → Beside → List ℤ → ℕ → List ℕ → Refusal → Type 0
+FillCause s beside x m rooms r =
+    Cause s beside x r
+    ⊎ (WithinLimits s × EachWithin (besideTaken (cells s) beside x) × (EachRoom m rooms → ⊥) × (Destination ≡ r))
+
+-- potential vorticity, tendencies and the writer refuse with r exactly where r's cause holds, and leave each destination as it was
+pub record RoomClaim : Type 0 where
+  pub vorticity : (s : State) (d d′ : List ℤ) (r : Refusal) → VorticityPromise s d (F.Refused r) d′ ↔ (FillCause s Nothing [] (cells s) (length d ∷ []) r × (d′ ≡ d))
+  pub tendencies : (s : State) (q dh du dv dh′ du′ dv′ : List ℤ) (r : Refusal)
+      → TendenciesPromise s q dh du dv (F.Refused r) dh′ du′ dv′
+      ↔ (FillCause s Vorticity q (cells s) (length dh ∷ length du ∷ length dv ∷ []) r × (dh′ ≡ dh) × (du′ ≡ du) × (dv′ ≡ dv))
+  pub write : (s : State) (t : Timestamp) (d d′ : List ℕ) (r : Refusal)
+      → WritePromise s t d (W.Refused r) d′ ↔ (FillCause s Nothing [] (recordLength s) (length d ∷ []) r × (d′ ≡ d))
+
+-- ---- why a record is refused: 7, then 1, 2, 8, 3, 4, 5
+
+-- one of these fields of a record has tag t
+abbrev pub Among : ℕ → List Part → Type 0
+Among t [] = ⊥
+Among t (p ∷ l) = (p .tag ≡ t) ⊎ Among t l
+
+-- not 3 bytes for tag 1, 12 for tag 2, 8 for tag 3; for tags 4 to 7 no length is wrong here
+abbrev pub WrongLength : (tag size : ℕ) → Type 0
+WrongLength tag size = ((tag ≡ 1) × (size ≡ 3 → ⊥)) ⊎ ((tag ≡ 2) × (size ≡ 12 → ⊥)) ⊎ ((tag ≡ 3) × (size ≡ 8 → ⊥))
+
+-- 7, at the tag at offset k, where a byte is left, and past the fields `parts`. Line by line:
+-- 1 or 2 bytes left; unknown tag; repeated tag; value past the end; tag 1, 2, 3 of wrong length
+abbrev pub BadTag : List ℕ → ℕ → List Part → Type 0
+BadTag rec k parts =
+    (length rec < k + 3)
+    ⊎ ((tagAt rec k < 1) ⊎ (7 < tagAt rec k))
+    ⊎ Among (tagAt rec k) parts
+    ⊎ (length rec < k + 3 + sizeAt rec k)
+    ⊎ WrongLength (tagAt rec k) (sizeAt rec k)
+
+-- from the record's start, tag by tag and none of them bad, one gets to offset k, past the fields `parts`
+pub data Reaches (rec : List ℕ) : ℕ → List Part → Type 0 where
+  outset : Reaches rec 0 []
+  past : {k : ℕ} {parts : List Part} → Reaches rec k parts → k < length rec → (BadTag rec k parts → ⊥)
+      → Reaches rec (k + 3 + sizeAt rec k) (parts ++ (partAt rec k ∷ []))
+
+-- there is a tag of 1 to 7 that none of these fields has
+abbrev pub Missing : List Part → Type 0
+Missing parts = (t : ℕ) × (1 ≤ t) × (t ≤ 7) × (Among t parts → ⊥)
+
+-- 7: one gets to a bad tag, and r tells its offset; or to the record's end, with a tag missing, and r tells the record's length
+abbrev pub Damaged : List ℕ → Refusal → Type 0
+Damaged rec r =
+    ((k : ℕ) × (parts : List Part) × Reaches rec k parts × (k < length rec) × BadTag rec k parts × (Record k ≡ r))
+    ⊎ ((parts : List Part) × Reaches rec (length rec) parts × Missing parts × (Record (length rec) ≡ r))
+
+-- no 7: one gets to the record's end, past these fields, and no tag is missing
+abbrev pub WholeIn : List ℕ → List Part → Type 0
+WholeIn rec parts = Reaches rec (length rec) parts × (Missing parts → ⊥)
+
+-- 2, in a record, asks that each field has the bytes of m numbers: four a cell for h and b (tags 4, 5), two for u and v (tags 6, 7)
+abbrev pub BytesOf : ℕ → List Part → Type 0
+BytesOf m parts = (length (valueOf 4 parts) ≡ 4 * m) × (length (valueOf 5 parts) ≡ 4 * m) × (length (valueOf 6 parts) ≡ 2 * m) × (length (valueOf 7 parts) ≡ 2 * m)
+
+-- why a record of these fields is refused with r, for destinations of these lengths: the first test in the order 1, 2, 8, 3, 4, 5 that
+-- does not hold is r's, and r names the first place. What 1, 3, 4 and 5 ask is as in `Cause`, of the state that the fields mean (`stateIn`)
+abbrev pub FieldsCause : List Part → List ℕ → Refusal → Type 0
+FieldsCause parts rooms r =
+    let s = stateIn parts in
+    Stops (T (gridKnown s)) Grid
+    (Stops (BytesOf (cells s) parts) Lengths
+    (Stops (EachRoom (cells s) rooms) Destination
+    (Stops (T (constantsWithin s)) Constants
+    (((p : Place) × (Value (p .field) (p .cell) ≡ r) × FirstOutside (fieldsOf s) p)
+    ⊎ (Inside (fieldsOf s) × ((p : Place) × (ClosedEdge (p .field) (p .cell) ≡ r) × FirstMoving s p))) r) r) r) r
+
+-- why a record is refused with r: a 7; or no 7, and its fields' cause
+abbrev pub ReadCause : List ℕ → List ℕ → Refusal → Type 0
+ReadCause rec rooms r = Damaged rec r ⊎ ((parts : List Part) × WholeIn rec parts × FieldsCause parts rooms r)
+
+-- no cause holds of a record: no 7, the bytes of w·n numbers, room, and a state within the limits. s and t are what its fields mean
+pub record Readable (rec rooms : List ℕ) (s : State) (t : Timestamp) : Type 0 where
+  pub parts : List Part
+  pub whole : WholeIn rec parts
+  pub state : stateIn parts ≡ s
+  pub timestamp : timestampIn parts ≡ t
+  pub bytes : BytesOf (cells s) parts
+  pub room : EachRoom (cells s) rooms
+  pub inside : WithinLimits s
+
+-- a record is refused with r exactly where r's cause holds, and read exactly where none does. The reader's promise says the same; where
+-- it refuses, each destination is left as it was, and otherwise the first w·n places of each are the state's
+pub record ReadCausesClaim : Type 0 where
+  pub refuses : (rec rooms : List ℕ) (r : Refusal) → (decode rec rooms ≡ refused r) ↔ ReadCause rec rooms r
+  pub accepts : (rec rooms : List ℕ) (s : State) (t : Timestamp) → (decode rec rooms ≡ accepted s t) ↔ Readable rec rooms s t
+  pub read-refuses : (rec : List ℕ) (h b u v h′ b′ u′ v′ : List ℤ) (r : Refusal)
+      → ReadPromise rec h b u v (G.Refused r) h′ b′ u′ v′
+      ↔ (ReadCause rec (length h ∷ length b ∷ length u ∷ length v ∷ []) r × (h′ ≡ h) × (b′ ≡ b) × (u′ ≡ u) × (v′ ≡ v))
+  pub read-accepts : (rec : List ℕ) (h b u v h′ b′ u′ v′ : List ℤ) (p : Parameters) (t : Timestamp)
+      → ReadPromise rec h b u v (G.Read p t) h′ b′ u′ v′
+      ↔ ((s : State) × Readable rec (length h ∷ length b ∷ length u ∷ length v ∷ []) s t × (p ≡ parametersOf s)
+      × (h′ ≡ filled (cells s) (s .h) h) × (b′ ≡ filled (cells s) (s .b) b) × (u′ ≡ filled (cells s) (s .u) u) × (v′ ≡ filled (cells s) (s .v) v))
 
 -- each promise can be met, for any numbers and any lengths
 pub record MetClaim : Type 0 where
@@ -281,6 +382,10 @@ ReadClaim = (rec : List ℕ) (h b u v h′ b′ u′ v′ : List ℤ) (p : Param
 abbrev pub ProgramClaim : Type 0
 ProgramClaim = (input : List ℕ) (s : State) (t : Timestamp) → decode input (replicate 4 programCells) ≡ accepted s t
     → stepTest s (replicate (cells s) (pos 0)) programWork ≡ none
+
+-- there is room for all that the step program prints
+abbrev pub OutputClaim : Type 0
+OutputClaim = (input : List ℕ) → length (programOutput input) ≤ outputRoom
 
 -- each number is a byte, as in any slice of bytes
 abbrev pub Bytes : List ℕ → Type 0

@@ -105,7 +105,7 @@ zeros m = replicate m (pos 0)
 
 -- ---- states
 
--- cases 2, 3, 7 and 10: one cell of depth h
+-- cases 2, 3, 7, 9 and 10: one cell of depth h
 abbrev one : ℤ → State
 one h = record { w = 1; n = 1; kind = 0; G = pos 9810; c = pos 10; R = pos 1000; h = h ∷ []; b = pos 0 ∷ []; u = pos 100 ∷ []; v = minus 50 ∷ [] }
 
@@ -139,7 +139,7 @@ four = record {
   v = pos 5000 ∷ minus 5000 ∷ pos 0 ∷ pos 0 ∷ [];
 }
 
--- a state with several faults at once, to tell the order of the tests: one cell, walled
+-- a state with several faults at once, to tell the order of the tests: one row, walled
 abbrev faulty : (w : ℕ) (G : ℤ) (h b u v : List ℤ) → State
 faulty w G h b u v = record { w = w; n = 1; kind = 2; G = G; c = pos 0; R = pos 1000; h = h; b = b; u = u; v = v }
 
@@ -165,8 +165,8 @@ dock =
     ∷ 7 ∷ 0 ∷ 2 ∷ 0xff ∷ 0xce
     ∷ []
 
-abbrev stamped : ℕ → ℕ → List ℕ
-stamped t h = take 24 dock ++ bytes 8 t ++ (4 ∷ 0 ∷ 4 ∷ []) ++ bytes 4 h ++ drop 39 dock
+abbrev timestamped : ℕ → ℕ → List ℕ
+timestamped t h = take 24 dock ++ bytes 8 t ++ (4 ∷ 0 ∷ 4 ∷ []) ++ bytes 4 h ++ drop 39 dock
 
 -- read into four fields of one number, a record is refused with 7 and this offset
 abbrev damaged : List ℕ → ℕ → Example
@@ -241,6 +241,8 @@ workedExamples =
     ∷ energy (one (pos 999)) (pos 4 ∷ pos 0 ∷ pos 0 ∷ [])
     ∷ depth (one (pos 1000)) (pos 0 ∷ pos 1000 ∷ [])
     ∷ vorticities (one (pos 1000)) none accepted (just (pos 655))
+    ∷ tends (one (pos 1000)) (just (pos 655)) none none none accepted none (just (minus 1572000000)) (just (minus 3144000000))
+    ∷ energy (one (pos 1000)) (pos 0 ∷ pos 19645000000 ∷ [])
     -- 8: q(0,0), and the other three
     ∷ vorticities four (zeros 4) accepted (pos 1966080 ∷ pos 0 ∷ pos 0 ∷ pos 655360 ∷ [])
     -- 9
@@ -336,16 +338,16 @@ orders =
     (sixState .h ++ sevens 1) (sixState .b ++ sevens 1) (sixState .u ++ sevens 1) (sixState .v ++ sevens 1)
     -- the newer timestamp tells; under one timestamp the states do
     ∷ compares dock dock (pos 0 ∷ pos 0 ∷ [])
-    ∷ compares (stamped 0 2001) (stamped 0 2000) (pos 0 ∷ pos 3 ∷ [])
-    ∷ compares (stamped 256 2000) (stamped 1 2000) (pos 0 ∷ pos 1 ∷ [])
-    ∷ compares (stamped 255 2001) (stamped 256 2000) (pos 0 ∷ pos 2 ∷ [])
+    ∷ compares (timestamped 0 2001) (timestamped 0 2000) (pos 0 ∷ pos 3 ∷ [])
+    ∷ compares (timestamped 256 2000) (timestamped 1 2000) (pos 0 ∷ pos 1 ∷ [])
+    ∷ compares (timestamped 255 2001) (timestamped 256 2000) (pos 0 ∷ pos 2 ∷ [])
     ∷ compares [] (take 51 dock) (pos 7 ∷ pos 1 ∷ pos 0 ∷ [])
     ∷ compares dock (take 51 dock) (pos 7 ∷ pos 2 ∷ pos 51 ∷ [])
     -- the program on six cells, each in its line; its refusals carry the number alone
     ∷ prints (encode lake 0) "total 6210\n0 0 1010 0 0\n1 0 1020 0 0\n2 0 1030 0 0\n0 1 1040 0 0\n1 1 1050 0 0\n2 1 1060 0 0\n"
     ∷ prints (encode (cell 0 (pos 1) (pos 10000) (pos 1000) (pos 1000) (pos 0) (pos 5000) (pos 5000)) 0) "refused 6\n"
     ∷ prints [] "refused 7\n"
-    ∷ prints (stamped 0 999) "refused 4\n"
+    ∷ prints (timestamped 0 999) "refused 4\n"
     ∷ []
 
 -- ---- each bound at both ends, and one past

@@ -12,12 +12,12 @@ pub mod Weights
 pub mod Scheme
 pub mod Rates
 pub mod Totals
--- two-pass step, run and work space; record; step program
+-- two-pass step, run and work space; record
 pub mod Step
 pub mod Record
-pub mod Program
--- what each call promises; lists of calls; the theorems as statements
+-- what each call promises; the step program; lists of calls; the theorems as statements
 pub mod Promises
+pub mod Program
 pub mod Histories
 pub mod Claims
 -- the worked examples, computed

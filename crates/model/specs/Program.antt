@@ -1,18 +1,22 @@
 -- The step program: what it prints for the bytes on its standard input.
+use mathlib.Core.Path.{_≡_}
 use mathlib.Core.Bool.{cond}
 use mathlib.Core.List.{List, [], _∷_, _++_}
-use Prim.Native.Nat.{ℕ, zero, suc, _+_, _/_, _%_}
+use Prim.Native.Nat.{ℕ, zero, suc, _+_, _/_, _%_, min}
 use Prim.Native.Char.{code}
 use Prim.Native.String.{String, [] as end, _∷_ as char}
 use lib.Dec.{leb, ltb}
 use lib.IntN.{ℤ, pos, negsuc}
-use lib.ListN.{length, getD, replicate}
+use lib.ListN.{length, getD, replicate, take}
+use lib.Seq.{sets}
 use Rattle.model.specs.Grid.{tabulate}
 use Rattle.model.specs.State.{State, cells}
 use Rattle.model.specs.Answers.{number}
 use Rattle.model.specs.Totals.{totalDepth}
-use Rattle.model.specs.Step.{stepAnswer, stepState}
+use Rattle.model.specs.Step.{stepTest, stepAnswer, stepState, workLeft}
 use Rattle.model.specs.Record.{Decoded, accepted, refused, decode}
+use Rattle.model.specs.Promises.{readInto}
+use Rattle.model.specs.declared.Refusal.the-variants.{Record}
 use Rattle.model.specs.declared.StepAnswer.{StepAnswer}
 use Rattle.model.specs.declared.StepAnswer.the-variants as S
 
@@ -37,26 +41,18 @@ line [] = code "\n" ∷ []
 line (word ∷ []) = word ++ (code "\n" ∷ [])
 line (word ∷ more ∷ words) = word ++ (code " " ∷ line (more ∷ words))
 
--- ---- the program
-
--- the arrays that the program lends: fields for up to 1,024 cells, and their work space
-abbrev pub programCells : ℕ
-programCells = 1024
-
-abbrev pub programWork : ℕ
-programWork = 8192
-
--- an input of this many bytes, or more, is a 7
-abbrev pub inputLimit : ℕ
-inputLimit = 65536
+-- ---- what is printed
 
 abbrev pub refusedLine : ℕ → List ℕ
 refusedLine k = line (text "refused" ∷ decimal (pos k) ∷ [])
 
--- i, j, h, u, v of the cell with index k
-abbrev pub cellLine : State → ℕ → List ℕ
-cellLine s k =
-    line (decimal (pos (k % s .w)) ∷ decimal (pos (k / s .w)) ∷ decimal (getD (s .h) k (pos 0)) ∷ decimal (getD (s .u) k (pos 0)) ∷ decimal (getD (s .v) k (pos 0)) ∷ [])
+abbrev pub totalLine : ℤ → List ℕ
+totalLine x = line (text "total" ∷ decimal x ∷ [])
+
+-- i, j, h, u, v of the cell with index k, on a grid of w columns
+abbrev pub cellLine : ℕ → List ℤ → List ℤ → List ℤ → ℕ → List ℕ
+cellLine w h u v k =
+    line (decimal (pos (k % w)) ∷ decimal (pos (k / w)) ∷ decimal (getD h k (pos 0)) ∷ decimal (getD u k (pos 0)) ∷ decimal (getD v k (pos 0)) ∷ [])
 
 abbrev pub lines : List (List ℕ) → List ℕ
 lines [] = []
@@ -64,20 +60,70 @@ lines (l ∷ more) = l ++ lines more
 
 -- total depth, then each cell
 abbrev pub stateLines : State → List ℕ
-stateLines s = lines (line (text "total" ∷ decimal (totalDepth s) ∷ []) ∷ tabulate (cells s) (cellLine s))
+stateLines s = lines (totalLine (totalDepth s) ∷ tabulate (cells s) (cellLine (s .w) (s .h) (s .u) (s .v)))
 
 abbrev pub stepLines : StepAnswer → State → List ℕ
 stepLines S.Done s = stateLines s
 stepLines (S.Refused r) s = refusedLine (number r)
 stepLines (S.OutOfBounds p f k) s = refusedLine 6
 
--- one step without inflow, of a record read into the program's arrays
-abbrev pub programBy : Decoded → List ℕ
-programBy (refused r) = refusedLine (number r)
-programBy (accepted s t) =
-    let calm = replicate (cells s) (pos 0) in
-    stepLines (stepAnswer s calm programWork) (stepState s calm programWork)
+-- ---- a record read and stepped, over any lent arrays
+
+-- an input of this many bytes, or more, is a 7
+abbrev pub inputLimit : ℕ
+inputLimit = 65536
+
+-- ... before anything is read of it. The program prints a number alone, so nobody is told an offset. `rooms` are the lengths of the fields.
+unfoldable pub programRead : List ℕ → List ℕ → Decoded
+programRead input rooms = cond (leb inputLimit (length input)) (refused (Record (length input))) (decode input rooms)
+
+-- what its step takes of a lent inflow: the first w·n numbers
+abbrev pub inflowFor : State → List ℤ → List ℤ
+inflowFor s inflow = take (cells s) inflow
+
+-- `room` is the length of the work space
+abbrev pub steppedLines : List ℤ → ℕ → Decoded → List ℕ
+steppedLines inflow room (refused r) = refusedLine (number r)
+steppedLines inflow room (accepted s t) = stepLines (stepAnswer s (inflowFor s inflow) room) (stepState s (inflowFor s inflow) room)
+
+abbrev pub steppedWork : List ℤ → List ℤ → Decoded → List ℤ
+steppedWork inflow work (refused r) = work
+steppedWork inflow work (accepted s t) = workLeft (stepTest s (inflowFor s inflow) (length work)) s work
+
+-- a text is put into a lent slice, as far as there is room, and its bytes there are counted
+pub record Printed (printed entry : List ℕ) (r : ℕ) (exit : List ℕ) : Type 0 where
+  pub counts : r ≡ min (length printed) (length entry)
+  pub holds : exit ≡ sets entry 0 printed
+
+-- the state after its step
+abbrev pub steppedState : List ℤ → List ℤ → State → State
+steppedState inflow work s = stepState s (inflowFor s inflow) (length work)
+
+-- by what is read. A prime marks what stands in a lent slice as the call returns.
+pub record ProgramLeaves (read : Decoded) (h b u v inflow work : List ℤ) (out : List ℕ) (answer : ℕ) (h′ b′ u′ v′ work′ : List ℤ) (out′ : List ℕ) : Type 0 where
+  pub prints : Printed (steppedLines inflow (length work) read) out answer out′
+  pub fills-h : h′ ≡ readInto (λ s. steppedState inflow work s .h) read h
+  pub fills-b : b′ ≡ readInto (λ s. s .b) read b
+  pub fills-u : u′ ≡ readInto (λ s. steppedState inflow work s .u) read u
+  pub fills-v : v′ ≡ readInto (λ s. steppedState inflow work s .v) read v
+  pub clears : work′ ≡ steppedWork inflow work read
+
+-- It rules out, for instance: the total before the step; a refused step that has printed cells; a grid cut to the room lent.
+abbrev pub ProgramPromise : List ℕ → (h b u v inflow work : List ℤ) (out : List ℕ) (answer : ℕ) (h′ b′ u′ v′ work′ : List ℤ) (out′ : List ℕ) → Type 0
+ProgramPromise input h b u v inflow work out answer h′ b′ u′ v′ work′ out′ =
+    ProgramLeaves (programRead input (length h ∷ length b ∷ length u ∷ length v ∷ [])) h b u v inflow work out answer h′ b′ u′ v′ work′ out′
+
+-- ---- the program's own arrays: fields for up to 1,024 cells, no inflow, and room for what it prints
+
+abbrev pub programCells : ℕ
+programCells = 1024
+
+abbrev pub programWork : ℕ
+programWork = 8192
+
+abbrev pub outputRoom : ℕ
+outputRoom = 32768
 
 unfoldable pub programOutput : List ℕ → List ℕ
 programOutput input =
-    cond (leb inputLimit (length input)) (refusedLine 7) (programBy (decode input (replicate 4 programCells)))
+    steppedLines (replicate programCells (pos 0)) programWork (programRead input (replicate 4 programCells))

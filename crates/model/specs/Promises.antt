@@ -1,6 +1,6 @@
 -- The promises of the public calls, which their `ensures` cite. Each says, for any numbers and any lengths, what the call answers
 -- (`answers`), what that means in 01's numbers and values (`tells`), and what each lent slice holds afterwards, refused calls too.
--- A dash marks what stands in a lent slice as the call returns. No call changes any other slice.
+-- A prime marks what stands in a lent slice as the call returns. No call changes any other slice.
 use mathlib.Core.Path.{_≡_}
 use mathlib.Core.List.{List, [], _∷_}
 use mathlib.Core.Option.{Option, none, some}

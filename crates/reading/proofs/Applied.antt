@@ -64,7 +64,7 @@ module _ (κs : Lfts 5) (c : Dens κs read.ps) (answer : resT read.r κs .Denot)
         → Room (cells state) (now (c .1 .0)) (now (c .1 .1 .0)) (now (c .1 .1 .1 .0)) (now (c .1 .1 .1 .1 .0)) → rec ≡ take (recordLength state) d′
         → (written ≡ Written (recordLength state)) × (answer ≡ Read (parametersOf state) timestamp) × (left (parametersOf state) ≡ state)
     write-then-read l t room fit q =
-        theorems .write-then-read state timestamp d d′ written _ _ _ _ _ _ _ _ answer l t room wrote (fit .depth) (fit .bottom) (fit .west) (fit .south)
+        theorems .write-then-read state timestamp d d′ written _ _ _ _ _ _ _ _ answer l t room wrote (fit .depth) (fit .bottom) (fit .velocity-u) (fit .velocity-v)
         (subst (λ r. ReadPromise r (now (c .1 .0)) (now (c .1 .1 .0)) (now (c .1 .1 .1 .0)) (now (c .1 .1 .1 .1 .0)) answer (now (f .1 .0)) (now (f .1 .1 .0)) (now (f .1 .1 .1 .0)) (now (f .1 .1 .1 .1 .0))) q told)
 
     -- an accepted record whose tags rise, and what was read of it written again: the same bytes

@@ -95,7 +95,7 @@ module _ (rec : List ℕ) (h b u v : List ℤ) {x y r : ℕ} (p : Least (length 
     unfolding readOf
     read-room =
         let e = decoded-within rec (length h ∷ length b ∷ length u ∷ length v ∷ []) s (timestampIn (partsIn rec)) read-accepted .1 in
-        record { depth = e .0; bottom = e .1 .0; west = e .1 .1 .0; south = e .1 .1 .1 .0 }
+        record { depth = e .0; bottom = e .1 .0; velocity-u = e .1 .1 .0; velocity-v = e .1 .1 .1 .0 }
 
     pub read-done : {p : Parameters} {t m : ℕ} {h′ b′ u′ v′ : List ℤ} → p ≡ parametersOf s → t ≡ timestampIn (partsIn rec) → cells s ≡ m
         → (h′ ≡ filled m (s .h) h) × (b′ ≡ filled m (s .b) b) × (u′ ≡ filled m (s .u) u) × (v′ ≡ filled m (s .v) v) → ReadPromise rec h b u v (Read p t) h′ b′ u′ v′

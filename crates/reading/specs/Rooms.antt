@@ -10,8 +10,8 @@ use lib.ListN.{length}
 pub record Room (m : ℕ) (h b u v : List ℤ) : Type 0 where
   pub depth : m ≤ length h
   pub bottom : m ≤ length b
-  pub west : m ≤ length u
-  pub south : m ≤ length v
+  pub velocity-u : m ≤ length u
+  pub velocity-v : m ≤ length v
 
 -- r is the shorter of a and b: it has room for m exactly where both have
 pub record Least (a b r : ℕ) : Type 0 where

@@ -41,7 +41,7 @@ table-size row corner = record { abs = leb→le _ 2 (every small (getD weights r
 abbrev pub weighted-expr : Expr
 weighted-expr = var 0 ⊗ var 4 ⊕ var 1 ⊗ var 5 ⊕ var 2 ⊗ var 6 ⊕ var 3 ⊗ var 7
 
-pub weighted-size : (row : ℕ) {ne nw sw se : ℤ} → Abs ne mostCorner → Abs nw mostCorner → Abs sw mostCorner → Abs se mostCorner → Abs (weighted row ne nw sw se) mostWeight
+weighted-size : (row : ℕ) {ne nw sw se : ℤ} → Abs ne mostCorner → Abs nw mostCorner → Abs sw mostCorner → Abs se mostCorner → Abs (weighted row ne nw sw se) mostWeight
 unfolding weighted
 weighted-size row a b c d =
     size weighted-expr

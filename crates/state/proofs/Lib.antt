@@ -1,2 +1,2 @@
+-- tests in order; a scan under way
 pub mod TestLaws
-pub mod ScanLaws

@@ -26,25 +26,13 @@ use Rattle.model.specs.declared.TestAnswer.the-variants.{Passed, Refused}
 use Rattle.theorems.specs.Tests.{and-iff, eq-iff, differ}
 use Rattle.theorems.specs.Limits.{room-iff}
 use Rattle.theorems.specs.Tested.{in-order, placed-then, value-append}
-use Rattle.state.specs.declared.Found.the-variants.{At, Nowhere}
-use Rattle.state.specs.declared.Fault.{Fault}
-use Rattle.state.specs.declared.Fault.the-variants.{Outside, West, South}
 use Rattle.integers.specs.declared.Range.{Range}
 use Rattle.integers.specs.Ranges.{between}
-use Rattle.state.specs.Faults.{limitsOf, foundBy, foundIn, cellTest, badIn, refusalBy}
-
--- ---- truth
-
-pub and-true : (b : Bool) → b && true ≡ b
-and-true true = refl
-and-true false = refl
-
--- `r && x` as code makes it, where r tells a: x's value where r holds, else r's own
-pub and-holds : {r a x b : Bool} → r ≡ a → r ≡ true → x ≡ b → x ≡ (a && b)
-and-holds {b = b} e t h = h ∙ ap (λ a. a && b) (sym t ∙ e)
-
-pub and-fails : {r a : Bool} (b : Bool) → r ≡ a → r ≡ false → r ≡ (a && b)
-and-fails b e f = f ∙ ap (λ a. a && b) (sym f ∙ e)
+use Rattle.faults.specs.declared.Found.the-variants.{At, Nowhere}
+use Rattle.faults.specs.declared.Fault.{Fault}
+use Rattle.faults.specs.declared.Fault.the-variants.{Outside, West, South}
+use Rattle.faults.specs.Faults.{limitsOf, foundBy, cellTest, badIn, refusalBy}
+use Rattle.state.specs.InOrder.{foundIn}
 
 -- ---- one test after another
 

@@ -1,2 +1,2 @@
--- a cell's test, and the tests of cells in order
-pub mod Faults
+-- one test after another
+pub mod InOrder

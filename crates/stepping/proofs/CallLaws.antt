@@ -25,8 +25,9 @@ use Rattle.model.specs.declared.RunAnswer.the-variants as R
 use Rattle.theorems.specs.Tests.{differ}
 use Rattle.theorems.specs.Limits.{accepted, grid-iff, work-iff}
 use Rattle.theorems.specs.Tested.{passed-none, refused-some}
-use Rattle.stepping.specs.declared.Outcome.{Outcome}
-use Rattle.stepping.specs.Outcomes.{outcomeBy, answerBy, Stepped, StepReady, Rest}
+use Rattle.advancing.specs.declared.Outcome.{Outcome}
+use Rattle.advancing.specs.Outcomes.{outcomeBy, Stepped, StepReady, Rest}
+use Rattle.stepping.specs.Answers.{answerBy}
 
 -- ---- a refusal that clears the work space comes after the tests of the grid and of the work space
 

@@ -1,4 +1,4 @@
--- what a scan finds and what a step comes to, as the code tells it
-pub mod Outcomes
+-- what a step answers, by what it comes to
+pub mod Answers
 -- a run under way
 pub mod Running

@@ -1,1 +1,2 @@
+-- the number and its values, each in its place
 mod Tells

@@ -1,1 +1,2 @@
+-- what a function returns and leaves in a lent answer
 pub mod Told

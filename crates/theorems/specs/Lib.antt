@@ -5,6 +5,7 @@ pub mod Tests
 pub mod Scans
 pub mod Limits
 pub mod Tested
+pub mod Rooms
 pub mod Fixed
 pub mod Refused
 -- what the calls fill in
@@ -23,8 +24,11 @@ pub mod Histories
 -- the record
 pub mod Bytes
 pub mod Walks
+pub mod Damage
 pub mod RoundTrip
 pub mod Rewrite
+pub mod ReadCauses
 pub mod Program
+pub mod Output
 pub mod Comparing
 pub mod Theorems

@@ -192,7 +192,7 @@ within-of s g n c = parts-iff s [] .0 (grid-iff s .0 g, n, c) .0
 
 -- ---- destinations
 
-rooms-iff : (m : ℕ) (l : List ℕ) → T (all (λ room. leb m room) l) ↔ EachRoom m l
+pub rooms-iff : (m : ℕ) (l : List ℕ) → T (all (λ room. leb m room) l) ↔ EachRoom m l
 rooms-iff m [] = (λ t. tt, λ t. tt)
 rooms-iff m (a ∷ l) =
     let i = and-iff (leb m a) (all (λ room. leb m room) l) in

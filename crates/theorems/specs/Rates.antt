@@ -8,7 +8,7 @@ use lib.IntN.{ℤ, pos, negℤ, _+ℤ_, _-ℤ_, _*ℤ_, zero-*ℤ, negℤ-negℤ
 use Rattle.grid.specs.Cells.{previous-lt}
 use Rattle.model.specs.Grid.{at}
 use Rattle.model.specs.State.{State, boundaryOf, closedWest, closedSouth, WithinLimits, OpenEverywhere}
-use Rattle.model.specs.Scheme.{toWest, toSouth, fluxU, fluxV, D, B, corner, weight, Tu, Tv, tendencyU, tendencyV}
+use Rattle.model.specs.Scheme.{toWest, toSouth, fluxU, fluxV, D, B, corner, Tu, Tv, tendencyU, tendencyV}
 use Rattle.model.specs.Rates.{energyRate, vorticityTendency, D4, enstrophyRate}
 use Rattle.model.specs.Claims.{EnergyClaim, EnstrophyClaim, PeriodicEnstrophyClaim}
 use Rattle.model.specs.declared.FillAnswer.the-variants.{Done}
@@ -29,6 +29,7 @@ no-flux-v : (s : State) → WithinLimits s → (i j : ℕ) → i < s .w → j < 
 unfolding fluxV
 no-flux-v s l i j p q c = no-flux (at (s .w) (s .v) i j) (at (s .w) (s .h) i (toSouth s j) +ℤ at (s .w) (s .h) i j) (l .still-south i j p q c)
 
+-- whatever the weights P, M, E and F are
 pub energy-zero : EnergyClaim
 unfolding energyRate D tendencyU tendencyV Tu Tv
 energy-zero s q dh du dv dh′ du′ dv′ p =
@@ -39,7 +40,7 @@ energy-zero s q dh du dv dh′ du′ dv′ p =
     pos 2 *ℤ fluxU s i j *ℤ f .1 i j a b k
     +ℤ pos 2 *ℤ fluxV s i j *ℤ f .2 i j a b k
     -ℤ pos 1572864 *ℤ B s i j *ℤ (ap negℤ (f .0 i j a b) ∙ negℤ-negℤ (D s i j)) k)
-    ∙ energy-law (s .w) (s .n) (fluxU s) (fluxV s) (B s) (weight s q 0) (weight s q 1) (weight s q 2) (weight s q 3) (closedWest s) (closedSouth s) (no-flux-u s l) (no-flux-v s l)
+    ∙ energy-law (s .w) (s .n) (fluxU s) (fluxV s) (B s) _ _ _ _ (closedWest s) (closedSouth s) (no-flux-u s l) (no-flux-v s l)
 
 -- ---- enstrophy
 

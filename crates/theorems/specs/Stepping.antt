@@ -13,8 +13,9 @@ use Rattle.model.specs.Grid.{at, byCell}
 use Rattle.model.specs.State.{State, cells, closedWest, closedSouth, WithinLimits}
 use Rattle.model.specs.Refusals.{Place, Taken, depthOf, uOf, vOf, long}
 use Rattle.model.specs.Scheme.{vorticity, Tu, Tv, tendencyU, tendencyV}
-use Rattle.model.specs.Step.{X, Y, newDepth, newU, newV, pass, leaves, Outcome, moved, stuck, passed, second, twoPass}
+use Rattle.model.specs.Step.{X, Y, newDepth, newU, newV, pass, leaves, Outcome, moved, stuck, passed, second, twoPass, afterStep, stepTest, stepStateBy, stepState}
 use Rattle.model.specs.Claims.{Given, PassClaim, StepClaim}
+use Rattle.model.specs.declared.Refusal.{Refusal}
 use Rattle.theorems.specs.Tests.{and-iff, eq-iff, each-iff, differ}
 use Rattle.grid.specs.Fields.{length-byCell, at-byCell}
 use Rattle.theorems.specs.Filling.{tendencies-fill, vorticity-fill}
@@ -174,3 +175,19 @@ step-total s t inflow l e h =
 pub step-cells : (s t : State) (inflow : List ℤ) → twoPass s inflow ≡ moved t → cells t ≡ cells s
 unfolding pass
 step-cells s t inflow h = ap cells (sym (moves s t inflow h .result))
+
+-- ---- the step call, accepted or refused
+
+after-outcome : (s : State) (inflow : List ℤ) → WithinLimits s → (o : Outcome) → twoPass s inflow ≡ o → WithinLimits (afterStep s o) × (cells (afterStep s o) ≡ cells s)
+after-outcome s inflow l (moved t) h = (step-within .moves s t inflow l .0 h .1, step-cells s t inflow h)
+after-outcome s inflow l (stuck p x) h = (l, refl)
+
+after-test : (s : State) (inflow : List ℤ) → WithinLimits s → (x : Option Refusal)
+    → WithinLimits (stepStateBy x s (twoPass s inflow)) × (cells (stepStateBy x s (twoPass s inflow)) ≡ cells s)
+after-test s inflow l none = after-outcome s inflow l (twoPass s inflow) refl
+after-test s inflow l (some r) = (l, refl)
+
+-- what it leaves is within the limits, and has as many cells
+pub step-leaves : (s : State) (inflow : List ℤ) (room : ℕ) → WithinLimits s → WithinLimits (stepState s inflow room) × (cells (stepState s inflow room) ≡ cells s)
+unfolding stepState
+step-leaves s inflow room l = after-test s inflow l (stepTest s inflow room)

@@ -99,13 +99,13 @@ pub refused-some : (o : Option Refusal) (r : Refusal) → Refused r ≡ testAnsw
 refused-some none r e = differ (cc e)
 refused-some (some x) r e = let h : x ≡ r = cc e in ap some h
 
-promise-iff : (s : State) (beside : Beside) (x : List ℤ) (a : TestAnswer) → TestPromise s beside x a ↔ (a ≡ testAnswer (testOf s beside x))
+pub promise-iff : (s : State) (beside : Beside) (x : List ℤ) (a : TestAnswer) → TestPromise s beside x a ↔ (a ≡ testAnswer (testOf s beside x))
 promise-iff s beside x a = (λ p. p .answers, λ e. record { answers = e; tells = ap toldTest e })
 
 none-iff : (o : Option Refusal) → (Passed ≡ testAnswer o) ↔ (o ≡ none)
 none-iff o = (passed-none o, λ e. sym (ap testAnswer e))
 
-some-iff : (o : Option Refusal) (r : Refusal) → (Refused r ≡ testAnswer o) ↔ (o ≡ some r)
+pub some-iff : (o : Option Refusal) (r : Refusal) → (Refused r ≡ testAnswer o) ↔ (o ≡ some r)
 some-iff o r = (refused-some o r, λ e. sym (ap testAnswer e))
 
 passed : (s : State) (beside : Beside) (x : List ℤ)
@@ -123,12 +123,12 @@ passed s beside x =
 -- ---- where something is
 
 -- a test that must hold, before the rest
-stops : (t : Bool) (own : Refusal) (q : Option Refusal) (r : Refusal) {B : Type 0} → (q ≡ some r) ↔ B → (must t own then q ≡ some r) ↔ Stops (T t) own B r
+pub stops : (t : Bool) (own : Refusal) (q : Option Refusal) (r : Refusal) {B : Type 0} → (q ≡ some r) ↔ B → (must t own then q ≡ some r) ↔ Stops (T t) own B r
 stops true own q r i = (λ e. inr (tt, i .0 e), λ c. ⊎-elim (λ p. absurd (p .0 tt)) (λ p. i .1 (p .1)) c)
 stops false own q r i = (λ e. inl (λ t. absurd t, cc e), λ c. ⊎-elim (λ p. ap some (p .1)) (λ p. absurd (p .0)) c)
 
 -- one search for a place before another
-then-some : (a b : Option Refusal) (r : Refusal) {A N B : Type 0} → (a ≡ some r) ↔ A → (a ≡ none) ↔ N → (b ≡ some r) ↔ B → (a then b ≡ some r) ↔ (A ⊎ (N × B))
+pub then-some : (a b : Option Refusal) (r : Refusal) {A N B : Type 0} → (a ≡ some r) ↔ A → (a ≡ none) ↔ N → (b ≡ some r) ↔ B → (a then b ≡ some r) ↔ (A ⊎ (N × B))
 then-some none b r i n j = (λ e. inr (n .0 refl, j .0 e), λ c. ⊎-elim (λ a. some≢ (sym (i .1 a))) (λ p. j .1 (p .1)) c)
 then-some (some x) b r i n j = (λ e. inl (i .0 e), λ c. ⊎-elim (λ a. i .1 a) (λ p. some≢ (n .1 (p .0))) c)
 
@@ -144,13 +144,13 @@ refused-at c none r = (λ e. some≢ (sym e), λ p. some≢ (sym (p .2)))
 refused-at c (some q) r = (λ e. (q, cc e, refl), λ p. let h : q ≡ p .0 = cc (p .2) in ap some (ap (λ (x : Place). c (x .field) (x .cell)) h ∙ p .1))
 
 -- either side of a choice, and of a place's refusal
-either : {A B C D : Type 0} → A ↔ C → B ↔ D → (A ⊎ B) ↔ (C ⊎ D)
+pub either : {A B C D : Type 0} → A ↔ C → B ↔ D → (A ⊎ B) ↔ (C ⊎ D)
 either i j = (⊎-elim (λ a. inl (i .0 a)) (λ b. inr (j .0 b)), ⊎-elim (λ c. inl (i .1 c)) (λ d. inr (j .1 d)))
 
-both : {A B C D : Type 0} → A ↔ C → B ↔ D → (A × B) ↔ (C × D)
+pub both : {A B C D : Type 0} → A ↔ C → B ↔ D → (A × B) ↔ (C × D)
 both i j = (λ p. (i .0 (p .0), j .0 (p .1)), λ p. (i .1 (p .0), j .1 (p .1)))
 
-same : {A : Type 0} → A ↔ A
+pub same : {A : Type 0} → A ↔ A
 same = (λ a. a, λ a. a)
 
 at-place : (c : Field → ℕ → Refusal) (o : Option Place) (r : Refusal) {P : Place → Type 0} → ((p : Place) → (o ≡ some p) ↔ P p)
@@ -169,11 +169,11 @@ inside-iff : (l : List Taken) → (firstOutside l ≡ none) ↔ Inside l
 inside-iff [] = (λ e. tt, λ t. refl)
 inside-iff (f ∷ l) = placed-iff (f .field) (firstFrom (outside f) (f .count) 0) (firstOutside l) ⟫ both (first-iff (outside f) (f .count)) (inside-iff l)
 
-value-some : (l : List Taken) (r : Refusal) → (valueTest l ≡ some r) ↔ ((p : Place) × (Value (p .field) (p .cell) ≡ r) × FirstOutside l p)
+pub value-some : (l : List Taken) (r : Refusal) → (valueTest l ≡ some r) ↔ ((p : Place) × (Value (p .field) (p .cell) ≡ r) × FirstOutside l p)
 unfolding valueTest
 value-some l r = at-place Value (firstOutside l) r (outside-iff l)
 
-value-none : (l : List Taken) → (valueTest l ≡ none) ↔ Inside l
+pub value-none : (l : List Taken) → (valueTest l ≡ none) ↔ Inside l
 unfolding valueTest
 value-none l = refused-iff Value (firstOutside l) ⟫ inside-iff l
 
@@ -187,7 +187,7 @@ moving-iff s p =
     (both (first-iff (moving s closedWest (s .u)) (cells s))
     (placed-some VelocityV south none p ⟫ (⊎-elim (λ q. q) (λ q. some≢ (sym (q .1))), λ q. inl q) ⟫ both same (scan (moving s closedSouth (s .v)) (cells s) (p .cell))))
 
-edge-some : (s : State) (r : Refusal) → (edgeTest s ≡ some r) ↔ ((p : Place) × (ClosedEdge (p .field) (p .cell) ≡ r) × FirstMoving s p)
+pub edge-some : (s : State) (r : Refusal) → (edgeTest s ≡ some r) ↔ ((p : Place) × (ClosedEdge (p .field) (p .cell) ≡ r) × FirstMoving s p)
 unfolding edgeTest
 edge-some s r =
     at-place ClosedEdge (placed VelocityU (firstFrom (moving s closedWest (s .u)) (cells s) 0) (placed VelocityV (firstFrom (moving s closedSouth (s .v)) (cells s) 0) none)) r (moving-iff s)

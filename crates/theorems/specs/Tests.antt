@@ -30,8 +30,8 @@ pub T-true : (b : Bool) → T b → b ≡ true
 T-true true t = refl
 T-true false t = absurd t
 
-clash : {b : Bool} → b ≡ true → b ≡ false → ⊥
-clash p q = subst T (sym p ∙ q) tt
+contradiction : {b : Bool} → b ≡ true → b ≡ false → ⊥
+contradiction p q = subst T (sym p ∙ q) tt
 
 pub and-iff : (a b : Bool) → T (a && b) ↔ (T a × T b)
 and-iff true b = (λ t. (tt, t), λ p. p .1)
@@ -39,7 +39,7 @@ and-iff false b = (λ t. absurd t, λ p. absurd (p .0))
 
 pub not-iff : (b : Bool) → (not b ≡ false) ↔ T b
 not-iff true = (λ e. tt, λ t. refl)
-not-iff false = (λ e. absurd (clash {b = true} refl e), λ t. absurd t)
+not-iff false = (λ e. absurd (contradiction {b = true} refl e), λ t. absurd t)
 
 pub le-iff : (m n : ℕ) → T (leb m n) ↔ (m ≤ n)
 le-iff m n = (leb→le m n, le→leb m n)

@@ -1,8 +1,10 @@
 -- Every theorem. `theorems` has each claim of the model, proved. Assumes nothing.
-use Rattle.model.specs.Claims.{LimitsClaim, AcceptedClaim, ScanClaim, TestClaim, MetClaim, FixedClaim, RefusedClaim, WorkClaim, RoundingClaim, OwnVorticityClaim, VorticityClaim, TendenciesAcceptedClaim, TendenciesClaim, PassClaim, StepClaim, RunClaim, RunStepsClaim, TotalsClaim, RoundTripClaim, ReadClaim, ProgramClaim, RewriteClaim, CompareClaim, EnergyRateClaim, EnergyClaim, EnstrophyClaim, PeriodicEnstrophyClaim, BalanceClaim, KeptClaim}
+use Rattle.model.specs.Claims.{LimitsClaim, AcceptedClaim, ScanClaim, TestClaim, RoomClaim, ReadCausesClaim, MetClaim, FixedClaim, RefusedClaim, WorkClaim, RoundingClaim, OwnVorticityClaim, VorticityClaim, TendenciesAcceptedClaim, TendenciesClaim, PassClaim, StepClaim, RunClaim, RunStepsClaim, TotalsClaim, RoundTripClaim, ReadClaim, ProgramClaim, OutputClaim, RewriteClaim, CompareClaim, EnergyRateClaim, EnergyClaim, EnstrophyClaim, PeriodicEnstrophyClaim, BalanceClaim, KeptClaim}
 use Rattle.theorems.specs.Limits.{limits-tested, accepted}
 use Rattle.theorems.specs.Scans.{scan}
 use Rattle.theorems.specs.Tested.{tests}
+use Rattle.theorems.specs.Rooms.{rooms}
+use Rattle.theorems.specs.ReadCauses.{read-causes}
 use Rattle.theorems.specs.Fixed.{met, fixed}
 use Rattle.theorems.specs.Refused.{refused-leaves, work-left}
 use Rattle.integers.specs.Rounding.{rounding}
@@ -14,6 +16,7 @@ use Rattle.theorems.specs.RunSteps.{run-steps}
 use Rattle.theorems.specs.RoundTrip.{round-trip}
 use Rattle.theorems.specs.Rewrite.{read-within, rewritten}
 use Rattle.theorems.specs.Program.{program-steps}
+use Rattle.theorems.specs.Output.{output-fits}
 use Rattle.theorems.specs.Comparing.{comparison}
 use Rattle.theorems.specs.ProductRule.{energy-rate}
 use Rattle.theorems.specs.Rates.{energy-zero, enstrophy-zero, periodic-enstrophy}
@@ -30,6 +33,8 @@ pub record Theorems : Type 0 where
   pub accepted : AcceptedClaim
   pub scan : ScanClaim
   pub tests : TestClaim
+  pub rooms : RoomClaim
+  pub read-causes : ReadCausesClaim
   pub met : MetClaim
   pub fixed : FixedClaim
   pub refused : RefusedClaim
@@ -48,6 +53,7 @@ pub record Theorems : Type 0 where
   pub write-then-read : RoundTripClaim
   pub read : ReadClaim
   pub program : ProgramClaim
+  pub output : OutputClaim
   pub read-then-write : RewriteClaim
   pub compare : CompareClaim
   -- demand 3: what is kept
@@ -65,6 +71,8 @@ theorems =
       accepted = accepted;
       scan = scan;
       tests = tests;
+      rooms = rooms;
+      read-causes = read-causes;
       met = met;
       fixed = fixed;
       refused = refused-leaves;
@@ -82,6 +90,7 @@ theorems =
       write-then-read = round-trip;
       read = read-within;
       program = program-steps;
+      output = output-fits;
       read-then-write = rewritten;
       compare = comparison;
       energy-rate = energy-rate;

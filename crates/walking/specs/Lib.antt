@@ -1,1 +1,2 @@
+-- where the tags of a record stand
 pub mod Places

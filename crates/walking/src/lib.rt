@@ -12,12 +12,6 @@ use model::TestAnswer;
 
 // ---- a field
 
-fn index(x: u8) -> usize
-    ensures { λ r. ⌜ (r ≡ x) × (r < 256) ⌝ }
-{
-    x as usize
-}
-
 // The length that a field's head has, in two bytes after the tag at k.
 fn size_at(rec: &[u8], k: usize) -> usize
     requires { ⌜ k + 3 ≤ length (now rec) ⌝ }
@@ -64,7 +58,7 @@ fn is_sound(rec: &[u8], k: usize, at: &[usize; 8]) -> bool
     if left < 3 {
         return false;
     }
-    let tag = index(rec[k]);
+    let tag = wire::index(rec[k]);
     if tag < 1 {
         return false;
     }
@@ -104,7 +98,7 @@ pub fn walk(rec: &[u8], at: &mut [usize; 8]) -> TestAnswer
         if !is_sound(rec, k, at) {
             return TestAnswer::Refused(Refusal::Record { offset: k });
         }
-        let tag = index(rec[k]);
+        let tag = wire::index(rec[k]);
         at[tag] = k;
         k = k + 3 + size_at(rec, k);
     }

@@ -12,10 +12,11 @@ ghost use Rattle.wire.specs.Sizes.{sizeOf, widthOf, signedBy, bytesBy, n
 
 // ---- unsigned numbers
 
-fn wide(x: u8) -> u64
+// A byte as a number to index by. It rules out, for instance: a byte from 128 on taken as negative; its lowest seven bits alone.
+pub fn index(x: u8) -> usize
     ensures { λ r. ⌜ (r ≡ x) × (r < 256) ⌝ }
 {
-    x as u64
+    x as usize
 }
 
 // Where byte i of a number of `count` bytes stands that begins at k: the highest byte comes first. It rules out, for instance:
@@ -35,7 +36,7 @@ pub fn unsigned_at(s: &[u8], k: usize, count: usize) -> u64
     let mut x = 0;
     for i in 0..count {
         let at = place(k, count, i);
-        x = x * 256 + wide(s[at]);
+        x = x * 256 + index(s[at]) as u64;
     }
     x
 }
@@ -63,7 +64,7 @@ pub enum Size {
     Four,
 }
 
-// So many bytes.
+// So many bytes. It rules out, for instance: two bytes for a number of four; eight for any.
 pub fn bytes_of(size: Size) -> usize
     ensures { λ r. ⌜ r ≡ sizeOf size ⌝ }
 {
@@ -112,14 +113,14 @@ fn four_at(s: &[u8], k: usize) -> u64
     requires { ⌜ k + 4 ≤ length (now s) ⌝ }
     ensures { λ r. ⌜ (r ≡ unsigned (take 4 (drop k (now (s .entry))))) × (r < 256 ^ 4) ⌝ }
 {
-    let a = wide(s[k]);
-    let b = wide(s[k + 1]);
-    let c = wide(s[k + 2]);
-    let d = wide(s[k + 3]);
+    let a = index(s[k]) as u64;
+    let b = index(s[k + 1]) as u64;
+    let c = index(s[k + 2]) as u64;
+    let d = index(s[k + 3]) as u64;
     a * 16777216 + b * 65536 + c * 256 + d
 }
 
-// The number in the bytes from k on. It rules out, for instance: a number of two bytes read from four.
+// The number in the bytes from k on. It rules out, for instance: a number of two bytes read from four; the sign lost.
 pub fn number_at(s: &[u8], k: usize, size: Size) -> i64
     requires { ⌜ k + sizeOf size ≤ length (now s) ⌝ }
     ensures { λ r. ⌜ r ≡ signedBy size (take (sizeOf size) (drop k (now (s .entry)))) ⌝ }
@@ -131,8 +132,8 @@ pub fn number_at(s: &[u8], k: usize, size: Size) -> i64
     }
 }
 
-// Puts a number at k. It rules out, for instance: the bytes of its magnitude.
-pub fn put_number(d: &mut [u8], k: usize, x: i64, size: Size)
+// Puts a number at k. It rules out, for instance: the bytes of its magnitude; four bytes for two.
+fn put_number(d: &mut [u8], k: usize, x: i64, size: Size)
     requires { ⌜ (k + sizeOf size ≤ length (now d)) × SFits (widthOf size) x ⌝ }
     ensures { λ _. ⌜ now (d .exit) ≡ sets (now (d .entry)) k (bytesBy size x) ⌝ }
 {
@@ -155,7 +156,8 @@ pub fn read_numbers(value: &[u8], m: usize, d: &mut [i64], size: Size)
     }
 }
 
-// Puts the numbers of a field, one after the other, from k on. It rules out, for instance: the first number at every place.
+// Puts the numbers of a field, one after the other, from k on. It rules out, for instance: the first number at every place; a gap
+// between numbers.
 pub fn put_numbers(d: &mut [u8], k: usize, f: &[i64], size: Size)
     requires { ⌜ (k + length (now f) * sizeOf size ≤ length (now d)) × EachFits (widthOf size) (now f) ⌝ }
     ensures { λ _. ⌜ now (d .exit) ≡ sets (now (d .entry)) k (valueBy size (now (f .entry))) ⌝ }

@@ -3,7 +3,7 @@
 //! The library behind these calls is `libbasin.a`, which `rt staticlib basin`
 //! writes once every function is proved to meet its contract; the calls here
 //! only pass slices on and put names to the numbers that come back. They take
-//! any numbers and any lengths: what 01 turns back is returned as a
+//! any numbers and any lengths: what 01 refuses is returned as a
 //! [`Refusal`].
 //!
 //! The core has the step of a state and runs of it ([`step`], [`run`]), the

@@ -1,5 +1,6 @@
 //! The functions of `include/basin.h`, each behind a safe one that takes
-//! slices. This is the only place with unsafe code.
+//! slices. This is the only place with unsafe code, but for the tests' own
+//! memory.
 //!
 //! Every function of the library takes any numbers and any lengths, reads and
 //! writes only within the slices it is lent, and keeps none of them.

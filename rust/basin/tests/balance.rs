@@ -6,87 +6,9 @@
 mod cases;
 
 use cases::calls::compare;
-use cases::common::{numbers, Random, Spread};
-use cases::{small_size, Call, Case, H, S, U, V};
-use reference::{Beside, State, StepAnswer};
-
-/// A step or run, with what it is lent beside the state.
-#[derive(Clone, Debug)]
-struct Entry {
-    call: Call,
-    inflow: Vec<i64>,
-    /// 1 of a step.
-    steps: u64,
-    work: usize,
-}
-
-impl Entry {
-    fn random(random: &mut Random, cells: usize) -> Self {
-        let (call, steps) = match random.below(12) {
-            0..=3 => (Call::Step, 1),
-            4..=8 => (Call::Run, random.below(13) as u64),
-            9 => (Call::Run, 0),
-            10 => (Call::Run, random.pick(&[60, 10_000])),
-            _ => (Call::Run, random.pick(&[10_001, 1 << 40, u64::MAX])),
-        };
-        let most = random.pick(&[0, 2, 100, 1_000]);
-        let (least, most) = match steps {
-            // This inflow stops the run.
-            10_000 => (1_000, 1_000),
-            _ => random.pick(&[(-most, most), (0, most), (-most, 0)]),
-        };
-        let mut inflow = numbers(random, Spread::Even, cells, least, most);
-        match random.below(20) {
-            0 => inflow.push(1),
-            1 => inflow.truncate(cells - 1),
-            2 => inflow[random.below(cells)] = random.pick(&[-1_001, 1_001, i64::MIN, i64::MAX]),
-            _ => {}
-        }
-        let work = match random.below(20) {
-            0 => 8 * cells - 1,
-            1 => random.below(8 * cells),
-            2..=9 => 8 * cells,
-            _ => 8 * cells + random.below(7),
-        };
-        Entry {
-            call,
-            inflow,
-            steps,
-            work,
-        }
-    }
-
-    /// Moves a state on by single steps of the independent version and counts
-    /// them.
-    fn steps_done(&self, state: &mut State) -> u64 {
-        let State {
-            parameters: p,
-            h,
-            b,
-            u,
-            v,
-        } = state;
-        let &Entry {
-            ref inflow,
-            steps,
-            work,
-            ..
-        } = self;
-        let run = Beside::Run {
-            inflow,
-            steps,
-            work,
-        };
-        if reference::test_call(p, h, b, u, v, run).is_err() {
-            return 0;
-        }
-        let mut space = vec![0; work];
-        let mut step = || reference::step(p, h, b, u, v, inflow, &mut space);
-        (0..steps)
-            .take_while(|_| step() == StepAnswer::Done)
-            .count() as u64
-    }
-}
+use cases::common::Random;
+use cases::lists::{take_stepped, Entry};
+use cases::{small_size, Call, Case, H, U, V};
 
 /// What the library answers on the state of a case.
 fn total(case: &Case, at: &str) -> i128 {
@@ -153,7 +75,7 @@ fn balance(first: &Case, list: &[Entry], seen: &mut Seen, at: &str) {
     let mut state = first.state();
     let (mut due, mut less_done) = (0, false);
     for entry in list {
-        let inflow: i128 = entry.inflow.iter().map(|&s| i128::from(s)).sum();
+        let inflow = entry.inflow_sum();
         let done = entry.steps_done(&mut state);
         due += i128::from(done) * inflow;
         less_done |= done < entry.steps && inflow != 0;
@@ -163,14 +85,10 @@ fn balance(first: &Case, list: &[Entry], seen: &mut Seen, at: &str) {
     let mut case = first.clone();
     let before = total(&case, at);
     for entry in list {
-        case.fields[S].clone_from(&entry.inflow);
-        case.steps = entry.steps;
-        case.work = entry.work;
+        entry.put(&mut case);
         let outcome = compare(&case, entry.call, at);
         seen.count(entry.call, &outcome.told);
-        for (field, after) in [H, U, V].into_iter().zip(outcome.written.stepped) {
-            case.fields[field] = after;
-        }
+        take_stepped(&mut case, outcome);
     }
     let after = total(&case, at);
     assert_eq!(after, before + due, "{at}: {first:?} {list:?}");
@@ -243,9 +161,7 @@ fn a_refused_state_stays_refused() {
         seen[before[0] as usize] += 1;
         for _ in 0..1 + random.below(4) {
             let entry = Entry::random(&mut random, cells);
-            case.fields[S].clone_from(&entry.inflow);
-            case.steps = entry.steps;
-            case.work = entry.work;
+            entry.put(&mut case);
             let outcome = compare(&case, entry.call, &at);
             assert!((1..6).contains(&outcome.told[0]), "{at}: {case:?}");
             for (field, after) in [H, U, V].into_iter().zip(outcome.written.stepped) {

@@ -11,13 +11,12 @@
 
 mod cases;
 
-use std::cmp::Ordering;
-
+use cases::changes::Changed;
 use cases::common::{any_state, random_state, within_limits, Random, SPREADS};
-use cases::common::{every_order, record_field, record_fields, record_of, two_cells};
-use cases::records::{basin, TIMESTAMP};
+use cases::common::{every_order, record_fields, record_of, two_cells};
+use cases::records::{answer_for, basin, TIMESTAMP};
 use cases::records::{compare_pair, compare_read, expect_pair, expect_read, expect_state};
-use cases::records::{field, hex, of_record, shuffle, shuffled, written, Lent};
+use cases::records::{field, hex, of_record, shuffled, written, Lent};
 use cases::{add, random_timestamp, Case, BOUNDS, U, V};
 use reference::{Parameters, State};
 
@@ -175,20 +174,20 @@ fn what_was_written_reads_back_and_what_was_read_writes_back() {
 
 #[test]
 fn timestamps_of_every_bit_are_kept_and_compared_without_a_sign() {
-    let mut stamps = vec![0, 2, 3, u64::MAX, u64::MAX - 1, TIMESTAMP];
-    stamps.extend((0..64).map(|bit| 1 << bit));
-    stamps.extend((0..64).map(|bit| u64::MAX >> bit));
+    let mut timestamps = vec![0, 2, 3, u64::MAX, u64::MAX - 1, TIMESTAMP];
+    timestamps.extend((0..64).map(|bit| 1 << bit));
+    timestamps.extend((0..64).map(|bit| u64::MAX >> bit));
     let state = two_cells();
     let mut other = two_cells();
     other.v[1] = -5_000;
-    for &stamp in &stamps {
-        let record = written(&state, stamp, "a timestamp");
-        expect_state(&record, Lent::enough(2), (&state, stamp), "a timestamp");
-        for &later in &stamps {
-            let told = answer_for(stamp, later, true);
+    for &timestamp in &timestamps {
+        let record = written(&state, timestamp, "a timestamp");
+        expect_state(&record, Lent::enough(2), (&state, timestamp), "a timestamp");
+        for &later in &timestamps {
+            let told = answer_for(timestamp, later, true);
             let same = record_of(&state, later);
             expect_pair(&record, &same, &[0, told], "a timestamp");
-            let told = answer_for(stamp, later, false);
+            let told = answer_for(timestamp, later, false);
             let other = record_of(&other, later);
             expect_pair(&record, &other, &[0, told], "a timestamp");
         }
@@ -235,17 +234,7 @@ fn only_what_fits_of_constants_and_answer_is_written() {
 
 // ---- comparison
 
-/// What a comparison of two good records tells after its 0.
-fn answer_for(time: u64, other_time: u64, same: bool) -> u64 {
-    match time.cmp(&other_time) {
-        Ordering::Greater => 1,
-        Ordering::Less => 2,
-        Ordering::Equal if same => 0,
-        Ordering::Equal => 3,
-    }
-}
-
-/// What it tells with the two the other way round.
+/// What a comparison tells with the two records the other way round.
 fn turned(answer: u64) -> u64 {
     [0, 2, 1, 3][answer as usize]
 }
@@ -417,117 +406,6 @@ fn random_pairs_are_compared_alike_and_the_other_way_round() {
 
 // ---- records changed at random
 
-/// A byte that means something in a record, or any.
-fn byte(random: &mut Random) -> u8 {
-    match random.below(3) {
-        0 => random.next() as u8,
-        1 => random.below(9) as u8,
-        _ => random.pick(&[0, 64, 65, 0x7F, 0x80, 0xEC, 0xFF]),
-    }
-}
-
-fn any_small_state(random: &mut Random) -> State {
-    let size = match random.below(8) {
-        0 => (1, 1),
-        1 => (1 + random.below(20), 1 + random.below(5)),
-        _ => (1 + random.below(4), 1 + random.below(4)),
-    };
-    let (spread, kind) = (random.pick(&SPREADS), random.below(3) as u8);
-    random_state(random, spread, size, kind)
-}
-
-/// Changes a number, a side, the kind, or the length of a field. The state may
-/// stay within the limits.
-fn change_state(random: &mut Random, state: &mut State) {
-    let near = |random: &mut Random, (low, high): (i64, i64)| {
-        random.pick(&[low - 1, low, high, high + 1, high + (1 << 14)])
-    };
-    let p = &mut state.parameters;
-    let (w, side) = (p.w, random.pick(&[0, 1, p.w, p.n, 64, 65, 255]));
-    match random.below(12) {
-        0 => p.w = side,
-        1 => p.n = side,
-        2 => p.kind = random.pick(&[0, 1, 2, 3, 0x82, 0xFF]),
-        3 => p.g = near(random, (1, 10_000)),
-        4 => p.c = near(random, (-10_000, 10_000)),
-        5 => p.r = near(random, (1_000, 1_000_000)),
-        6 => {
-            let which = random.below(4);
-            let numbers = field(state, which);
-            let length = (numbers.len() + random.below(3)).saturating_sub(1);
-            numbers.resize(length, 1_000);
-        }
-        7..=9 => {
-            let which = random.below(4);
-            let number = near(random, BOUNDS[which]);
-            let numbers = field(state, which);
-            let cell = random.below(numbers.len().max(1));
-            if let Some(place) = numbers.get_mut(cell) {
-                *place = number;
-            }
-        }
-        _ => {
-            // A velocity, mostly on a wall where there is one.
-            let which = random.pick(&[U, V]);
-            let cell = match which {
-                U => w * random.below(4),
-                _ => random.below(w + 1),
-            };
-            if let Some(place) = field(state, which).get_mut(cell) {
-                *place = random.pick(&[-5_000, -1, 1, 300]);
-            }
-        }
-    }
-}
-
-/// Changes the row of fields: one twice, one less, or its tag, length or bytes.
-fn change_fields(random: &mut Random, fields: &mut Vec<Vec<u8>>) {
-    let which = random.below(fields.len());
-    let field = fields[which].clone();
-    let length = field.len() as u16 - 3;
-    match random.below(6) {
-        0 => fields.insert(random.below(fields.len() + 1), field),
-        1 => drop(fields.remove(which)),
-        2 => fields[which][0] = byte(random),
-        3 => {
-            // The length alone, of which the bytes are not changed.
-            let bit = 1 << random.below(16);
-            let lengths = [length ^ bit, length + 1, length.wrapping_sub(1)];
-            let near = random.pick(&lengths);
-            let length = random.pick(&[near, near, 0, 3, 8, 12, 0xFFFF]);
-            fields[which][1..3].copy_from_slice(&length.to_be_bytes());
-        }
-        4 => {
-            let mut value = field[3..].to_vec();
-            let lengths = [
-                value.len() + 1,
-                value.len() + 4,
-                value.len().saturating_sub(1),
-            ];
-            value.resize(random.pick(&lengths), 0);
-            fields[which] = record_field(field[0], &value);
-        }
-        _ => fields[which] = (0..random.below(12)).map(|_| byte(random)).collect(),
-    }
-}
-
-/// Changes, puts in or takes away some bytes.
-fn change_bytes(random: &mut Random, record: &mut Vec<u8>) {
-    let place = random.below(record.len() + 1);
-    match random.below(6) {
-        0 | 1 if place == record.len() => {}
-        0 => record[place] ^= 1 << random.below(8),
-        1 => record[place] = byte(random),
-        2 => drop(record.drain(place..(place + 1).min(record.len()))),
-        3 => record.insert(place, byte(random)),
-        4 => record.truncate(place),
-        _ => {
-            let more = random.pick(&[1, 2, 3, 4, 7]);
-            record.extend((0..more).map(|_| byte(random)));
-        }
-    }
-}
-
 /// How often what happened.
 #[derive(Debug, Default)]
 struct Coverage {
@@ -599,33 +477,13 @@ fn records_changed_at_random_are_answered_alike() {
         let mut random = Random::new(seed);
         let mut last = record_of(&two_cells(), 0);
         for number in 0..50_000 {
-            let mut state = any_small_state(&mut random);
-            let cells = state.h.len();
-            let timestamp = match random.below(2) {
-                0 => random.pick(&[0, 1]),
-                _ => random_timestamp(&mut random),
-            };
-            let good = shuffled(&mut random, &state, timestamp);
-            let times = random.pick(&[0, 1, 1, 2, 3]);
-            (0..times).for_each(|_| change_state(&mut random, &mut state));
-            let rising = record_of(&state, timestamp);
-            let mut fields = record_fields(&state, timestamp);
-            if !random.once_in(4) {
-                shuffle(&mut random, &mut fields);
-            }
-            if random.once_in(4) {
-                change_fields(&mut random, &mut fields);
-            }
-            let mut record = fields.concat();
-            let unchanged = record.clone();
-            if random.once_in(4) {
-                let times = 1 + random.below(3);
-                (0..times).for_each(|_| change_bytes(&mut random, &mut record));
-            } else if random.once_in(12) {
-                // Bytes that never were a record.
-                let length = random.below(80);
-                record = (0..length).map(|_| byte(&mut random)).collect();
-            }
+            let Changed {
+                cells,
+                good,
+                rising,
+                unchanged,
+                record,
+            } = Changed::random(&mut random);
             let mut lent = Lent::any(&mut random, cells);
             if random.once_in(12) {
                 lent.fields[random.below(4)] = random.below(cells + 1);

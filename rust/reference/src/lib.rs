@@ -8,7 +8,7 @@
 //!
 //! The calls take the scalars of a state as [`Parameters`] and its fields as
 //! slices of `i64`. They take any numbers and any lengths and never panic:
-//! what 01 turns back is returned as a [`Refusal`]. Each answer has a `told`
+//! what 01 refuses is returned as a [`Refusal`]. Each answer has a `told`
 //! that gives 01's number and values for it.
 
 #![forbid(unsafe_code)]

@@ -20,7 +20,7 @@ fn list(numbers: &[i64]) -> String {
     text + "[])"
 }
 
-/// The state `nine kind west south` of Agreement.antt, its inflow `rain` and
+/// The state `nine kind west south` of Agreement.antt, its `inflow` and
 /// its vorticity `lent`.
 struct Nine {
     name: &'static str,
@@ -117,7 +117,7 @@ impl Nine {
             format!("({sign} {})", x.unsigned_abs())
         };
         format!(
-            "rates {0} lent rain ({0} .b) lent {1} {2}",
+            "rates {0} lent inflow ({0} .b) lent {1} {2}",
             self.name,
             number(energy),
             number(enstrophy)
@@ -137,7 +137,7 @@ impl Nine {
         );
         assert_eq!(answer, StepAnswer::Done);
         format!(
-            "steps {name} rain (sevens 73) accepted {} {} {} (zeros 72 ++ sevens 1)",
+            "steps {name} inflow (sevens 73) accepted {} {} {} (zeros 72 ++ sevens 1)",
             list(&h),
             list(&u),
             list(&v)
@@ -158,7 +158,7 @@ impl Nine {
         );
         assert_eq!(answer, RunAnswer::Finished { steps: length });
         format!(
-            "runs {name} rain {length} (sevens 72) (pos 0 ∷ pos {length} ∷ []) {} {} {} (zeros 72)",
+            "runs {name} inflow {length} (sevens 72) (pos 0 ∷ pos {length} ∷ []) {} {} {} (zeros 72)",
             list(&h),
             list(&u),
             list(&v)

@@ -6,7 +6,7 @@ use std::io::Write;
 use std::process::{Command, Stdio};
 
 use common::literal::PAPER;
-use common::{random_state, record_field, record_fields, record_of, Random, Spread};
+use common::{at_rest, random_state, record_of, record_of_length, Random, Spread};
 use reference::{step_program, Parameters, State};
 
 /// Runs the program itself.
@@ -123,25 +123,6 @@ fn every_refusal_is_printed() {
     assert_prints(&record_of(&one_cell(), 1)[..55], "refused 7\n");
 }
 
-/// A state at rest with level water.
-fn at_rest(w: usize, n: usize) -> State {
-    let cells = w * n;
-    State {
-        parameters: Parameters {
-            w,
-            n,
-            kind: 0,
-            g: 9_810,
-            c: 0,
-            r: 1_000,
-        },
-        h: vec![5_000; cells],
-        b: vec![0; cells],
-        u: vec![0; cells],
-        v: vec![0; cells],
-    }
-}
-
 #[test]
 fn more_than_1_024_cells_are_an_8() {
     for (w, n) in [(32, 32), (64, 16), (16, 64)] {
@@ -167,21 +148,10 @@ fn more_than_1_024_cells_are_an_8() {
 
 #[test]
 fn an_input_of_65_536_bytes_or_more_is_a_7() {
-    // A record that the reader refuses with 2 or 1, made so long by its b.
-    let input = |length: usize, kind: u8| {
-        let mut state = one_cell();
-        state.parameters.kind = kind;
-        let mut fields = record_fields(&state, 1);
-        let others = record_of(&state, 1).len() - fields[4].len();
-        fields[4] = record_field(5, &vec![0; length - others - 3]);
-        let input = fields.concat();
-        assert_eq!(input.len(), length);
-        input
-    };
-    assert_prints(&input(65_535, 0), "refused 2\n");
-    assert_prints(&input(65_536, 0), "refused 7\n");
-    assert_prints(&input(65_535, 3), "refused 1\n");
-    assert_prints(&input(65_536, 3), "refused 7\n");
-    assert_prints(&input(65_537, 0), "refused 7\n");
+    assert_prints(&record_of_length(65_535, 0), "refused 2\n");
+    assert_prints(&record_of_length(65_536, 0), "refused 7\n");
+    assert_prints(&record_of_length(65_535, 3), "refused 1\n");
+    assert_prints(&record_of_length(65_536, 3), "refused 7\n");
+    assert_prints(&record_of_length(65_537, 0), "refused 7\n");
     assert_prints(&vec![0; 1 << 20], "refused 7\n");
 }

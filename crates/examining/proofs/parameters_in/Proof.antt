@@ -29,8 +29,8 @@ returns c =
     let grid = q .before .value-of .ensures .is in
     let constants = q .value-of2 .ensures .is in
     λ i. record {
-      w = (i1 .index .ensures ∙ ap (λ l. getD l 0 0) grid) i;
-      n = (i2 .index2 .ensures ∙ ap (λ l. getD l 1 0) grid) i;
+      w = (i1 .index .ensures .0 ∙ ap (λ l. getD l 0 0) grid) i;
+      n = (i2 .index2 .ensures .0 ∙ ap (λ l. getD l 1 0) grid) i;
       kind = getD (grid i) 2 0;
       g = held-is w64 (g1 .number-at .ok) (g1 .number-at .ensures ∙ ap (λ l. signed4 (take 4 l)) constants) i;
       c = held-is w64 (g2 .number-at2 .ok) (g2 .number-at2 .ensures ∙ ap (λ l. signed4 (take 4 (drop 4 l))) constants) i;

@@ -6,7 +6,7 @@ use Rattle.model.specs.Refusals.{_then_, Taken, depthOf, bottomOf, uOf, vOf, va
 use Rattle.model.specs.Promises.{testAnswer}
 use Rattle.model.specs.declared.TestAnswer.{TestAnswer}
 use Rattle.model.specs.declared.TestAnswer.the-variants.{Passed}
-use Rattle.state.specs.Faults.{foundIn}
+use Rattle.state.specs.InOrder.{foundIn}
 use Rattle.state.proofs.TestLaws.{values-after}
 use Rattle.examining.specs.Tests.{stateRead}
 use Rattle.examining.proofs.OrderLaws.{h-long, b-long, u-long, v-long, h-taken, b-taken, u-taken, v-taken}

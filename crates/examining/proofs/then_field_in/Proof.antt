@@ -4,7 +4,7 @@ use Prim.Native.Nat.{_*_}
 use borrow.Author.Needs.{needs}
 use Rattle.model.specs.Refusals.{_then_}
 use Rattle.model.specs.Promises.{testAnswer}
-use Rattle.state.specs.Faults.{foundIn}
+use Rattle.state.specs.InOrder.{foundIn}
 use Rattle.state.proofs.TestLaws.{outside-is}
 use Rattle.wire.specs.Sizes.{numbersBy}
 use Rattle.examining.proofs.then_field_in.Statement.{statement}

@@ -86,7 +86,7 @@ pub rnd-spec : {M : Type 1} → statement M
 rnd-spec =
     tie.close
     (tie.spec
-    (λ c κs. rw (a-is c) (c .pre .small))
+    (λ c κs. tt)
     (λ c. let s = c .before in unsigned _ (b-is s ∙ positive (s .args .b) (s .pre .some)) (omega (arith, s .pre .most)))
     nearest-requires
     (λ c. fits (var 0) (sizes (c .before)) tt)

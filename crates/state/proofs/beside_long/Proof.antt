@@ -2,7 +2,7 @@
 use mathlib.Core.Path.{sym, _∙_}
 use borrow.Author.Needs.{needs}
 use borrow.Author.Tests.{eq-eqb, ne-eqb}
-use Rattle.state.proofs.TestLaws.{and-true}
+use Rattle.faults.proofs.Truth.{and-true}
 use Rattle.state.proofs.beside_long.Statement.{statement}
 use Rattle.state.proofs.beside_long.Tie as tie
 

@@ -1,6 +1,6 @@
 -- `state::fields_long` meets its contract. Assumes nothing.
 use borrow.Author.Tests.{eq-eqb, ne-eqb}
-use Rattle.state.proofs.TestLaws.{and-true}
+use Rattle.faults.proofs.Truth.{and-true}
 use Rattle.state.proofs.fields_long.Statement.{statement}
 use Rattle.state.proofs.fields_long.Tie as tie
 

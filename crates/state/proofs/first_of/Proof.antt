@@ -4,7 +4,7 @@ use borrow.Author.Needs.{needs}
 use Rattle.model.specs.Promises.{testAnswer}
 use Rattle.model.specs.declared.TestAnswer.{TestAnswer}
 use Rattle.model.specs.declared.TestAnswer.the-variants.{Passed, Refused}
-use Rattle.state.specs.Faults.{foundIn}
+use Rattle.state.specs.InOrder.{foundIn}
 use Rattle.state.proofs.TestLaws.{passed-then}
 use Rattle.state.proofs.first_of.Statement.{statement}
 use Rattle.state.proofs.first_of.Tie as tie

@@ -1,6 +1,6 @@
 -- `state::grid_right` meets its contract. Assumes nothing.
 use borrow.Author.Needs.{needs}
-use Rattle.state.proofs.TestLaws.{and-holds, and-fails}
+use Rattle.faults.proofs.Truth.{and-holds, and-fails}
 use Rattle.state.proofs.grid_right.Statement.{statement}
 use Rattle.state.proofs.grid_right.Tie as tie
 

@@ -1,6 +1,6 @@
 -- `state::lengths_right` meets its contract. Assumes nothing.
 use borrow.Author.Needs.{needs}
-use Rattle.state.proofs.TestLaws.{and-holds, and-fails}
+use Rattle.faults.proofs.Truth.{and-holds, and-fails}
 use Rattle.state.proofs.lengths_right.Statement.{statement}
 use Rattle.state.proofs.lengths_right.Tie as tie
 

@@ -1,5 +1,7 @@
 -- `state::run_short` meets its contract. Assumes nothing.
+use mathlib.Core.Path.{sym, ap}
 use borrow.Author.Needs.{needs}
+use Rattle.model.specs.Refusals.{runShort}
 use Rattle.state.proofs.run_short.Statement.{statement}
 use Rattle.state.proofs.run_short.Tie as tie
 
@@ -14,4 +16,4 @@ run-short-spec =
     (λ c. search needs)
     (λ c. search needs)
     (λ c. search needs)
-    (λ c. cc))
+    (λ c. sym (ap runShort (c .before .beside .given .1))))

@@ -4,8 +4,9 @@ use borrow.Author.Needs.{needs}
 use Rattle.model.specs.Refusals.{_then_}
 use Rattle.model.specs.Promises.{testAnswer}
 use Rattle.model.specs.declared.Field.the-variants.{VelocityU, VelocityV}
-use Rattle.state.specs.declared.Fault.the-variants.{West, South}
-use Rattle.state.specs.Faults.{foundIn, cellTest}
+use Rattle.faults.specs.declared.Fault.the-variants.{West, South}
+use Rattle.faults.specs.Faults.{cellTest}
+use Rattle.state.specs.InOrder.{foundIn}
 use Rattle.theorems.specs.Tested.{then-assoc}
 use Rattle.state.proofs.TestLaws.{after, edges-are}
 use Rattle.state.proofs.then_edges.Statement.{statement}

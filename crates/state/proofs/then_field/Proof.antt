@@ -3,7 +3,7 @@ use mathlib.Core.Path.{ap, _∙_}
 use borrow.Author.Needs.{needs}
 use Rattle.model.specs.Refusals.{_then_}
 use Rattle.model.specs.Promises.{testAnswer}
-use Rattle.state.specs.Faults.{foundIn}
+use Rattle.state.specs.InOrder.{foundIn}
 use Rattle.state.proofs.TestLaws.{outside-is}
 use Rattle.state.proofs.then_field.Statement.{statement}
 use Rattle.state.proofs.then_field.Tie as tie

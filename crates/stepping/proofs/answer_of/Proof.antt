@@ -1,7 +1,7 @@
 -- `stepping::answer_of` meets its contract. Assumes nothing.
 use mathlib.Core.Path.{sym, ap}
 use borrow.Author.Needs.{needs}
-use Rattle.stepping.specs.Outcomes.{answerBy}
+use Rattle.stepping.specs.Answers.{answerBy}
 use Rattle.stepping.proofs.answer_of.Statement.{statement}
 use Rattle.stepping.proofs.answer_of.Tie as tie
 

@@ -7,7 +7,7 @@ use Rattle.model.specs.State.{State, stateOf}
 use Rattle.model.specs.Step.{runTest}
 use Rattle.model.specs.Promises.{testAnswer}
 use Rattle.model.specs.declared.TestAnswer.the-variants.{Passed}
-use Rattle.stepping.specs.Outcomes.{StepReady}
+use Rattle.advancing.specs.Outcomes.{StepReady}
 use Rattle.stepping.proofs.CallLaws.{run-passed, run-done, run-refused, run-room}
 use Rattle.stepping.proofs.run.Statement.{statement}
 use Rattle.stepping.proofs.run.Tie as tie

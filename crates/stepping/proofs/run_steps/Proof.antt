@@ -6,9 +6,9 @@ use lib.ListN.{length}
 use borrow.Author.Needs.{needs}
 use Rattle.model.specs.State.{State, stateOf}
 use Rattle.model.specs.Step.{twoPass, Ran}
-use Rattle.stepping.specs.Outcomes.{Stepped, StepReady, Rest}
+use Rattle.advancing.specs.Outcomes.{Stepped, StepReady, Rest, rest-then}
 use Rattle.stepping.specs.Running.{Running, running-none, running-more, running-stuck, running-done}
-use Rattle.stepping.proofs.StepLaws.{rest-then, came-moved, came-stuck, ready-next}
+use Rattle.stepping.proofs.RunLaws.{came-moved, came-stuck, ready-next}
 use Rattle.stepping.proofs.run_steps.Statement.{statement}
 use Rattle.stepping.proofs.run_steps.Tie as tie
 

@@ -7,7 +7,7 @@ use Rattle.model.specs.State.{State, stateOf}
 use Rattle.model.specs.Step.{stepTest}
 use Rattle.model.specs.Promises.{testAnswer}
 use Rattle.model.specs.declared.TestAnswer.the-variants.{Passed}
-use Rattle.stepping.specs.Outcomes.{StepReady}
+use Rattle.advancing.specs.Outcomes.{StepReady}
 use Rattle.stepping.proofs.CallLaws.{step-passed, step-done, step-refused, step-room}
 use Rattle.stepping.proofs.step.Statement.{statement}
 use Rattle.stepping.proofs.step.Tie as tie

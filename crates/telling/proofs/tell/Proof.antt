@@ -1,40 +1,28 @@
 -- `telling::tell` meets its contract. Assumes nothing.
-use Prim.Native.Nat.{_-_}
-use native.Mathlib.Omega.{arith}
+use mathlib.Core.Path.{refl}
+use Rattle.telling.proofs.Tells.{all-stored}
 use borrow.Author.Needs.{needs}
-use lib.ListN.{length}
-use Rattle.telling.proofs.Tells.{Storing, storing-none, storing-more, storing-long, storing-done}
 use Rattle.telling.proofs.tell.Statement.{statement}
 use Rattle.telling.proofs.tell.Tie as tie
 
-abbrev Inv-loop : tie.InvT-loop
-Inv-loop answer₀ numbers k₀ k-end answer k = Storing numbers answer₀ k answer
-
-abbrev μ-loop : tie.MeasureT-loop
-μ-loop answer₀ numbers k₀ k-end answer k = length numbers - k
-
-loop-again : tie.Need-loop-again Inv-loop μ-loop
-loop-again c = storing-more (omega arith) (c .before .before .before .before .before .before .loop .inv) (c .before .before .put .ensures)
-
-same-length : tie.Need-same-length Inv-loop μ-loop
-same-length c = storing-long (c .before .before .loop .inv)
-
-returns : tie.Need-returns Inv-loop μ-loop
-returns c = storing-done (c .before .before .loop .inv) (c .before .loop-test .left)
+returns : tie.Need-returns
+returns c =
+    let p5 = c .before .before in
+    let p4 = p5 .before .before .before .before in
+    let p3 = p4 .before .before .before .before in
+    let p2 = p3 .before .before .before .before in
+    let p1 = p2 .before .before .before .before in
+    let n = p1 .before .before .before .args in
+    record { returns = refl; holds = rw (p5 .put5 .ensures, p4 .put4 .ensures, p3 .put3 .ensures, p2 .put2 .ensures, p1 .put .ensures) (all-stored (n .numbers) (n .answer .now)) }
 
 pub tell-spec : {M : Type 1} → statement M
 tell-spec =
     tie.close
     (tie.spec
-    Inv-loop
-    μ-loop
-    (λ c. storing-none)
-    (λ c. omega arith)
-    (λ c. omega arith)
     (λ c κs. search needs)
-    (λ c. omega arith)
-    (λ c. omega arith)
-    loop-again
+    (λ c κs. search needs)
+    (λ c κs. search needs)
+    (λ c κs. search needs)
+    (λ c κs. search needs)
     (λ c. search needs)
-    same-length
     returns)

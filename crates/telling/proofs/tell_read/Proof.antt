@@ -6,11 +6,15 @@ use Rattle.telling.proofs.tell_read.Tie as tie
 
 returns : tie.Need-returns
 returns c =
-    let k = c .before .before .before .before .before .before .before in
-    rw (k .before .before .before .x .given .1) (k .put-constants .ensures, c .before .before .tell .ensures)
+    let t = c .before .before in
+    let p = t .before .before .before .before in
+    rw (p .before .before .before .x .given .1) (p .put-constants .ensures, t .tell .ensures)
 
 returns-2 : tie.Need-returns-2
-returns-2 c = rw (c .before .before .before .before .before .x2 .given .1) (refl, c .before .before .tell-refusal .ensures)
+returns-2 c =
+    let t = c .before .before in
+    let n = t .before in
+    rw (n .before .before .before .x2 .given .1) (refl, rw (n .refusal-numbers .ensures) at (t .tell2 .ensures))
 
 pub tell-read-spec : {M : Type 1} → statement M
 tell-read-spec =
@@ -19,9 +23,9 @@ tell-read-spec =
     (λ c. search needs)
     (λ c κs. search needs)
     (λ c. search needs)
-    (λ c. search needs)
     (λ c κs. search needs)
     (λ c. search needs)
+    (λ c κs. search needs)
     (λ c κs. search needs)
     (λ c. search needs)
     (λ c. search needs)

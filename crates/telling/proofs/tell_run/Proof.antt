@@ -1,7 +1,19 @@
 -- `telling::tell_run` meets its contract. Assumes nothing.
+use mathlib.Core.Path.{_≡_}
+use mathlib.Core.Logic.{⊎-elim}
+use Rattle.model.specs.Answers.{runNumbers}
+use Rattle.telling.specs.Told.{listed}
 use borrow.Author.Needs.{needs}
 use Rattle.telling.proofs.tell_run.Statement.{statement}
 use Rattle.telling.proofs.tell_run.Tie as tie
+
+returns : tie.Need-returns
+returns c =
+    let t = c .before .before in
+    let m = t .before .before in
+    let numbers : listed (m .match .numbers) ≡ runNumbers (m .before .before .args .run) =
+    ⊎-elim (λ w. rw (w .1 .given .1, w .3)) (⊎-elim (λ w. rw (w .1 .given .1, w .4) (w .3 .ensures)) (λ w. rw (w .1 .given .1, w .4) (w .3 .ensures))) (m .match .came) in
+    rw numbers at (t .tell .ensures)
 
 pub tell-run-spec : {M : Type 1} → statement M
 tell-run-spec =
@@ -12,14 +24,6 @@ tell-run-spec =
     (λ c κs. search needs)
     (λ c. search needs)
     (λ c κs. search needs)
-    (λ c. search needs)
-    (λ c. search needs)
     (λ c κs. search needs)
     (λ c. search needs)
-    (λ c κs. search needs)
-    (λ c. search needs)
-    (λ c. rw (c .before .before .before .before .before .before .run .given .1) (c .before .before .tell .ensures))
-    (λ c. search needs)
-    (λ c. rw (c .before .before .before .before .before .run2 .given .1) (c .before .before .tell-refusal .ensures))
-    (λ c. search needs)
-    (λ c. let f = c .before .before .before .before in rw (f .before .before .before .run3 .given .1, ← f .field-number .ensures) (c .before .before .tell2 .ensures)))
+    returns)

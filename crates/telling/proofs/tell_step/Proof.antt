@@ -1,7 +1,19 @@
 -- `telling::tell_step` meets its contract. Assumes nothing.
+use mathlib.Core.Path.{_≡_}
+use mathlib.Core.Logic.{⊎-elim}
+use Rattle.model.specs.Answers.{stepNumbers}
+use Rattle.telling.specs.Told.{listed}
 use borrow.Author.Needs.{needs}
 use Rattle.telling.proofs.tell_step.Statement.{statement}
 use Rattle.telling.proofs.tell_step.Tie as tie
+
+returns : tie.Need-returns
+returns c =
+    let t = c .before .before in
+    let m = t .before .before in
+    let numbers : listed (m .match .numbers) ≡ stepNumbers (m .before .before .args .step) =
+    ⊎-elim (λ w. rw (w .1 .given .1, w .2)) (⊎-elim (λ w. rw (w .1 .given .1, w .4) (w .3 .ensures)) (λ w. rw (w .1 .given .1, w .4) (w .3 .ensures))) (m .match .came) in
+    rw numbers at (t .tell .ensures)
 
 pub tell-step-spec : {M : Type 1} → statement M
 tell-step-spec =
@@ -12,14 +24,6 @@ tell-step-spec =
     (λ c κs. search needs)
     (λ c. search needs)
     (λ c κs. search needs)
-    (λ c. search needs)
-    (λ c. search needs)
     (λ c κs. search needs)
     (λ c. search needs)
-    (λ c κs. search needs)
-    (λ c. search needs)
-    (λ c. rw (c .before .before .before .before .before .enum-told .given .1) (c .before .before .tell .ensures))
-    (λ c. search needs)
-    (λ c. rw (c .before .before .before .before .before .step .given .1) (c .before .before .tell-refusal .ensures))
-    (λ c. search needs)
-    (λ c. let f = c .before .before .before .before in rw (f .before .before .before .step2 .given .1, ← f .field-number .ensures) (c .before .before .tell2 .ensures)))
+    returns)

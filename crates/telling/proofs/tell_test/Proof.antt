@@ -1,7 +1,18 @@
 -- `telling::tell_test` meets its contract. Assumes nothing.
+use mathlib.Core.Path.{_≡_}
+use mathlib.Core.Logic.{⊎-elim}
+use Rattle.model.specs.Answers.{testNumbers}
+use Rattle.telling.specs.Told.{listed}
 use borrow.Author.Needs.{needs}
 use Rattle.telling.proofs.tell_test.Statement.{statement}
 use Rattle.telling.proofs.tell_test.Tie as tie
+
+returns : tie.Need-returns
+returns c =
+    let t = c .before .before in
+    let m = t .before .before in
+    let numbers : listed (m .match .numbers) ≡ testNumbers (m .before .before .args .test) = ⊎-elim (λ w. rw (w .1 .given .1, w .2)) (λ w. rw (w .1 .given .1, w .4) (w .3 .ensures)) (m .match .came) in
+    rw numbers at (t .tell .ensures)
 
 pub tell-test-spec : {M : Type 1} → statement M
 tell-test-spec =
@@ -10,9 +21,6 @@ tell-test-spec =
     (λ c. search needs)
     (λ c. search needs)
     (λ c κs. search needs)
-    (λ c. search needs)
     (λ c κs. search needs)
     (λ c. search needs)
-    (λ c. rw (c .before .before .before .before .before .enum-told .given .1) (c .before .before .tell .ensures))
-    (λ c. search needs)
-    (λ c. rw (c .before .before .before .before .before .test .given .1) (c .before .before .tell-refusal .ensures)))
+    returns)

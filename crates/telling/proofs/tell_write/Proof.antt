@@ -1,7 +1,18 @@
 -- `telling::tell_write` meets its contract. Assumes nothing.
+use mathlib.Core.Path.{_≡_}
+use mathlib.Core.Logic.{⊎-elim}
+use Rattle.model.specs.Answers.{writeNumbers}
+use Rattle.telling.specs.Told.{listed}
 use borrow.Author.Needs.{needs}
 use Rattle.telling.proofs.tell_write.Statement.{statement}
 use Rattle.telling.proofs.tell_write.Tie as tie
+
+returns : tie.Need-returns
+returns c =
+    let t = c .before .before in
+    let m = t .before .before in
+    let numbers : listed (m .match .numbers) ≡ writeNumbers (m .before .before .args .write) = ⊎-elim (λ w. rw (w .1 .given .1, w .3)) (λ w. rw (w .1 .given .1, w .4) (w .3 .ensures)) (m .match .came) in
+    rw numbers at (t .tell .ensures)
 
 pub tell-write-spec : {M : Type 1} → statement M
 tell-write-spec =
@@ -10,9 +21,6 @@ tell-write-spec =
     (λ c. search needs)
     (λ c. search needs)
     (λ c κs. search needs)
-    (λ c. search needs)
     (λ c κs. search needs)
     (λ c. search needs)
-    (λ c. rw (c .before .before .before .before .before .before .write .given .1) (c .before .before .tell .ensures))
-    (λ c. search needs)
-    (λ c. rw (c .before .before .before .before .before .write2 .given .1) (c .before .before .tell-refusal .ensures)))
+    returns)

@@ -10,7 +10,7 @@ returns c =
     let second = third .before .before in
     let first = second .before .before in
     let s = first .before .before .before in
-    let r = four-is (s .args .s .now) (s .args .k) (s .pre) (first .wide .ensures) (second .wide2 .ensures) (third .wide3 .ensures) (c .wide4 .ensures) in
+    let r = four-is (s .args .s .now) (s .args .k) (s .pre) (first .index .ensures) (second .index2 .ensures) (third .index3 .ensures) (c .index4 .ensures) in
     (r .holds, r .small)
 
 pub four-at-spec : {M : Type 1} → statement M

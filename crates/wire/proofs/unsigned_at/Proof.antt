@@ -21,14 +21,14 @@ mul-x c = let l = c .before .before in record { fits = omega (arith, reading-fit
 add-x : tie.Need-add-x Inv-loop μ-loop
 add-x c =
     let l = c .before .before .before .before in
-    record { fits = reading-fits (l .loop .inv .1) (omega arith) (c .wide .ensures .1) }
+    record { fits = reading-fits (l .loop .inv .1) (omega arith) (c .index .ensures .1) }
 
 loop-again : tie.Need-loop-again Inv-loop μ-loop
 loop-again c =
     let p = c .before .before in
     let l = p .before .before in
     let s = l .before .before .args .s .now in
-    (omega arith, reading-more (l .loop .inv .1) (omega arith) (c .wide .ensures .0 ∙ ap (λ k. getD s k 0) (p .place .ensures)) (c .wide .ensures .1))
+    (omega arith, reading-more (l .loop .inv .1) (omega arith) (c .index .ensures .0 ∙ ap (λ k. getD s k 0) (p .place .ensures)) (c .index .ensures .1))
 
 returns : tie.Need-returns Inv-loop μ-loop
 returns c =

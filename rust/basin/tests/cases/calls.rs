@@ -85,21 +85,34 @@ impl Written {
         }
     }
 
-    pub fn slices(&mut self) -> Written<&mut [i64], &mut [u8]> {
-        Written {
-            destinations: self.destinations.each_mut().map(Vec::as_mut_slice),
-            stepped: self.stepped.each_mut().map(Vec::as_mut_slice),
-            work: &mut self.work,
-            record: &mut self.record,
-        }
-    }
-
     fn inside_fences(&mut self) -> Written<&mut [i64], &mut [u8]> {
         Written {
             destinations: self.destinations.each_mut().map(|list| inside(list)),
             stepped: self.stepped.each_mut().map(|list| inside(list)),
             work: inside(&mut self.work),
             record: inside(&mut self.record),
+        }
+    }
+}
+
+impl<T: AsMut<[i64]>, R: AsMut<[u8]>> Written<T, R> {
+    pub fn slices(&mut self) -> Written<&mut [i64], &mut [u8]> {
+        Written {
+            destinations: self.destinations.each_mut().map(T::as_mut),
+            stepped: self.stepped.each_mut().map(T::as_mut),
+            work: self.work.as_mut(),
+            record: self.record.as_mut(),
+        }
+    }
+}
+
+impl Written<&mut [i64], &mut [u8]> {
+    pub fn copied(&self) -> Written {
+        Written {
+            destinations: self.destinations.each_ref().map(|list| list.to_vec()),
+            stepped: self.stepped.each_ref().map(|list| list.to_vec()),
+            work: self.work.to_vec(),
+            record: self.record.to_vec(),
         }
     }
 }
@@ -172,7 +185,7 @@ fn put_total(number: i64, total: &mut [i64]) {
     }
 }
 
-fn parameters(case: &Case) -> basin::Parameters {
+pub fn parameters(case: &Case) -> basin::Parameters {
     let reference::Parameters {
         w,
         n,
@@ -364,10 +377,7 @@ fn compare_raw(case: &Case, call: Call, before: &Written, expected: &Outcome, at
 
     let told = &expected.told;
     assert_eq!(number, told[0], "{}", sides(case, call, at));
-    let mut answered = vec![UNTOUCHED; case.room + 2];
-    for (place, number) in answered[1..=case.room].iter_mut().zip(told) {
-        *place = *number;
-    }
+    let answered = fenced(&answered(told, case.room), UNTOUCHED);
     assert_eq!(answer, answered, "{}", sides(case, call, at));
     let expected = expected.written.fenced();
     assert_eq!(written, expected, "{}", sides(case, call, at));
@@ -375,6 +385,15 @@ fn compare_raw(case: &Case, call: Call, before: &Written, expected: &Outcome, at
         let same = matches!(&after[..], [FENCE, within @ .., FENCE] if within == before);
         assert!(same, "{at}: {call:?} left {after:?} of {case:?}");
     }
+}
+
+/// What a slice for the answer holds after a call that tells this.
+pub fn answered(told: &[u64], room: usize) -> Vec<u64> {
+    let mut answer = vec![UNTOUCHED; room];
+    for (place, number) in answer.iter_mut().zip(told) {
+        *place = *number;
+    }
+    answer
 }
 
 /// Numbers for a list that is lent to be filled, the k-th of up to four: no two

@@ -5,7 +5,11 @@
 #![allow(dead_code)]
 
 pub mod calls;
+pub mod changes;
+pub mod lists;
+pub mod memory;
 pub mod records;
+pub mod rounding;
 // The generator of random states is shared with the reference's own tests.
 #[path = "../../../reference/tests/common/mod.rs"]
 pub mod common;
@@ -683,11 +687,17 @@ pub fn random_case(random: &mut Random) -> (Case, Vec<Fault>) {
         13..=16 => 2,
         _ => 3 + random.below(3),
     };
+    let faults = put_faults(random, &mut case, times);
+    (case, faults)
+}
+
+/// Puts so many faults into a case.
+pub fn put_faults(random: &mut Random, case: &mut Case, times: usize) -> Vec<Fault> {
     let faults: Vec<_> = (0..times).map(|_| random.pick(&FAULTS)).collect();
     for fault in &faults {
-        fault.put(random, &mut case);
+        fault.put(random, case);
     }
-    (case, faults)
+    faults
 }
 
 /// Adds one to the counts of what happened.

@@ -2,10 +2,12 @@
 //! they tell and write is compared, and everything lent is looked at before and
 //! after. Where that fails, the records are printed in hex.
 
+use std::cmp::Ordering;
+
 use basin::{raw, Comparison, Read, Refusal, Refused};
 use reference::{Parameters, ReadAnswer, State};
 
-use super::calls::{self, fenced, inside, junk, told};
+use super::calls::{self, answered, fenced, inside, junk, told};
 use super::calls::{FENCE, FENCE_BYTE, UNFILLED, UNTOUCHED};
 use super::common::{record_fields, record_of, two_cells, within_limits, Random};
 use super::{record_size, Call, Case};
@@ -90,7 +92,7 @@ pub struct Outcome {
 
 impl Outcome {
     /// Nothing told, and the lists as they are lent.
-    fn before(lent: Lent) -> Self {
+    pub fn before(lent: Lent) -> Self {
         Outcome {
             told: vec![],
             fields: std::array::from_fn(|k| junk(lent.fields[k], k)),
@@ -141,7 +143,7 @@ fn put_constants(constants: &mut [i64], numbers: [i64; 3]) {
 }
 
 /// The independent version.
-fn independent(record: &[u8], lent: Lent) -> Outcome {
+pub fn independent(record: &[u8], lent: Lent) -> Outcome {
     let mut outcome = Outcome::before(lent);
     let [h, b, u, v] = &mut outcome.fields;
     outcome.told = match reference::read(record, h, b, u, v) {
@@ -199,7 +201,12 @@ pub fn compare_read(record: &[u8], lent: Lent, at: &str) -> Outcome {
         inside(&mut answer),
     );
     assert_eq!(number, expected.told[0], "{}", sides());
-    assert_eq!(answer, answered(&expected.told, lent.room), "{}", sides());
+    assert_eq!(
+        answer,
+        fenced(&answered(&expected.told, lent.room), UNTOUCHED),
+        "{}",
+        sides()
+    );
     let left = expected.fields.each_ref().map(|field| fenced(field, FENCE));
     assert_eq!(fields, left, "{}", sides());
     let left = fenced(&expected.constants, FENCE);
@@ -217,15 +224,6 @@ pub fn expect_read(record: &[u8], lent: Lent, told: &[u64], at: &str) -> Outcome
     let outcome = compare_read(record, lent, at);
     assert_eq!(outcome.told, told, "{at}: {} into {lent:?}", hex(record));
     outcome
-}
-
-/// What a slice for the answer holds after a call, with its fences.
-fn answered(told: &[u64], room: usize) -> Vec<u64> {
-    let mut answer = vec![UNTOUCHED; room + 2];
-    for (place, number) in answer[1..=room].iter_mut().zip(told) {
-        *place = *number;
-    }
-    answer
 }
 
 fn assert_untouched(fenced: &[u8], record: &[u8], at: &str) {
@@ -274,7 +272,12 @@ pub fn compare_pair(first: &[u8], second: &[u8], room: usize, at: &str) -> Vec<u
         inside(&mut answer),
     );
     assert_eq!(number, expected[0], "{}", sides());
-    assert_eq!(answer, answered(&expected, room), "{}", sides());
+    assert_eq!(
+        answer,
+        fenced(&answered(&expected, room), UNTOUCHED),
+        "{}",
+        sides()
+    );
     for (after, record) in fenced_records.iter().zip([first, second]) {
         assert_untouched(after, record, at);
     }
@@ -293,7 +296,7 @@ pub fn compare_pair(first: &[u8], second: &[u8], room: usize, at: &str) -> Vec<u
     got
 }
 
-fn independent_pair(first: &[u8], second: &[u8]) -> Vec<u64> {
+pub fn independent_pair(first: &[u8], second: &[u8]) -> Vec<u64> {
     let told = reference::compare(first, second).told();
     told.iter().map(|&x| x as u64).collect()
 }
@@ -303,6 +306,16 @@ pub fn of_record(told: &[u64], record: u8) -> Vec<u64> {
     let mut of_record = vec![told[0], record.into()];
     of_record.extend(&told[1..]);
     of_record
+}
+
+/// What a comparison of two good records tells after its 0.
+pub fn answer_for(time: u64, other_time: u64, same: bool) -> u64 {
+    match time.cmp(&other_time) {
+        Ordering::Greater => 1,
+        Ordering::Less => 2,
+        Ordering::Equal if same => 0,
+        Ordering::Equal => 3,
+    }
 }
 
 /// Both tell this.

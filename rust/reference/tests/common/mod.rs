@@ -287,6 +287,38 @@ pub fn two_cells() -> State {
     }
 }
 
+/// A state at rest with level water.
+pub fn at_rest(w: usize, n: usize) -> State {
+    let cells = w * n;
+    State {
+        parameters: Parameters {
+            w,
+            n,
+            kind: 0,
+            g: 9_810,
+            c: 0,
+            r: 1_000,
+        },
+        h: vec![5_000; cells],
+        b: vec![0; cells],
+        u: vec![0; cells],
+        v: vec![0; cells],
+    }
+}
+
+/// A record of one cell and of this kind, made so long by its b: the reader
+/// refuses it with 2, or with 1.
+pub fn record_of_length(length: usize, kind: u8) -> Vec<u8> {
+    let mut state = at_rest(1, 1);
+    state.parameters.kind = kind;
+    let mut fields = record_fields(&state, 1);
+    let others = record_of(&state, 1).len() - fields[4].len();
+    fields[4] = record_field(5, &vec![0; length - others - 3]);
+    let record = fields.concat();
+    assert_eq!(record.len(), length);
+    record
+}
+
 /// Calls `visit` with every order of the fields from `from` on.
 pub fn every_order(fields: &mut [Vec<u8>], from: usize, visit: &mut impl FnMut(&[Vec<u8>])) {
     if from == fields.len() {

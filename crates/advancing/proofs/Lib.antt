@@ -1,0 +1,3 @@
+-- scans in order; from a scan to the step
+pub mod ScanLaws
+pub mod StepLaws

@@ -1,0 +1,4 @@
+// Refusal 1: a boundary of an unknown kind, 3.
+fn main() {
+    program::run();
+}

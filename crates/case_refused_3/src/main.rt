@@ -1,0 +1,4 @@
+// Refusal 3: gravity above its bound.
+fn main() {
+    program::run();
+}

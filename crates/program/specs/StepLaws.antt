@@ -1,0 +1,67 @@
+-- From what the calls answer to what is printed. Assumes nothing.
+use mathlib.Core.Path.{_≡_, sym, ap₂, subst, _∙_}
+use mathlib.Core.List.{List}
+use Prim.Native.Nat.{ℕ, _≤_, _<_}
+use lib.IntN.{ℤ}
+use lib.ListN.{length}
+use Rattle.model.specs.State.{State, cells, WithinLimits}
+use Rattle.model.specs.Answers.{number}
+use Rattle.model.specs.Totals.{totalDepth}
+use Rattle.model.specs.Grid.{tabulate}
+use Rattle.model.specs.Promises.{TotalDepthPromise, StepPromise}
+use Rattle.model.specs.Program.{Printed, refusedLine, totalLine, cellLine, lines, stateLines, stepLines}
+use Rattle.model.specs.declared.Field.{Field}
+use Rattle.model.specs.declared.Refusal.{Refusal}
+use Rattle.model.specs.declared.TotalAnswer.{TotalAnswer}
+use Rattle.model.specs.declared.TotalAnswer.the-variants.{Total, Refused}
+use Rattle.model.specs.declared.StepAnswer.{StepAnswer}
+use Rattle.model.specs.declared.StepAnswer.the-variants as S
+use Rattle.grid.specs.Cells.{cells-most}
+use Rattle.theorems.specs.Tests.{differ}
+use Rattle.theorems.specs.Stepping.{step-leaves}
+use Rattle.theorems.specs.Histories.{totals}
+use Rattle.printing.specs.Sink.{sink, puts, follows, printed}
+use Rattle.program.specs.Stepped.{Stepped}
+
+-- ---- a state within the limits
+
+-- its cells may be printed
+pub cells-ready : (s : State) → WithinLimits s → (0 < s .w) × (length (s .h) ≤ 4096) × (length (s .u) ≡ length (s .h)) × (length (s .v) ≡ length (s .h))
+cells-ready s l =
+    (l .columns .some, subst (λ m. m ≤ 4096) (sym (l .depths .long)) (cells-most (l .columns) (l .rows)), l .us .long ∙ sym (l .depths .long), l .vs .long ∙ sym (l .depths .long))
+
+-- its total is a sum, and never refused
+pub total-is : (s : State) {a : TotalAnswer} {x : ℤ} → WithinLimits s → TotalDepthPromise s a → a ≡ Total x → x ≡ totalDepth s
+total-is s {a} {x} l p e = cc (sym e ∙ totals .depth s a l p)
+
+pub never-refused : (s : State) {a : TotalAnswer} {r : Refusal} {A : Type 0} → WithinLimits s → TotalDepthPromise s a → a ≡ Refused r → A
+never-refused s {a} l p e = differ (cc (sym e ∙ totals .depth s a l p))
+
+-- the line of its total and the lines of its cells
+pub state-printed : (s : State) (out : List ℕ) {k r : ℕ} {d out′ : List ℕ} {m : ℕ} → m ≡ cells s
+    → sink k d ≡ puts (totalLine (totalDepth s)) (sink 0 out) → sink r out′ ≡ puts (lines (tabulate m (cellLine (s .w) (s .h) (s .u) (s .v)))) (sink k d)
+    → Printed (stateLines s) out r out′
+state-printed s out {k = k} {r = r} {d = d} {out′ = out′} e p q =
+    let f = cellLine (s .w) (s .h) (s .u) (s .v) in
+    printed (stateLines s) out (follows (totalLine (totalDepth s)) (lines (tabulate (cells s) f)) (sink 0 out) p (subst (λ m. sink r out′ ≡ puts (lines (tabulate m f)) (sink k d)) e q))
+
+-- ---- what is printed after a step
+
+module _ {s s′ : State} {inflow work work′ : List ℤ} {a : StepAnswer} (p : StepPromise s inflow work a s′ work′) where
+  -- it is within the limits
+  pub after-within : WithinLimits s → WithinLimits s′
+  after-within l = subst WithinLimits (sym (p .steps)) (step-leaves s inflow (length work) l .0)
+
+  module _ {out : List ℕ} {r : ℕ} {out′ : List ℕ} where
+    -- by its answer
+    stepped : (x : StepAnswer) → a ≡ x → Printed (stepLines x s′) out r out′ → Stepped s inflow work s′ work′ out r out′
+    stepped x e q = record { steps = p .steps; clears = p .clears; prints = subst (λ l. Printed l out r out′) (ap₂ stepLines (sym e ∙ p .answers) (p .steps)) q }
+
+    pub step-done : a ≡ S.Done → Printed (stateLines s′) out r out′ → Stepped s inflow work s′ work′ out r out′
+    step-done e q = stepped S.Done e q
+
+    pub step-refused : {x : Refusal} {n : ℕ} → a ≡ S.Refused x → n ≡ number x → Printed (refusedLine n) out r out′ → Stepped s inflow work s′ work′ out r out′
+    step-refused {x} e m q = stepped (S.Refused x) e (subst (λ k. Printed (refusedLine k) out r out′) m q)
+
+    pub step-outside : {k c : ℕ} {f : Field} → a ≡ S.OutOfBounds k f c → Printed (refusedLine 6) out r out′ → Stepped s inflow work s′ work′ out r out′
+    step-outside {k} {c} {f} e q = stepped (S.OutOfBounds k f c) e q

@@ -1,0 +1,145 @@
+// The step program: a record read into lent arrays, one step, and what is printed of it; the program's own arrays; its input and
+// output.
+ghost use mathlib.Core.Path.{_≡_};
+ghost use Prim.Native.Nat.{min};
+ghost use Rattle.model.specs.State.{stateOf, WithinLimits};
+ghost use Rattle.model.specs.Program.{stateLines, programOutput, Printed, ProgramPromise};
+ghost use Rattle.program.specs.Stepped.{Ready, Stepped, SteppedParts};
+use model::Parameters;
+use model::ReadAnswer;
+use model::StepAnswer;
+use model::TotalAnswer;
+
+// Prints a state: its total depth, then each cell.
+fn print_state(p: Parameters, h: &[i64], b: &[i64], u: &[i64], v: &[i64], out: &mut [u8]) -> usize
+    requires { ⌜ WithinLimits (stateOf p (now h) (now b) (now u) (now v)) ⌝ }
+    ensures { λ r. ⌜ Printed (stateLines (stateOf p (now (h .entry)) (now (b .entry)) (now (u .entry)) (now (v .entry)))) (now (out .entry)) r (now (out .exit)) ⌝ }
+{
+    match totals::total_depth(p, h, b, u, v) {
+        TotalAnswer::Total(sum) => {
+            let at = printing::put_total(out, sum);
+            printing::put_cells(out, at, p.w, h, u, v)
+        }
+        // which a state within the limits never is
+        TotalAnswer::Refused(refusal) => printing::put_refused(out, telling::number_of(refusal)),
+    }
+}
+
+// Steps a state within the limits, and prints what comes of it.
+fn step_state(
+    p: Parameters,
+    h: &mut [i64],
+    b: &[i64],
+    u: &mut [i64],
+    v: &mut [i64],
+    inflow: &[i64],
+    work: &mut [i64],
+    out: &mut [u8],
+) -> usize
+    requires { ⌜ WithinLimits (stateOf p (now h) (now b) (now u) (now v)) ⌝ }
+    ensures { λ r. ⌜ (let s = stateOf p (now (h .entry)) (now (b .entry)) (now (u .entry)) (now (v .entry)) in Stepped s (now (inflow .entry)) (now (work .entry)) (stateOf p (now (h .exit)) (now (b .entry)) (now (u .exit)) (now (v .exit))) (now (work .exit)) (now (out .entry)) r (now (out .exit))) ⌝ }
+{
+    match stepping::step(p, h, b, u, v, inflow, work) {
+        StepAnswer::Done => print_state(p, h, b, u, v, out),
+        StepAnswer::Refused(refusal) => printing::put_refused(out, telling::number_of(refusal)),
+        StepAnswer::OutOfBounds {
+            pass: _,
+            field: _,
+            cell: _,
+        } => printing::put_refused(out, 6),
+    }
+}
+
+// The smaller of two counts.
+fn less(a: usize, b: usize) -> usize
+    ensures { λ r. ⌜ r ≡ min a b ⌝ }
+{
+    if a < b { a } else { b }
+}
+
+// The same of the state in the first w·n places of lent fields.
+fn step_parts(
+    p: Parameters,
+    h: &mut [i64],
+    b: &[i64],
+    u: &mut [i64],
+    v: &mut [i64],
+    inflow: &[i64],
+    work: &mut [i64],
+    out: &mut [u8],
+) -> usize
+    requires { ⌜ Ready p (now h) (now b) (now u) (now v) ⌝ }
+    ensures { λ r. ⌜ SteppedParts p (now (h .entry)) (now (b .entry)) (now (u .entry)) (now (v .entry)) (now (inflow .entry)) (now (work .entry)) (now (out .entry)) r (now (h .exit)) (now (u .exit)) (now (v .exit)) (now (work .exit)) (now (out .exit)) ⌝ }
+{
+    let m = p.w * p.n;
+    let k = less(m, inflow.len());
+    step_state(
+        p,
+        &mut h[..m],
+        &b[..m],
+        &mut u[..m],
+        &mut v[..m],
+        &inflow[..k],
+        work,
+        out,
+    )
+}
+
+// A record read into h, b, u and v, one step of it with the inflow lent, and what is printed of that. Answers how many bytes of out
+// it has filled. It rules out, for instance: the total before the step; a refused step that has printed cells; a grid cut to the
+// room lent.
+pub fn print_step(
+    input: &[u8],
+    h: &mut [i64],
+    b: &mut [i64],
+    u: &mut [i64],
+    v: &mut [i64],
+    inflow: &[i64],
+    work: &mut [i64],
+    out: &mut [u8],
+) -> usize
+    ensures { λ r. ⌜ ProgramPromise (now (input .entry)) (now (h .entry)) (now (b .entry)) (now (u .entry)) (now (v .entry)) (now (inflow .entry)) (now (work .entry)) (now (out .entry)) r (now (h .exit)) (now (b .exit)) (now (u .exit)) (now (v .exit)) (now (work .exit)) (now (out .exit)) ⌝ }
+{
+    if input.len() >= 65536 {
+        return printing::put_refused(out, 7);
+    }
+    match reading::read(input, h, b, u, v) {
+        ReadAnswer::Read {
+            parameters,
+            timestamp: _,
+        } => step_parts(parameters, h, b, u, v, inflow, work, out),
+        ReadAnswer::Refused(refusal) => printing::put_refused(out, telling::number_of(refusal)),
+    }
+}
+
+// What the step program prints for an input, over arrays of its own: fields for up to 1,024 cells, so that a larger grid is an 8.
+pub fn output(input: &[u8], out: &mut [u8]) -> usize
+    ensures { λ r. ⌜ Printed (programOutput (now (input .entry))) (now (out .entry)) r (now (out .exit)) ⌝ }
+{
+    let mut h = [0; 1024];
+    let mut b = [0; 1024];
+    let mut u = [0; 1024];
+    let mut v = [0; 1024];
+    let inflow = [0; 1024];
+    let mut work = [0; 8192];
+    print_step(
+        input,
+        &mut h,
+        &mut b,
+        &mut u,
+        &mut v,
+        &inflow,
+        &mut work,
+        out,
+    )
+}
+
+// Reads standard input, up to the byte that makes it too long, and writes what the program prints, for which there is room
+// (`OutputClaim`).
+pub fn run() {
+    let mut input = io::large_buffer();
+    let count = io::read_full(libc::STDIN_FILENO, &mut input);
+    let mut out = [0u8; 32768];
+    let printed = output(&input[..count], &mut out);
+    io::write_all(libc::STDOUT_FILENO, &out[..printed]);
+}

@@ -1,0 +1,170 @@
+//! Records changed at random: in the state that is written, in the row of
+//! fields, in single bytes.
+
+use reference::State;
+
+use super::common::{random_state, record_field, record_fields, record_of, Random, SPREADS};
+use super::records::{field, shuffle, shuffled};
+use super::{random_timestamp, BOUNDS, U, V};
+
+/// A byte that means something in a record, or any.
+fn byte(random: &mut Random) -> u8 {
+    match random.below(3) {
+        0 => random.next() as u8,
+        1 => random.below(9) as u8,
+        _ => random.pick(&[0, 64, 65, 0x7F, 0x80, 0xEC, 0xFF]),
+    }
+}
+
+fn any_small_state(random: &mut Random) -> State {
+    let size = match random.below(8) {
+        0 => (1, 1),
+        1 => (1 + random.below(20), 1 + random.below(5)),
+        _ => (1 + random.below(4), 1 + random.below(4)),
+    };
+    let (spread, kind) = (random.pick(&SPREADS), random.below(3) as u8);
+    random_state(random, spread, size, kind)
+}
+
+/// Changes a number, a side, the kind, or the length of a field. The state may
+/// stay within the limits.
+fn change_state(random: &mut Random, state: &mut State) {
+    let near = |random: &mut Random, (low, high): (i64, i64)| {
+        random.pick(&[low - 1, low, high, high + 1, high + (1 << 14)])
+    };
+    let p = &mut state.parameters;
+    let (w, side) = (p.w, random.pick(&[0, 1, p.w, p.n, 64, 65, 255]));
+    match random.below(12) {
+        0 => p.w = side,
+        1 => p.n = side,
+        2 => p.kind = random.pick(&[0, 1, 2, 3, 0x82, 0xFF]),
+        3 => p.g = near(random, (1, 10_000)),
+        4 => p.c = near(random, (-10_000, 10_000)),
+        5 => p.r = near(random, (1_000, 1_000_000)),
+        6 => {
+            let which = random.below(4);
+            let numbers = field(state, which);
+            let length = (numbers.len() + random.below(3)).saturating_sub(1);
+            numbers.resize(length, 1_000);
+        }
+        7..=9 => {
+            let which = random.below(4);
+            let number = near(random, BOUNDS[which]);
+            let numbers = field(state, which);
+            let cell = random.below(numbers.len().max(1));
+            if let Some(place) = numbers.get_mut(cell) {
+                *place = number;
+            }
+        }
+        _ => {
+            // A velocity, mostly on a wall where there is one.
+            let which = random.pick(&[U, V]);
+            let cell = match which {
+                U => w * random.below(4),
+                _ => random.below(w + 1),
+            };
+            if let Some(place) = field(state, which).get_mut(cell) {
+                *place = random.pick(&[-5_000, -1, 1, 300]);
+            }
+        }
+    }
+}
+
+/// Changes the row of fields: one twice, one less, or its tag, length or bytes.
+fn change_fields(random: &mut Random, fields: &mut Vec<Vec<u8>>) {
+    let which = random.below(fields.len());
+    let field = fields[which].clone();
+    let length = field.len() as u16 - 3;
+    match random.below(6) {
+        0 => fields.insert(random.below(fields.len() + 1), field),
+        1 => drop(fields.remove(which)),
+        2 => fields[which][0] = byte(random),
+        3 => {
+            // The length alone, of which the bytes are not changed.
+            let bit = 1 << random.below(16);
+            let lengths = [length ^ bit, length + 1, length.wrapping_sub(1)];
+            let near = random.pick(&lengths);
+            let length = random.pick(&[near, near, 0, 3, 8, 12, 0xFFFF]);
+            fields[which][1..3].copy_from_slice(&length.to_be_bytes());
+        }
+        4 => {
+            let mut value = field[3..].to_vec();
+            let lengths = [
+                value.len() + 1,
+                value.len() + 4,
+                value.len().saturating_sub(1),
+            ];
+            value.resize(random.pick(&lengths), 0);
+            fields[which] = record_field(field[0], &value);
+        }
+        _ => fields[which] = (0..random.below(12)).map(|_| byte(random)).collect(),
+    }
+}
+
+/// Changes, puts in or takes away some bytes.
+pub fn change_bytes(random: &mut Random, record: &mut Vec<u8>) {
+    let place = random.below(record.len() + 1);
+    match random.below(6) {
+        0 | 1 if place == record.len() => {}
+        0 => record[place] ^= 1 << random.below(8),
+        1 => record[place] = byte(random),
+        2 => drop(record.drain(place..(place + 1).min(record.len()))),
+        3 => record.insert(place, byte(random)),
+        4 => record.truncate(place),
+        _ => {
+            let more = random.pick(&[1, 2, 3, 4, 7]);
+            record.extend((0..more).map(|_| byte(random)));
+        }
+    }
+}
+
+/// A record changed at random, or not at all, and what it was made from.
+pub struct Changed {
+    pub cells: usize,
+    /// The record of the state before any change.
+    pub good: Vec<u8>,
+    /// That of the changed state, with tags that rise.
+    pub rising: Vec<u8>,
+    /// And before fields and bytes of it were changed.
+    pub unchanged: Vec<u8>,
+    pub record: Vec<u8>,
+}
+
+impl Changed {
+    pub fn random(random: &mut Random) -> Self {
+        let mut state = any_small_state(random);
+        let cells = state.h.len();
+        let timestamp = match random.below(2) {
+            0 => random.pick(&[0, 1]),
+            _ => random_timestamp(random),
+        };
+        let good = shuffled(random, &state, timestamp);
+        let times = random.pick(&[0, 1, 1, 2, 3]);
+        (0..times).for_each(|_| change_state(random, &mut state));
+        let rising = record_of(&state, timestamp);
+        let mut fields = record_fields(&state, timestamp);
+        if !random.once_in(4) {
+            shuffle(random, &mut fields);
+        }
+        if random.once_in(4) {
+            change_fields(random, &mut fields);
+        }
+        let unchanged = fields.concat();
+        let mut record = unchanged.clone();
+        if random.once_in(4) {
+            let times = 1 + random.below(3);
+            (0..times).for_each(|_| change_bytes(random, &mut record));
+        } else if random.once_in(12) {
+            // Bytes that never were a record.
+            let length = random.below(80);
+            record = (0..length).map(|_| byte(random)).collect();
+        }
+        Changed {
+            cells,
+            good,
+            rising,
+            unchanged,
+            record,
+        }
+    }
+}

@@ -1,0 +1,288 @@
+//! Empty lists, and lists beside memory that nobody may touch. Every list of
+//! every call is empty by itself and together with the others: as a pointer to
+//! no memory at all, which an empty `Vec` has, as one between two fences, and as
+//! one to a page without access. Then lists of any length start or end beside
+//! such a page, so that a call that only reads there ends the test.
+//!
+//! What is told and left is compared as everywhere ([`cases`]).
+
+mod cases;
+
+use basin::raw;
+use cases::calls::{answered, call_raw, expect, independent, junk, Written, UNTOUCHED};
+use cases::changes::Changed;
+use cases::common::{record_of, Random};
+use cases::memory::{Guarded, Plain};
+use cases::records::{self, basin, compare_pair, expect_pair, expect_read, told_for};
+use cases::records::{hex, of_record, Lent, TIMESTAMP};
+use cases::rounding::{compare_rnd, random_quotient};
+use cases::{random_case, Call, Case, CALLS};
+
+// ---- empty lists
+
+#[test]
+fn each_list_by_itself() {
+    for call in CALLS {
+        for field in 0..6 {
+            let mut case = Case::basin();
+            case.fields[field].clear();
+            let taken = call.fields().contains(&field);
+            expect(&case, call, &[if taken { 2 } else { 0 }], "an empty field");
+        }
+        for which in 0..3 {
+            let mut case = Case::basin();
+            case.destinations[which] = 0;
+            let filled = call.is_filling() && which < call.destinations();
+            expect(&case, call, &[if filled { 8 } else { 0 }], "no destination");
+        }
+        let mut case = Case::basin();
+        case.work = 0;
+        let short = call.has_work_space();
+        expect(&case, call, &[if short { 2 } else { 0 }], "no work space");
+        let mut case = Case::basin();
+        case.record = 0;
+        let short = call == Call::Write;
+        expect(&case, call, &[if short { 8 } else { 0 }], "no record");
+        // Nowhere to tell it, which is no cause of refusal.
+        let mut case = Case::basin();
+        case.room = 0;
+        expect(&case, call, &[0], "no answer");
+    }
+}
+
+/// A case of empty lists alone.
+fn nothing(w: usize, n: usize) -> Case {
+    let mut case = Case::basin();
+    (case.p.w, case.p.n) = (w, n);
+    case.fields.iter_mut().for_each(Vec::clear);
+    (case.work, case.destinations) = (0, [0; 3]);
+    (case.record, case.room) = (0, 0);
+    case
+}
+
+#[test]
+fn all_lists_at_once() {
+    // No grid has 0 cells, so empty fields are never right.
+    for (w, n, told) in [(3, 2, 2), (1, 1, 2), (0, 0, 1), (0, 1, 1), (1, 0, 1)] {
+        for call in CALLS {
+            expect(&nothing(w, n), call, &[told], "nothing");
+        }
+    }
+    // 2^64 cells, which is 0 in 64 bits.
+    for (w, n) in [(1 << 32, 1 << 32), (1 << 63, 2), (2, 1 << 63)] {
+        for call in CALLS {
+            expect(&nothing(w, n), call, &[1], "nothing for 2^64 cells");
+        }
+    }
+}
+
+#[test]
+fn records_and_what_they_are_read_into() {
+    let good = record_of(&basin(), TIMESTAMP);
+    let none = Lent {
+        fields: [0; 4],
+        constants: 0,
+        room: 0,
+    };
+    expect_read(&[], none, &[7, 0], "nothing");
+    expect_read(&[], Lent::enough(6), &[7, 0], "no record");
+    expect_read(&good, none, &[8], "no room at all");
+    for which in 0..4 {
+        let mut lent = Lent::enough(6);
+        lent.fields[which] = 0;
+        expect_read(&good, lent, &[8], "no room for a field");
+    }
+    // These two take what is told, and may be as short as they like.
+    let told = told_for(&basin(), TIMESTAMP);
+    for (constants, room) in [(0, 5), (3, 0), (0, 0)] {
+        let lent = Lent {
+            constants,
+            room,
+            ..Lent::enough(6)
+        };
+        expect_read(&good, lent, &told, "nowhere to tell it");
+    }
+
+    expect_pair(&[], &[], &of_record(&[7, 0], 1), "two empty records");
+    expect_pair(&[], &good, &of_record(&[7, 0], 1), "the first is empty");
+    expect_pair(&good, &[], &of_record(&[7, 0], 2), "the second is empty");
+    for (first, second) in [(&good[..], &good[..]), (&good, &[]), (&[], &good)] {
+        compare_pair(first, second, 0, "no answer");
+    }
+}
+
+#[test]
+fn a_quotient_without_a_place() {
+    for (a, b) in [(5, 2), (-5, 2), (5, 0), (i64::MIN, i64::MAX)] {
+        compare_rnd(a, b, 0, "no place");
+    }
+}
+
+// ---- beside memory without access
+
+/// Room for every list that a call may be lent, each between two such pages.
+struct Pages {
+    fields: [Guarded; 6],
+    destinations: [Guarded; 3],
+    stepped: [Guarded; 3],
+    work: Guarded,
+    records: [Guarded; 2],
+    answer: Guarded,
+    /// The lists end straight before a page, or else start straight after one.
+    at_end: bool,
+}
+
+/// Lends each list in its room.
+fn lend_all<'a, T: Plain, const N: usize>(
+    rooms: &'a mut [Guarded; N],
+    lists: &[Vec<T>; N],
+    at_end: bool,
+) -> [&'a mut [T]; N] {
+    let mut lists = lists.iter();
+    rooms.each_mut().map(|room| {
+        let list = lists.next().expect("as many lists as rooms");
+        room.lend(list, at_end)
+    })
+}
+
+impl Pages {
+    fn new(at_end: bool) -> Self {
+        // More than any list of the cases below.
+        let room = || Guarded::new(1 << 20);
+        Pages {
+            fields: [(); 6].map(|()| room()),
+            destinations: [(); 3].map(|()| room()),
+            stepped: [(); 3].map(|()| room()),
+            work: room(),
+            records: [(); 2].map(|()| room()),
+            answer: room(),
+            at_end,
+        }
+    }
+
+    fn call(&mut self, case: &Case, call: Call, at: &str) -> u64 {
+        let at_end = self.at_end;
+        let before = Written::before(case, call);
+        let fields = lend_all(&mut self.fields, &case.fields, at_end);
+        let mut lent = Written {
+            destinations: lend_all(&mut self.destinations, &before.destinations, at_end),
+            stepped: lend_all(&mut self.stepped, &before.stepped, at_end),
+            work: self.work.lend(&before.work, at_end),
+            record: self.records[0].lend(&before.record, at_end),
+        };
+        let answer = self.answer.lend(&vec![UNTOUCHED; case.room], at_end);
+        let read = fields.each_ref().map(|field| &**field);
+        let number = call_raw(case, call, read, lent.slices(), answer);
+
+        let expected = independent(case, call);
+        assert_eq!(number, expected.told[0], "{at}: {call:?} {case:?}");
+        assert_eq!(
+            answer,
+            answered(&expected.told, case.room),
+            "{at}: {case:?}"
+        );
+        assert_eq!(lent.copied(), expected.written, "{at}: {call:?} {case:?}");
+        assert_eq!(read, case.fields.each_ref().map(Vec::as_slice), "{at}");
+        number
+    }
+
+    fn read(&mut self, record: &[u8], lent: Lent, at: &str) -> u64 {
+        let before = records::Outcome::before(lent);
+        let [h, b, u, v] = before.fields;
+        let lists = [h, b, u, v, before.constants, vec![]];
+        let [h, b, u, v, constants, _] = lend_all(&mut self.fields, &lists, self.at_end);
+        let answer = self.answer.lend(&vec![UNTOUCHED; lent.room], self.at_end);
+        let lent_record = self.records[0].lend(record, self.at_end);
+        let number = raw::read(lent_record, h, b, u, v, constants, answer);
+
+        let expected = records::independent(record, lent);
+        assert_eq!(number, expected.told[0], "{at}: {}", hex(record));
+        assert_eq!(answer, answered(&expected.told, lent.room), "{at}");
+        let fields = [h, b, u, v].map(|field| field.to_vec());
+        assert_eq!(fields, expected.fields, "{at}: {}", hex(record));
+        assert_eq!(constants, expected.constants, "{at}: {}", hex(record));
+        assert_eq!(lent_record, record, "{at}");
+        number
+    }
+
+    fn compare(&mut self, first: &[u8], second: &[u8], room: usize, at: &str) -> u64 {
+        let pair = [first, second].map(<[u8]>::to_vec);
+        let answer = self.answer.lend(&vec![UNTOUCHED; room], self.at_end);
+        let [one, other] = lend_all(&mut self.records, &pair, self.at_end);
+        let number = raw::compare(one, other, answer);
+
+        let told = records::independent_pair(first, second);
+        assert_eq!(number, told[0], "{at}: {} {}", hex(first), hex(second));
+        assert_eq!(answer, answered(&told, room), "{at}");
+        assert_eq!([&*one, &*other], [first, second], "{at}");
+        number
+    }
+
+    fn rnd(&mut self, (a, b): (i64, i64), room: usize) {
+        let mut expected = junk(room, 0);
+        let places = self.fields[0].lend(&expected, self.at_end);
+        let number = raw::rnd(a, b, places);
+        if let (Some(place), Some(rounded)) = (expected.first_mut(), basin::rnd(a, b)) {
+            assert_eq!(number, 1, "{a} {b}");
+            *place = rounded;
+        }
+        assert_eq!(places, expected, "{a} {b}");
+    }
+}
+
+#[test]
+fn empty_lists_that_point_to_such_a_page() {
+    let mut pages = Pages::new(true);
+    for call in CALLS {
+        assert_eq!(pages.call(&nothing(3, 2), call, "nothing"), 2);
+        assert_eq!(pages.call(&nothing(0, 0), call, "nothing"), 1);
+    }
+    let none = Lent {
+        fields: [0; 4],
+        constants: 0,
+        room: 0,
+    };
+    assert_eq!(pages.read(&[], none, "nothing"), 7);
+    assert_eq!(pages.read(&record_of(&basin(), 1), none, "no room"), 8);
+    assert_eq!(pages.compare(&[], &[], 0, "nothing"), 7);
+    pages.rnd((5, 2), 0);
+}
+
+#[test]
+fn lists_that_start_or_end_beside_such_a_page() {
+    let mut random = Random::new(81);
+    // By number: of calls on a state, of reads, of comparisons.
+    let mut met = [[0; 9]; 3];
+    for at_end in [false, true] {
+        let mut pages = Pages::new(at_end);
+        for number in 0..1_500 {
+            let (case, faults) = random_case(&mut random);
+            let at = format!("case {number}, {faults:?}");
+            for call in CALLS {
+                met[0][pages.call(&case, call, &at) as usize] += 1;
+            }
+            let Changed {
+                record,
+                good,
+                cells,
+                ..
+            } = Changed::random(&mut random);
+            let mut lent = Lent::any(&mut random, cells);
+            if random.once_in(8) {
+                lent.fields[random.below(4)] = random.below(cells + 1);
+            }
+            met[1][pages.read(&record, lent, &at) as usize] += 1;
+            for (first, second) in [(&record, &good), (&good, &record)] {
+                let told = pages.compare(first, second, random.below(6), &at);
+                met[2][told as usize] += 1;
+            }
+            pages.rnd(random_quotient(&mut random), random.below(4));
+        }
+    }
+    println!("{met:?}");
+    for number in [0, 1, 2, 3, 4, 5] {
+        assert!(met.iter().all(|met| met[number] > 30), "{met:?}");
+    }
+    let others = [met[0][6], met[0][8], met[1][7], met[1][8], met[2][7]];
+    assert!(others.iter().all(|&times| times > 30), "{met:?}");
+}

@@ -1,0 +1,497 @@
+//! Numbers and lengths near the limits of the machine: sides, run lengths, work
+//! spaces and timestamps of all 64 bits, products that wrap to a small number,
+//! and lists of up to 2^40 bytes, of which only what is used takes memory. What
+//! is told and left is what 01 says: a field of another length than w·n is a 2
+//! however long, and of a work space or destination only the first places
+//! matter. Nothing goes over a whole list, or these tests would not end.
+//!
+//! (The least and the greatest number in every field and constant, and sides
+//! whose product is the length of the fields, are in comparison.rs too.)
+
+mod cases;
+
+use basin::{raw, Refusal};
+use cases::calls::{answered, call_raw, compare, expect, independent, parameters};
+use cases::calls::{Written, FENCE, FENCE_BYTE, UNTOUCHED};
+use cases::common::{record_field, record_fields, record_of};
+use cases::memory::{Mapping, Plain};
+use cases::records::{self, basin, expect_pair, expect_state, independent_pair};
+use cases::records::{of_record, told_for, written, Lent, TIMESTAMP};
+use cases::{record_size, Call, Case, CALLS, H, S, U, V};
+
+// ---- numbers
+
+#[test]
+fn sides_whose_products_wrap() {
+    // w·n, 8·w·n or 12·w·n is small, in 64 bits or in 32.
+    let sides: [(usize, usize); 14] = [
+        (1 << 32, 1 << 32),
+        (1 << 32, 1 << 29),
+        (1 << 61, 1),
+        (1, 1 << 61),
+        ((1 << 61) + 1, 1),
+        ((1 << 61) + 3, 2),
+        (1 << 62, 6),
+        ((1 << 63) + 3, 2),
+        ((1 << 32) + 3, 2),
+        (3, (1 << 32) + 2),
+        (usize::MAX, usize::MAX),
+        (usize::MAX, 1),
+        (usize::MAX / 12 + 1, 1),
+        (usize::MAX - 2, usize::MAX - 1),
+    ];
+    for (w, n) in sides {
+        let cells = w.wrapping_mul(n);
+        // The fields, work space and record that a wrapping product asks for,
+        // and those of the basin.
+        for length in [cells.min(4_096), 6] {
+            let mut case = Case::basin();
+            (case.p.w, case.p.n) = (w, n);
+            case.fields
+                .iter_mut()
+                .for_each(|field| field.resize(length, 0));
+            case.destinations = [length; 3];
+            for work in [cells.wrapping_mul(8), 48, 0, usize::MAX] {
+                case.work = work;
+                case.record = cells.wrapping_mul(12).wrapping_add(44).min(70_000);
+                for call in CALLS {
+                    expect(&case, call, &[1], "sides");
+                }
+            }
+        }
+    }
+}
+
+#[test]
+fn run_lengths_of_64_bits() {
+    let long = [10_001, 1 << 16, (1 << 32) + 3, (1 << 63) + 3, u64::MAX];
+    for steps in long {
+        let mut case = Case::basin();
+        case.steps = steps;
+        expect(&case, Call::Run, &[1], "a long run");
+        expect(&case, Call::TestRun, &[1], "a long run");
+    }
+    // The longest there is, to its end: what comes in goes out again.
+    let mut case = Case::basin();
+    case.fields[S] = vec![1, -1, 2, -2, 3, -3];
+    case.steps = 10_000;
+    assert_eq!(compare(&case, Call::Run, "10,000").told, [0, 10_000]);
+}
+
+#[test]
+fn work_spaces_whose_bytes_wrap() {
+    // Eight times these is less than 8·w·n in 64 bits.
+    let long = [1 << 61, (1 << 61) + 47, 1 << 63, usize::MAX - 7, usize::MAX];
+    for work in long.into_iter().chain([(1 << 32) - 1, 1 << 32, 48]) {
+        let mut case = Case::basin();
+        case.work = work;
+        for call in [Call::TestStep, Call::TestRun] {
+            expect(&case, call, &[0], "a work space that is a number");
+        }
+    }
+}
+
+#[test]
+fn all_numbers_the_least_and_the_greatest() {
+    for number in [i64::MIN, i64::MIN + 1, -1, i64::MAX - 1, i64::MAX] {
+        // Every constant by itself and together, with the fields good and bad.
+        for constants in 0..8 {
+            let mut case = Case::basin();
+            let p = &mut case.p;
+            let places = [&mut p.g, &mut p.c, &mut p.r];
+            for (k, place) in places.into_iter().enumerate() {
+                if constants >> k & 1 == 1 {
+                    *place = number;
+                }
+            }
+            // c may be -1.
+            let good = constants == 0 || number == -1 && constants == 2;
+            for call in CALLS {
+                expect(&case, call, &[if good { 0 } else { 3 }], "constants");
+            }
+            case.fields.iter_mut().for_each(|field| field.fill(number));
+            let told: &[u64] = if good { &[4, 0, 0] } else { &[3] };
+            for call in CALLS {
+                expect(&case, call, told, "all numbers");
+            }
+        }
+    }
+}
+
+#[test]
+fn the_first_and_the_last_timestamp() {
+    let first = written(&basin(), 0, "the first");
+    let last = written(&basin(), u64::MAX, "the last");
+    expect_state(&first, Lent::enough(6), (&basin(), 0), "the first");
+    expect_state(&last, Lent::enough(6), (&basin(), u64::MAX), "the last");
+    expect_pair(&first, &last, &[0, 2], "the last is newer");
+    expect_pair(&last, &first, &[0, 1], "the last is newer");
+    expect_pair(&last, &last, &[0, 0], "the same");
+}
+
+// ---- long lists
+
+/// Lengths of more than 32 bits (the first: its bytes), as far as the list
+/// goes. A narrower number would take them for none, for one place fewer than
+/// `part`, or for just so many.
+fn lengths(part: usize, most: usize) -> Vec<usize> {
+    let word = 1 << 32;
+    let lengths = [word / 8, word, word + part - 1, word + part, most];
+    lengths
+        .into_iter()
+        .filter(|&length| length <= most)
+        .collect()
+}
+
+/// Places past the first `part` of a list to look at, near and far.
+fn places(part: usize, length: usize) -> Vec<usize> {
+    let word = 1 << 32;
+    let near = [part, part + 1, part + 63, 2 * part, 9 * part, 4_096];
+    let far = [
+        word / 8,
+        word - 1,
+        word,
+        word + part,
+        length / 2,
+        length - 1,
+    ];
+    let places = near.into_iter().chain(far);
+    places
+        .filter(|place| (part..length).contains(place))
+        .collect()
+}
+
+/// A long list that starts with these numbers and has marks further on.
+struct Long<'a, T> {
+    list: &'a mut [T],
+    part: usize,
+    mark: T,
+}
+
+impl<'a, T: Plain + PartialEq + std::fmt::Debug> Long<'a, T> {
+    fn new(list: &'a mut [T], start: &[T], mark: T) -> Self {
+        let part = start.len();
+        list[..part].copy_from_slice(start);
+        for place in places(part, list.len()) {
+            list[place] = mark;
+        }
+        Long { list, part, mark }
+    }
+
+    /// The numbers at its start are these now, and the marks are as they were.
+    fn assert_left(&self, start: &[T], at: &str) {
+        assert_eq!(&self.list[..self.part], start, "{at}");
+        for place in places(self.part, self.list.len()) {
+            assert_eq!(self.list[place], self.mark, "{at}: place {place}");
+        }
+    }
+}
+
+/// One of the lists of numbers that a call is lent.
+#[derive(Clone, Copy, Debug)]
+enum List {
+    Field(usize),
+    Destination(usize),
+    Work,
+}
+
+impl List {
+    fn of(call: Call) -> Vec<Self> {
+        let fields = call.fields().iter().map(|&field| List::Field(field));
+        let destinations = (0..call.destinations()).map(List::Destination);
+        let work = call.is_stepping().then_some(List::Work);
+        fields.chain(destinations).chain(work).collect()
+    }
+
+    /// What the call is lent, or leaves, there.
+    fn numbers<'a>(self, case: &'a Case, written: &'a Written) -> &'a [i64] {
+        match self {
+            List::Field(k) => &case.fields[k],
+            List::Destination(k) => &written.destinations[k],
+            List::Work => &written.work,
+        }
+    }
+}
+
+/// The call with this one of its lists instead.
+fn call_with(
+    (case, call): (&Case, Call),
+    list: List,
+    long: &mut [i64],
+    written: &mut Written,
+    answer: &mut [u64],
+) -> u64 {
+    let mut fields = case.fields.each_ref().map(Vec::as_slice);
+    let mut lent = written.slices();
+    match list {
+        List::Field(k) => match [H, U, V].into_iter().position(|stepped| stepped == k) {
+            Some(place) if call.is_stepping() => lent.stepped[place] = long,
+            _ => fields[k] = long,
+        },
+        List::Destination(k) => lent.destinations[k] = long,
+        List::Work => lent.work = long,
+    }
+    call_raw(case, call, fields, lent, answer)
+}
+
+/// Lends a long list for this one, and looks at all lists after the call.
+fn compare_with(call: Call, list: List, long: &mut [i64], at: &str) {
+    let case = Case::basin();
+    let before = Written::before(&case, call);
+    let accepted = independent(&case, call);
+    // A field of so many numbers is refused; of the others the start is used.
+    let (told, after) = match list {
+        List::Field(_) => (&[2][..], &before),
+        _ => (&accepted.told[..], &accepted.written),
+    };
+    let long = Long::new(long, list.numbers(&case, &before), FENCE);
+    let mut written = before.clone();
+    let mut answer = [UNTOUCHED; 6];
+    let number = call_with((&case, call), list, long.list, &mut written, &mut answer);
+    assert_eq!(number, told[0], "{at}");
+    assert_eq!(answer.to_vec(), answered(told, 6), "{at}");
+    long.assert_left(list.numbers(&case, after), at);
+    // The short list in its place was not lent.
+    let mut expected = after.clone();
+    match list {
+        List::Destination(k) => expected.destinations[k].clone_from(&before.destinations[k]),
+        List::Work => expected.work.clone_from(&before.work),
+        List::Field(_) => {}
+    }
+    assert_eq!(written, expected, "{at}");
+}
+
+#[test]
+fn each_list_of_numbers_of_each_call() {
+    let mut mapping = Mapping::long();
+    let all: &mut [i64] = mapping.list();
+    let mut lists = 0;
+    for call in CALLS {
+        for list in List::of(call) {
+            let part = if matches!(list, List::Work) { 48 } else { 6 };
+            for length in lengths(part, all.len()) {
+                let at = format!("{call:?}, {list:?} of {length}");
+                compare_with(call, list, &mut all[..length], &at);
+                lists += 1;
+            }
+        }
+    }
+    println!("{lists} lists, the longest of {}", all.len());
+    assert!(lists > 100, "{lists}");
+}
+
+#[test]
+fn records_and_answers_that_are_long_places_to_write_to() {
+    let mut mapping = Mapping::long();
+    let case = Case::basin();
+    let expected = independent(&case, Call::Write);
+    let before = Written::before(&case, Call::Write);
+    let fields = case.fields.each_ref().map(Vec::as_slice);
+    let all: &mut [u8] = mapping.list();
+    for length in lengths(record_size(6), all.len()) {
+        let long = Long::new(&mut all[..length], &before.record, FENCE_BYTE);
+        let mut written = before.clone();
+        let mut lent = written.slices();
+        lent.record = long.list;
+        let mut answer = [UNTOUCHED; 2];
+        call_raw(&case, Call::Write, fields, lent, &mut answer);
+        assert_eq!(answer, [0, record_size(6) as u64]);
+        long.assert_left(&expected.written.record, "a long record");
+    }
+    let all: &mut [u64] = mapping.list();
+    for call in CALLS {
+        let expected = independent(&case, call);
+        for length in lengths(6, all.len()) {
+            let long = Long::new(&mut all[..length], &[UNTOUCHED; 6], UNTOUCHED);
+            let mut written = Written::before(&case, call);
+            call_raw(&case, call, fields, written.slices(), long.list);
+            assert_eq!(written, expected.written, "{call:?}");
+            long.assert_left(&answered(&expected.told, 6), "a long answer");
+        }
+    }
+}
+
+#[test]
+fn records_are_read_into_long_lists() {
+    let mut mapping = Mapping::long();
+    let all: &mut [i64] = mapping.list();
+    let (record, lent) = (record_of(&basin(), TIMESTAMP), Lent::enough(6));
+    let expected = records::independent(&record, lent);
+    let lists = |outcome: &records::Outcome| {
+        let [h, b, u, v] = outcome.fields.clone();
+        [h, b, u, v, outcome.constants.clone()]
+    };
+    for which in 0..5 {
+        let mut short = lists(&records::Outcome::before(lent));
+        let start = short[which].clone();
+        for length in lengths(start.len(), all.len()) {
+            let long = Long::new(&mut all[..length], &start, FENCE);
+            let mut lent = short.each_mut().map(Vec::as_mut_slice);
+            lent[which] = long.list;
+            let [h, b, u, v, constants] = lent;
+            let mut answer = [UNTOUCHED; 5];
+            raw::read(&record, h, b, u, v, constants, &mut answer);
+            assert_eq!(answer, told_for(&basin(), TIMESTAMP), "{which} {length}");
+            long.assert_left(&lists(&expected)[which], "a long list");
+        }
+        short[which] = lists(&expected)[which].clone();
+        assert_eq!(short, lists(&expected), "{which}");
+    }
+    for length in lengths(2, all.len()) {
+        let long = Long::new(&mut all[..length], &[FENCE; 2], FENCE);
+        assert_eq!(raw::rnd(-5, 2, long.list), 1);
+        long.assert_left(&[-3, FENCE], "a long list for a quotient");
+    }
+}
+
+/// Starts of records, and the offset that is told where zeros follow for long.
+fn damaged_by_zeros() -> Vec<(Vec<u8>, u64)> {
+    let fields = record_fields(&basin(), TIMESTAMP);
+    let good = fields.concat();
+    let longest: Vec<_> = (4..8).map(|tag| record_field(tag, &[1; 0xFFFF])).collect();
+    let longest = [fields[..3].concat(), longest.concat()].concat();
+    let mut starts = vec![
+        // No tag is 0.
+        (vec![], 0),
+        (good.clone(), 116),
+        (longest, 44 + 4 * 0xFFFF),
+        (fields[..6].concat(), 101),
+        // Two bytes of a tag's length, and all of them, are zeros.
+        (vec![1], 0),
+        (vec![4], 3),
+        // One tag once more, and one that is none.
+        ([good.clone(), vec![7, 0, 12]].concat(), 116),
+        ([good.clone(), vec![8]].concat(), 116),
+    ];
+    // The last value goes on into the zeros, which are enough for it.
+    starts.push((good[..110].to_vec(), 116));
+    starts
+}
+
+#[test]
+fn records_that_go_on_for_long() {
+    let mut mapping = Mapping::long();
+    let all: &mut [u8] = mapping.list();
+    let good = record_of(&basin(), TIMESTAMP);
+    for (start, offset) in damaged_by_zeros() {
+        for length in lengths(start.len(), all.len()) {
+            let record = &mut all[..length];
+            record[..start.len()].copy_from_slice(&start);
+            let at = format!("{} bytes of a record of {length}", start.len());
+            refused_at(record, offset, &at);
+            for (first, second, which) in [
+                (&*record, &good[..], 1),
+                (&good, record, 2),
+                (record, record, 1),
+            ] {
+                let told = of_record(&[7, offset], which);
+                assert_eq!(independent_pair(first, second), told, "{at}");
+                let mut answer = [UNTOUCHED; 4];
+                raw::compare(first, second, &mut answer);
+                assert_eq!(answer.to_vec(), answered(&told, 4), "{at}");
+            }
+            all[..start.len()].fill(0);
+        }
+    }
+}
+
+/// Both versions refuse to read it with 7, and leave what it was to be read
+/// into.
+fn refused_at(record: &[u8], offset: u64, at: &str) {
+    let told = [7, offset];
+    let before = records::Outcome::before(Lent::enough(6));
+    let mut left = before.clone();
+    let [h, b, u, v] = &mut left.fields;
+    let expected = reference::read(record, h, b, u, v);
+    assert_eq!(expected.told(), told.map(i128::from), "{at}");
+    let mut answer = [UNTOUCHED; 5];
+    raw::read(record, h, b, u, v, &mut left.constants, &mut answer);
+    assert_eq!(answer.to_vec(), answered(&told, 5), "{at}");
+    assert_eq!(left, before, "{at}");
+}
+
+// ---- several long lists at once, by the safe calls
+
+/// Eight lists of the addresses that the machine gives, more than 2^32 numbers
+/// each where it gives 2^40.
+fn eighths(mapping: &mut Mapping) -> [&mut [i64]; 8] {
+    let all: &mut [i64] = mapping.list();
+    let mut parts = all.chunks_exact_mut(all.len() / 8);
+    [(); 8].map(|()| parts.next().expect("eight of them"))
+}
+
+#[test]
+fn destinations_and_work_space_are_long_at_once() {
+    let mut mapping = Mapping::long();
+    let [dh, du, dv, work, h, b, u, v] = eighths(&mut mapping);
+    let case = Case::basin();
+    let p = &parameters(&case);
+    let [h0, b0, u0, v0, q, s] = &case.fields;
+    for list in [&mut *dh, du, dv] {
+        Long::new(list, &[FENCE; 6], FENCE);
+    }
+    let done = basin::tendencies(p, h0, b0, u0, v0, q, dh, du, dv);
+    assert_eq!(done, Ok(()));
+    let expected = independent(&case, Call::Tendencies).written.destinations;
+    for (list, start) in [dh, du, dv].into_iter().zip(&expected) {
+        assert_eq!(list[..6], start[..]);
+        assert!(places(6, list.len()).iter().all(|&k| list[k] == FENCE));
+    }
+
+    let long = Long::new(work, &[FENCE; 48], FENCE);
+    let [mut h1, mut u1, mut v1] = [h0, u0, v0].map(Vec::clone);
+    let done = basin::run(p, &mut h1, b0, &mut u1, &mut v1, s, 3, long.list);
+    assert_eq!(done.map(|ran| ran.steps), Ok(3));
+    assert_eq!([h1, u1, v1], independent(&case, Call::Run).written.stepped);
+    long.assert_left(&[0; 48], "a long work space");
+
+    let record = record_of(&case.state(), 5);
+    let read = basin::read(&record, h, b, u, v);
+    assert_eq!(
+        read.map(|read| (read.parameters, read.timestamp)),
+        Ok((*p, 5))
+    );
+    for (list, field) in [h, b, u, v].into_iter().zip(&case.fields) {
+        assert_eq!(list[..6], field[..]);
+        assert_eq!(list[6], 0);
+    }
+}
+
+#[test]
+fn all_fields_are_long_at_once() {
+    let mut mapping = Mapping::long();
+    let [h, u, v, work, q, ..] = eighths(&mut mapping);
+    let lengths = Refusal::Lengths;
+    let p = &parameters(&Case::basin());
+    // What is only read may be the same list.
+    let long = &*q;
+    let refused = basin::step(p, h, long, u, v, long, work);
+    assert_eq!(refused, Err(lengths));
+    assert_eq!(
+        basin::run(p, h, long, u, v, long, 10_000, work),
+        Err(lengths)
+    );
+    assert_eq!(basin::total_depth(p, long, long, long, long), Err(lengths));
+    assert_eq!(basin::total_energy(p, long, long, long, long), Err(lengths));
+    let refused = basin::potential_vorticity(p, long, long, long, long, h);
+    assert_eq!(refused, Err(lengths));
+    let refused = basin::tendencies(p, long, long, long, long, long, h, u, v);
+    assert_eq!(refused, Err(lengths));
+    let mut record = [0; 116];
+    let refused = basin::write(p, long, long, long, long, 0, &mut record);
+    assert_eq!(refused, Err(lengths));
+    // Of sides whose product is that length, test 1 comes first.
+    let wide = &basin::Parameters {
+        w: long.len(),
+        n: 1,
+        ..*p
+    };
+    assert_eq!(
+        basin::total_depth(wide, long, long, long, long),
+        Err(Refusal::Grid)
+    );
+    assert_eq!(
+        basin::step(wide, h, long, u, v, long, work),
+        Err(Refusal::Grid)
+    );
+}

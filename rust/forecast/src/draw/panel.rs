@@ -1,0 +1,180 @@
+//! The map of one frame: cells, bottom, walls, current.
+
+use std::fmt::Write;
+
+use basin::Parameters;
+
+use super::scale::{length, Scale};
+use super::svg::{Svg, GREY, INK};
+use super::Frame;
+
+/// Between two arrows at least, in points.
+const ARROWS_APART: f64 = 17.0;
+
+/// Where a map stands on the page, and how large a cell is.
+pub struct Panel<'a> {
+    pub parameters: &'a Parameters,
+    pub left: f64,
+    pub top: f64,
+    pub cell: f64,
+}
+
+impl Panel<'_> {
+    /// Draws a frame.
+    pub fn draw(&self, svg: &mut Svg, frame: &Frame, bottom: &[i64], scale: &Scale) {
+        self.cells(svg, frame, scale);
+        svg.line(
+            &self.contours(bottom, scale),
+            GREY,
+            0.8,
+            " stroke-opacity=\"0.7\"",
+        );
+        svg.line(
+            &self.arrows(frame, scale),
+            INK,
+            1.1,
+            " stroke-linecap=\"round\" stroke-linejoin=\"round\"",
+        );
+        self.walls(svg);
+    }
+
+    fn width(&self) -> f64 {
+        self.parameters.w as f64 * self.cell
+    }
+
+    fn height(&self) -> f64 {
+        self.parameters.n as f64 * self.cell
+    }
+
+    /// From the west edge of column `i`.
+    fn x(&self, i: f64) -> f64 {
+        self.left + i * self.cell
+    }
+
+    /// From the south edge of row `j`: north is at the top.
+    fn y(&self, j: f64) -> f64 {
+        self.top + self.height() - j * self.cell
+    }
+
+    /// A rectangle for each cell in the colour of its level. They are drawn in
+    /// units of a cell, so that each is short to write.
+    fn cells(&self, svg: &mut Svg, frame: &Frame, scale: &Scale) {
+        let (w, n) = (self.parameters.w, self.parameters.n);
+        svg.put(format_args!(
+            "<g transform=\"translate({:.2} {:.2}) scale({:.4})\" shape-rendering=\"crispEdges\">\n",
+            self.left, self.top, self.cell
+        ));
+        for (k, &level) in frame.level.iter().enumerate() {
+            svg.put(format_args!(
+                "<rect x=\"{}\" y=\"{}\" width=\"1\" height=\"1\" fill=\"{}\"/>\n",
+                k % w,
+                n - 1 - k / w,
+                scale.colour(level)
+            ));
+        }
+        svg.put(format_args!("</g>\n"));
+    }
+
+    /// Contours of the bottom along the edges of cells: where a multiple of the
+    /// interval lies between the bottoms of two cells.
+    fn contours(&self, bottom: &[i64], scale: &Scale) -> String {
+        let (w, n) = (self.parameters.w, self.parameters.n);
+        let mut path = String::new();
+        if scale.contour == 0 {
+            return path;
+        }
+        let band = |i: usize, j: usize| bottom[j * w + i] / scale.contour;
+        for j in 0..n {
+            for i in 0..w {
+                let (east, north) = (self.x(i as f64 + 1.0), self.y(j as f64 + 1.0));
+                if i + 1 < w && band(i, j) != band(i + 1, j) {
+                    let _ = write!(path, "M{east:.1} {north:.1}v{:.1}", self.cell);
+                }
+                if j + 1 < n && band(i, j) != band(i, j + 1) {
+                    let _ = write!(path, "M{east:.1} {north:.1}h{:.1}", -self.cell);
+                }
+            }
+        }
+        path
+    }
+
+    /// Arrows at cell centres, far enough apart to be told from each other; the
+    /// fastest of the series nearly reaches the next one.
+    fn arrows(&self, frame: &Frame, scale: &Scale) -> String {
+        let (w, n) = (self.parameters.w, self.parameters.n);
+        let apart = (ARROWS_APART / self.cell).ceil().max(1.0) as usize;
+        let mut path = String::new();
+        for j in (first(n, apart)..n).step_by(apart) {
+            for i in (first(w, apart)..w).step_by(apart) {
+                let (east, north) = frame.current(self.parameters, i, j);
+                let per_speed = self.longest() / scale.fastest.max(1.0);
+                let along = (east * per_speed, -north * per_speed);
+                let centre = (self.x(i as f64 + 0.5), self.y(j as f64 + 0.5));
+                path.push_str(&arrow(centre, along));
+            }
+        }
+        path
+    }
+
+    /// How long the arrow of the fastest current is.
+    pub fn longest(&self) -> f64 {
+        let apart = (ARROWS_APART / self.cell).ceil().max(1.0);
+        (1.15 * apart * self.cell).min(34.0)
+    }
+
+    /// Thick lines where the boundary closes edges, thin broken ones where the
+    /// grid wraps. Closed are the south edges of row 0, which are the north
+    /// edges of the last row as well, and of a basin the west edges of column 0.
+    fn walls(&self, svg: &mut Svg) {
+        let (left, top) = (self.left, self.top);
+        let (right, bottom) = (left + self.width(), top + self.height());
+        let level = format!("M{left:.1} {top:.1}H{right:.1}M{left:.1} {bottom:.1}H{right:.1}");
+        let upright = format!("M{left:.1} {top:.1}V{bottom:.1}M{right:.1} {top:.1}V{bottom:.1}");
+        for (path, closed) in [
+            (upright, self.parameters.kind == 2),
+            (level, self.parameters.kind >= 1),
+        ] {
+            if closed {
+                svg.line(&path, INK, 3.0, " stroke-linecap=\"square\"");
+            } else {
+                svg.line(&path, GREY, 0.8, " stroke-dasharray=\"3 3\"");
+            }
+        }
+    }
+}
+
+/// The first of as many places as go into `count` that are `apart`, so that as
+/// much is left over before as after them.
+fn first(count: usize, apart: usize) -> usize {
+    let taken = (count / apart).saturating_sub(1) * apart;
+    (count - 1).saturating_sub(taken) / 2
+}
+
+/// An arrow about a centre; none where there is hardly any current.
+pub fn arrow((x, y): (f64, f64), (east, down): (f64, f64)) -> String {
+    let length = length(east, down);
+    if length < 2.2 {
+        return String::new();
+    }
+    let tip = (x + east / 2.0, y + down / 2.0);
+    let head = (0.34 * length).clamp(1.3, 5.0) / length;
+    // The sides of the head: back from the tip, and to the left or right.
+    let side = |turn: f64| {
+        let back = (-east - turn * down, -down + turn * east);
+        (tip.0 + head * back.0, tip.1 + head * back.1)
+    };
+    let (a, b) = (side(0.6), side(-0.6));
+    format!(
+        "M{:.1} {:.1}L{:.1} {:.1}M{:.1} {:.1}L{:.1} {:.1}L{:.1} {:.1}",
+        x - east / 2.0,
+        y - down / 2.0,
+        tip.0,
+        tip.1,
+        a.0,
+        a.1,
+        tip.0,
+        tip.1,
+        b.0,
+        b.1
+    )
+}

@@ -1,0 +1,68 @@
+//! What a record says, for a person.
+
+use basin::Refusal;
+
+use crate::date::to_date;
+use crate::describe::table;
+use crate::failure::cell_name;
+use crate::state::State;
+
+/// Grids up to this many columns and rows are shown cell by cell.
+const SMALL: (usize, usize) = (16, 24);
+
+/// Grid, boundary, constants, timestamp, totals by the core, the range of each
+/// field, and of a small grid level and velocities of each cell.
+pub fn shown(state: &State) -> Result<String, Refusal> {
+    let p = &state.parameters;
+    let mut text = format!("grid {} columns, {} rows\n", p.w, p.n);
+    text += &format!("boundary {}\n", boundary(p.kind));
+    text += &format!("gravity {} mm/s²\n", p.g);
+    text += &format!("Coriolis parameter times spacing {} mm/s\n", p.c);
+    text += &format!("spacing over time step {} mm/s\n", p.r);
+    text += &format!("timestamp {}\n", to_date(state.timestamp));
+    text += &format!("total depth {} mm\n", state.total_depth()?);
+    text += &format!("four times total energy {}\n", state.total_energy()?);
+    let level = state.level();
+    text += &range("depth", &state.h, "mm", p.w);
+    text += &range("bottom", &state.b, "mm", p.w);
+    text += &range("level", &level, "mm", p.w);
+    text += &range("u", &state.u, "mm/s", p.w);
+    text += &range("v", &state.v, "mm/s", p.w);
+    if p.w <= SMALL.0 && p.n <= SMALL.1 {
+        let of_cells = [
+            ("level, mm", &level),
+            ("u through west edges, mm/s", &state.u),
+            ("v through south edges, mm/s", &state.v),
+        ];
+        for (name, field) in of_cells {
+            text += &format!("\n{name}, north first\n{}", table(field, p.w));
+        }
+    }
+    Ok(text)
+}
+
+/// A boundary's name, and what it closes.
+fn boundary(kind: u8) -> &'static str {
+    match kind {
+        0 => "periodic: open on all sides, each side leads to the opposite one",
+        1 => "channel: walls in the south and north, west and east lead to each other",
+        2 => "basin: walls on all sides",
+        _ => "unknown",
+    }
+}
+
+/// The least and the greatest number of a field and the first cell of each.
+fn range(name: &str, field: &[i64], unit: &str, w: usize) -> String {
+    let place = |sought: i64| {
+        let cell = field.iter().position(|&value| value == sought);
+        cell_name(cell.unwrap_or(0), Some(w))
+    };
+    match (field.iter().min(), field.iter().max()) {
+        (Some(&least), Some(&most)) if least < most => {
+            let (from, to) = (place(least), place(most));
+            format!("{name} {least} ({from}) to {most} ({to}) {unit}\n")
+        }
+        (Some(least), _) => format!("{name} {least} {unit} everywhere\n"),
+        _ => String::new(),
+    }
+}

@@ -1,0 +1,80 @@
+//! A state with its timestamp, owned, and the core's calls on it.
+
+use basin::{Parameters, Read, Refusal};
+
+/// Cells of the largest grid that the core knows: room for any record.
+const MOST_CELLS: usize = 64 * 64;
+
+/// What a record holds.
+#[derive(Clone, Debug, PartialEq, Eq)]
+pub struct State {
+    /// Grid, boundary and constants.
+    pub parameters: Parameters,
+    /// Whole seconds since 2000-01-01 00:00.
+    pub timestamp: u64,
+    /// Depth of each cell, mm.
+    pub h: Vec<i64>,
+    /// Height of the bottom of each cell, mm.
+    pub b: Vec<i64>,
+    /// Velocity through the west edge of each cell, mm/s.
+    pub u: Vec<i64>,
+    /// Velocity through the south edge of each cell, mm/s.
+    pub v: Vec<i64>,
+}
+
+impl State {
+    /// The state of a record, by the core's reader.
+    pub fn read(record: &[u8]) -> Result<State, Refusal> {
+        let [mut h, mut b, mut u, mut v] = [(); 4].map(|()| vec![0; MOST_CELLS]);
+        let Read {
+            parameters,
+            timestamp,
+        } = basin::read(record, &mut h, &mut b, &mut u, &mut v)?;
+        let cells = parameters.w * parameters.n;
+        for field in [&mut h, &mut b, &mut u, &mut v] {
+            field.truncate(cells);
+        }
+        Ok(State {
+            parameters,
+            timestamp,
+            h,
+            b,
+            u,
+            v,
+        })
+    }
+
+    /// The record of the state, by the core's writer.
+    pub fn write(&self) -> Result<Vec<u8>, Refusal> {
+        let p = &self.parameters;
+        // A grid that the core refuses may ask for any room.
+        let room = p.record_len().min(44 + 12 * MOST_CELLS);
+        let mut record = vec![0; room];
+        let (h, b, u, v) = (&self.h, &self.b, &self.u, &self.v);
+        let length = basin::write(p, h, b, u, v, self.timestamp, &mut record)?;
+        record.truncate(length);
+        Ok(record)
+    }
+
+    /// Work space for steps of this state. A grid that the core refuses gets
+    /// what the largest one needs.
+    pub fn work(&self) -> Vec<i64> {
+        vec![0; self.parameters.work_len().min(8 * MOST_CELLS)]
+    }
+
+    /// Total depth in mm, by the core.
+    pub fn total_depth(&self) -> Result<i64, Refusal> {
+        basin::total_depth(&self.parameters, &self.h, &self.b, &self.u, &self.v)
+    }
+
+    /// Four times total energy, by the core.
+    pub fn total_energy(&self) -> Result<i64, Refusal> {
+        basin::total_energy(&self.parameters, &self.h, &self.b, &self.u, &self.v)
+    }
+
+    /// Level of each cell, mm: depth above the height of the bottom. To be
+    /// shown; the core has no use for it.
+    pub fn level(&self) -> Vec<i64> {
+        self.h.iter().zip(&self.b).map(|(h, b)| h + b).collect()
+    }
+}

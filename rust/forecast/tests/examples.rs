@@ -1,0 +1,121 @@
+//! The examples: records and texts belong together, and runs of them go well.
+
+mod common;
+
+use std::fs;
+
+use common::{example, folder, given, repository, said, state, tool, EXAMPLES};
+
+#[test]
+fn each_record_is_made_from_its_text() {
+    let folder = folder("made");
+    for name in EXAMPLES {
+        let made = format!("{folder}/{name}");
+        assert_eq!(said(&["make", &example(&format!("{name}.txt")), &made]), "");
+        let record = fs::read(example(&format!("{name}.rec"))).unwrap();
+        assert!(fs::read(made).unwrap() == record, "{name}");
+    }
+}
+
+#[test]
+fn shown_as_text_and_made_again_is_the_same_record() {
+    let folder = folder("round_trip");
+    for name in EXAMPLES.iter().chain(&["one_cell"]) {
+        let record = example(&format!("{name}.rec"));
+        let text = said(&["show", "--text", &record]);
+        let again = format!("{folder}/{name}");
+        let answer = given(text.as_bytes(), &["make", "-", &again]);
+        assert_eq!(answer.status, 0, "{}", answer.trouble);
+        assert!(
+            fs::read(again).unwrap() == fs::read(record).unwrap(),
+            "{name}"
+        );
+    }
+}
+
+/// After some steps as well, when no field is even any more.
+#[test]
+fn a_later_state_goes_round_too() {
+    let folder = folder("later");
+    let (later, again) = (format!("{folder}/later"), format!("{folder}/again"));
+    for name in EXAMPLES {
+        let record = example(&format!("{name}.rec"));
+        said(&["run", &record, "--steps", "40", &later, "--seconds", "77"]);
+        let text = said(&["show", "--text", &later]);
+        given(text.as_bytes(), &["make", "-", &again]);
+        assert_eq!(said(&["compare", &later, &again]), "same\n", "{name}");
+        assert_eq!(
+            said(&["compare", &record, &again]),
+            "second newer\n",
+            "{name}"
+        );
+    }
+}
+
+#[test]
+fn each_runs_a_thousand_steps_and_keeps_total_depth() {
+    for (kind, name) in [(2, "dock"), (1, "channel"), (0, "eddies")] {
+        let state = state(name);
+        let p = state.parameters;
+        assert!(p.kind == kind && p.w * p.n <= 1024, "{name}");
+        let total = state.total_depth().unwrap();
+        let record = example(&format!("{name}.rec"));
+        assert_eq!(
+            said(&["run", &record, "--steps", "1000"]),
+            format!(
+                "total depth before {total} mm\ntotal depth after {total} mm\nsteps done 1000\n"
+            )
+        );
+    }
+}
+
+#[test]
+fn what_is_shown_of_the_dock() {
+    let text = said(&["show", &example("dock.rec")]);
+    for line in [
+        "grid 32 columns, 20 rows",
+        "boundary basin: walls on all sides",
+        "timestamp 2026-11-16 06:00:00",
+        "total depth 6289500 mm",
+        "level 11700 (cell 31 0) to 12300 (cell 0 0) mm",
+        "v 0 mm/s everywhere",
+    ] {
+        assert!(text.lines().any(|shown| shown == line), "{line}\n{text}");
+    }
+}
+
+#[test]
+fn a_small_grid_is_shown_cell_by_cell() {
+    let text = said(&["show", &example("one_cell.rec")]);
+    assert!(
+        text.ends_with("v through south edges, mm/s, north first\n -50\n"),
+        "{text}"
+    );
+    assert!(
+        text.contains("\nfour times total energy 78530000000\n"),
+        "{text}"
+    );
+}
+
+/// The picture that the pages show is the one that the tool draws today.
+#[test]
+fn the_picture_of_the_dock() {
+    let folder = folder("picture");
+    said(&["draw", &example("dock.rec"), &folder, "--steps", "265"]);
+    let drawn = fs::read(format!("{folder}/series.svg")).unwrap();
+    let shown = fs::read(repository("docs/dock.svg")).unwrap();
+    assert!(shown == drawn, "docs/dock.svg is not {folder}/series.svg");
+}
+
+#[test]
+fn a_refused_record_is_told_by_number() {
+    let record = fs::read(example("dock.rec")).unwrap();
+    let answer = given(&record[..record.len() - 1], &["show", "-"]);
+    assert_eq!(answer.status, 1);
+    // The last field begins 3 + 2·640 bytes before the end.
+    let offset = record.len() - 3 - 2 * 640;
+    let words = format!("refused 7: the record is damaged at byte {offset}\n");
+    assert_eq!(answer.out, words);
+    let missing = tool(&["show", &example("no such record")]);
+    assert_eq!((missing.status, &missing.out[..]), (2, ""));
+}

@@ -1,0 +1,148 @@
+//! Steps and runs of the tool against the core's own step, and what is told.
+
+mod common;
+
+use std::fs;
+
+use basin::Ran;
+use common::{call, example, folder, said, state, tool, words};
+use forecast::{run, State};
+
+/// A single step of the core.
+fn one_step(state: &mut State, inflow: &[i64]) {
+    let p = state.parameters;
+    let mut work = vec![0; p.work_len()];
+    let (h, u, v) = (&mut state.h, &mut state.u, &mut state.v);
+    basin::step(&p, h, &state.b, u, v, inflow, &mut work).unwrap();
+}
+
+#[test]
+fn parts_of_any_length_are_single_steps() {
+    let start = state("dock");
+    let mut inflow = vec![0; start.h.len()];
+    (inflow[5], inflow[300]) = (3, -2);
+    let mut stepped = start.clone();
+    for _ in 0..60 {
+        one_step(&mut stepped, &inflow);
+    }
+    for part in [0, 1, 7, 60, u64::MAX] {
+        let mut state = start.clone();
+        let mut last = 0;
+        let ran = run::run(&mut state, &inflow, 60, part, |done| last = done).unwrap();
+        let all = Ran {
+            steps: 60,
+            stopped: None,
+        };
+        assert_eq!((ran, last), (all, 60), "parts of {part}");
+        assert!(state == stepped, "parts of {part}");
+    }
+}
+
+#[test]
+fn more_steps_than_one_call_takes() {
+    let record = example("one_cell.rec");
+    let text = said(&["run", &record, "--steps", "25000"]);
+    assert!(text.ends_with("\nsteps done 25000\n"), "{text}");
+}
+
+#[test]
+fn a_step_is_a_run_of_one() {
+    let folder = folder("one");
+    let (stepped, run) = (format!("{folder}/stepped"), format!("{folder}/run"));
+    let dock = example("dock.rec");
+    let told = said(&words("step @ @ --inflow 3 2 50", &[&dock, &stepped]));
+    let line = "run @ @ --steps 1 --inflow 3 2 50";
+    assert_eq!(told, said(&words(line, &[&dock, &run])));
+    assert_eq!(said(&["compare", &stepped, &run]), "same\n");
+    assert!(told.ends_with("steps done 1\n"), "{told}");
+}
+
+#[test]
+fn total_depth_goes_up_by_the_inflow_exactly() {
+    let total = state("dock").total_depth().unwrap();
+    let inflow = "--inflow 3 2 7 --inflow 3 2 1 --inflow 31 19 -3";
+    let line = format!("run @ --steps 300 {inflow}");
+    let text = said(&words(&line, &[&example("dock.rec")]));
+    let after = total + 300 * (7 + 1 - 3);
+    assert_eq!(
+        text,
+        format!("total depth before {total} mm\ntotal depth after {after} mm\nsteps done 300\n")
+    );
+}
+
+#[test]
+fn the_record_left_has_its_timestamp() {
+    let folder = folder("stamp");
+    let (same, later) = (format!("{folder}/same"), format!("{folder}/later one"));
+    let dock = example("dock.rec");
+    said(&["run", &dock, "--steps", "10", &same]);
+    said(&["run", &dock, "--steps", "10", "--seconds", "5", &later]);
+    assert_eq!(said(&["compare", &dock, &same]), "clash\n");
+    assert_eq!(said(&["compare", &dock, &later]), "second newer\n");
+    let seconds = u64::MAX.to_string();
+    let full = tool(&["step", &dock, &same, "--seconds", &seconds]);
+    assert_eq!(full.status, 2);
+    assert!(
+        State::read(&fs::read(later).unwrap()).unwrap().timestamp == state("dock").timestamp + 5
+    );
+}
+
+/// A metre a step into a cell that is 2 m deep: it is full after 98 steps. The
+/// run stops there, and no record is left.
+#[test]
+fn a_run_that_is_stopped() {
+    let out = format!("{}/record", folder("stopped"));
+    let cell = example("one_cell.rec");
+    let stopped = tool(&words(
+        "run @ @ --steps 20000 --inflow 0 0 1000",
+        &[&cell, &out],
+    ));
+    assert_eq!((stopped.status, fs::exists(&out).unwrap()), (1, false));
+    let totals = "total depth before 2000 mm\ntotal depth after 100000 mm\n";
+    let end = "stopped after 98 steps: refused 6, pass 1, field depth, cell 0 0\n";
+    assert_eq!(stopped.out, format!("{totals}{end}"));
+    // So many steps go.
+    let line = "run @ --steps 98 --inflow 0 0 1000";
+    assert_eq!(
+        said(&words(line, &[&cell])),
+        format!("{totals}steps done 98\n")
+    );
+    // Nor does one step go in a cell that is full.
+    let (full, line) = (
+        format!("{out} full"),
+        "run @ @ --steps 98 --inflow 0 0 1000",
+    );
+    said(&words(line, &[&cell, &full]));
+    let step = tool(&words("step @ --inflow 0 0 1", &[&full]));
+    assert!(step
+        .out
+        .ends_with("stopped after 0 steps: refused 6, pass 1, field depth, cell 0 0\n"));
+}
+
+#[test]
+fn an_inflow_that_is_refused_or_outside() {
+    let dock = example("dock.rec");
+    let refused = tool(&["run", &dock, "--steps", "0", "--inflow", "1", "2", "1001"]);
+    let words = "refused 4: inflow at cell 1 2 is outside its bounds\n";
+    assert_eq!((refused.status, &refused.out[..]), (1, words));
+    let outside = tool(&["step", &dock, "--inflow", "32", "2", "1"]);
+    assert_eq!(outside.status, 2);
+    assert!(outside
+        .trouble
+        .contains("cell 32 2 is outside the grid, 32 by 20"));
+}
+
+#[test]
+fn progress_on_a_terminal_and_in_a_file() {
+    let dock = example("dock.rec");
+    for (steps, lines) in [("0", 0), ("1", 1), ("7", 7), ("250", 10), ("1000", 10)] {
+        let (_, told) = call(&["run", &dock, "--steps", steps], &[], false);
+        assert_eq!(told.lines().count(), lines, "{steps}");
+        let (_, told) = call(&["run", &dock, "--steps", steps], &[], true);
+        assert_eq!(told.lines().count(), 1, "{steps}");
+        assert!(
+            told.ends_with(&format!("\rstep {steps} of {steps} \n")),
+            "{told:?}"
+        );
+    }
+}

@@ -1,0 +1,175 @@
+//! Text descriptions: what each form gives, and faults with their lines.
+
+mod common;
+
+use std::fs;
+
+use common::{folder, given, repository, tool};
+use forecast::text::{from_text, Unread};
+use forecast::State;
+
+/// All that must be said beside the fields.
+const HEAD: &str = "grid 3 2\nboundary periodic\ngravity 9810\ncoriolis 10\n\
+                    spacing-per-step 1000\ntime 2000-01-01 00:01:00\n";
+
+fn described(fields: &str) -> State {
+    from_text(format!("{HEAD}{fields}").as_bytes()).unwrap()
+}
+
+#[test]
+fn the_forms_of_a_field() {
+    let even = described("depth 2000");
+    assert_eq!(
+        (even.timestamp, even.parameters.w, even.parameters.n),
+        (60, 3, 2)
+    );
+    assert_eq!((&even.h[..], &even.u[..]), (&[2000; 6][..], &[0; 6][..]));
+    // A later line goes over an earlier one.
+    let boxed = described("depth 2000\ndepth 3000 box 1 0 2 1\ndepth 4000 cell 2 1");
+    assert_eq!(boxed.h, [2000, 3000, 3000, 2000, 3000, 4000]);
+    let columns = described("depth 2000\nu columns 1 -2 3 # west to east");
+    assert_eq!(columns.u, [1, -2, 3, 1, -2, 3]);
+    // North comes first; lines that say nothing do not count.
+    let rows = described("depth 2000\nv rows\n\n 1 2 3\n# between\r\n\t4 5 6 # south\r\n");
+    assert_eq!(rows.v, [4, 5, 6, 1, 2, 3]);
+}
+
+/// The description on the page about them is one.
+#[test]
+fn the_description_on_the_page() {
+    let page = fs::read_to_string(repository("docs/DESCRIPTION.md")).unwrap();
+    let text = page.split("```").nth(1).unwrap();
+    let text = text.strip_prefix("text\n").unwrap();
+    let state = from_text(text.as_bytes()).unwrap();
+    assert!(state.write().is_ok());
+    assert_eq!((state.h[6], state.h[19], state.u[2]), (4005, 8020, 20));
+}
+
+#[test]
+fn a_level_goes_by_the_bottom_given_so_far() {
+    let state = described("bottom 500\nbottom 700 cell 0 0\nlevel 3000\nbottom 0");
+    assert_eq!(state.h, [2300, 2500, 2500, 2500, 2500, 2500]);
+    assert_eq!(state.b, [0; 6]);
+}
+
+/// Each text has a fault in this line, and it is told with these words.
+fn faults(head: &str, cases: &[(&str, usize, &str)]) {
+    let before = head.lines().count();
+    for (text, line, words) in cases {
+        let unread = from_text(format!("{head}{text}").as_bytes());
+        let Err(Unread::Fault { line: at, message }) = unread else {
+            panic!("no fault: {text}");
+        };
+        assert_eq!(at, before + line, "{text}: {message}");
+        assert!(message.contains(words), "{text}: {message}");
+    }
+}
+
+#[test]
+fn faults_of_fields_have_their_line() {
+    let too_large = "depth 99999999999999999999";
+    let far_apart = "bottom -2\nlevel 9223372036854775807";
+    let cases = [
+        ("dept 2000", 1, "unknown word `dept`"),
+        ("depth", 1, "`depth` takes a number"),
+        ("depth 2e3", 1, "`2e3` is no whole number"),
+        (too_large, 1, "no whole number, or none that fits"),
+        ("depth 1 cell 3 0", 1, "column 3 is outside the grid, 0 to"),
+        ("depth 1 cell 0 2", 1, "row 2 is outside the grid, 0 to 1"),
+        ("depth 1 cell -1 0", 1, "`-1` is no whole number"),
+        ("depth 1 box 2 0 1 1", 1, "southwest and northeast"),
+        ("depth 1 sphere 2", 1, "`depth` takes a number"),
+        ("\n\nu columns 1 2", 3, "2 numbers for 3 columns"),
+        ("u rows\n1 2 3\n4 5 6 7", 3, "4 numbers for 3 columns"),
+        ("u rows\n1 2 3\ndepth 2000", 3, "`depth` is no whole number"),
+        ("#\nu rows\n1 2 3\n", 2, "1 of 2 rows before the text ends"),
+        (far_apart, 2, "does not fit 64 bits"),
+        ("u 0\n\n", 2, "the text ends without `depth` or `level`"),
+    ];
+    faults(HEAD, &cases);
+}
+
+#[test]
+fn faults_of_the_head() {
+    let cases = [
+        ("", 1, "the text ends without `grid`"),
+        ("depth 2000", 1, "`grid` must come before `depth`"),
+        ("grid 3", 1, "two numbers"),
+        ("grid 3 2\nboundary ring", 2, "periodic, channel and basin"),
+        ("grid 3 2\nboundary", 2, "periodic, channel and basin"),
+        ("grid 3 2\ngravity 1 2", 2, "`gravity` takes one number"),
+        ("grid 3 2\ntime 2026-02-30 00:00", 2, "`time` is a date"),
+        ("grid 3 2\ndepth 2000\n", 2, "without `boundary`"),
+        ("grid 3 2\ngrid 3 2\n", 2, "`grid` is given twice"),
+        (
+            "time 2026-01-01\ntime 2026-01-01",
+            2,
+            "`time` is given twice",
+        ),
+    ];
+    faults("", &cases);
+    let Err(Unread::Fault { line, .. }) = from_text(b"# one\n# two\n\xff") else {
+        panic!("not text");
+    };
+    assert_eq!(line, 3);
+}
+
+#[test]
+fn a_fault_and_a_refusal_as_the_tool_tells_them() {
+    let folder = folder("told");
+    let (text, record) = (format!("{folder}/a text"), format!("{folder}/record"));
+    let make = |fields: &str| {
+        fs::write(&text, format!("{HEAD}{fields}")).unwrap();
+        let answer = tool(&["make", &text, &record]);
+        assert!(
+            answer.status > 0 && !fs::exists(&record).unwrap(),
+            "{fields}"
+        );
+        answer
+    };
+    let fault = make("depth 2000\ndeep 3");
+    assert_eq!(fault.status, 2);
+    assert_eq!(fault.trouble, format!("{text}:8: unknown word `deep`\n"));
+
+    for (fields, words) in [
+        (
+            "depth 2000\ndepth 999 cell 2 1",
+            "refused 4: depth at cell 2 1 is outside its bounds\n",
+        ),
+        (
+            "depth 2000\nv 5001 cell 0 1",
+            "refused 4: v at cell 0 1 is outside its bounds\n",
+        ),
+    ] {
+        let refused = make(fields);
+        assert_eq!((refused.status, &refused.out[..]), (1, words));
+    }
+}
+
+#[test]
+fn refusals_of_grid_constants_and_walls() {
+    let record = format!("{}/record", folder("refusals"));
+    let text = |grid: &str, boundary: &str, gravity: &str| {
+        format!(
+            "grid {grid}\nboundary {boundary}\ngravity {gravity}\ncoriolis 0\n\
+             spacing-per-step 1000\ntime 2000-01-01\ndepth 2000\nu 5\n"
+        )
+    };
+    for (text, words) in [
+        (text("65 1", "basin", "9810"), "refused 1: "),
+        (
+            text("18446744073709551615 18446744073709551615", "basin", "9810"),
+            "refused 1: ",
+        ),
+        (text("0 4", "basin", "9810"), "refused 1: "),
+        (text("2 2", "basin", "10001"), "refused 3: "),
+        (
+            text("2 2", "basin", "9810"),
+            "refused 5: u at cell 0 0 is on a closed edge and must be 0\n",
+        ),
+    ] {
+        let answer = given(text.as_bytes(), &["make", "-", &record]);
+        assert_eq!(answer.status, 1, "{text}{}", answer.trouble);
+        assert!(answer.out.starts_with(words), "{text}{}", answer.out);
+    }
+}
