@@ -8,7 +8,7 @@ use native.Mathlib.Omega.{arith}
 use lib.Dec.{leb}
 use lib.IntN.{ℤ, pos}
 use lib.ListN.{length, take, drop, replicate, length-take, length-replicate}
-use lib.Seq.{take-all}
+use lib.Seq.{take-all, length-sets}
 use borrow.Author.Tests.{le-leb, lt-leb, leb-true, leb-false}
 use Rattle.model.specs.Grid.{filled}
 use Rattle.model.specs.State.{State, stateOf, parametersOf, cells, WithinLimits}
@@ -16,16 +16,18 @@ use Rattle.model.specs.Answers.{number}
 use Rattle.model.specs.Step.{stepTest, stepAnswer, stepState, workLeft}
 use Rattle.model.specs.Record.{Decoded, accepted, refused, decode}
 use Rattle.model.specs.Promises.{readAnswer, readInto, readOf, ReadPromise}
-use Rattle.model.specs.Program.{Printed, refusedLine, stepLines, steppedLines, inputLimit, programRead, programCells, programWork, programOutput, ProgramLeaves, ProgramPromise}
+use Rattle.model.specs.Program.{Printed, refusedLine, stepLines, steppedLines, inputLimit, programRead, programCells, programWork, outputRoom, programOutput, ProgramLeaves, ProgramPromise}
 use Rattle.model.specs.declared.Parameters.{Parameters}
 use Rattle.model.specs.declared.Refusal.{Refusal}
 use Rattle.model.specs.declared.Refusal.the-variants.{Record}
 use Rattle.model.specs.declared.ReadAnswer.{ReadAnswer}
 use Rattle.model.specs.declared.ReadAnswer.the-variants.{Read, Refused}
-use Rattle.grid.specs.Fields.{drop-filled}
+use Rattle.grid.specs.Fields.{take-filled, drop-filled}
 use Rattle.theorems.specs.Tests.{differ}
 use Rattle.theorems.specs.RoundTrip.{read-part}
 use Rattle.theorems.specs.Rewrite.{decoded-within, read-within}
+use Rattle.theorems.specs.Output.{output-fits}
+use Rattle.wire.specs.Stores.{sets-front}
 use Rattle.program.specs.Stepped.{Stepped, Ready, SteppedParts, count, front}
 
 -- ---- parts of the lent fields
@@ -169,3 +171,14 @@ pub own-arrays : (input : List ℕ) {out : List ℕ} {r : ℕ} {h′ b′ u′ v
     → Printed (programOutput input) out r out′
 unfolding programOutput
 own-arrays input q = over-zeros programCells programWork input q
+
+-- a slice that has room for all that the program prints holds all of it
+pub whole-text : (input : List ℕ) {entry : List ℕ} {r : ℕ} {exit : List ℕ} → length entry ≡ outputRoom → Printed (programOutput input) entry r exit
+    → (r ≤ length exit) × (take r exit ≡ programOutput input)
+whole-text input {entry} {r} {exit} e q =
+    let text = programOutput input in
+    let fits : length text ≤ length entry = omega (arith, output-fits input, e) in
+    let counted : r ≡ length text = q .counts ∙ min-eq-left fits in
+    let held : exit ≡ filled (length text) text entry = q .holds ∙ sets-front entry text (length text) refl fits in
+    let long : length exit ≡ length entry = ap length (q .holds) ∙ length-sets entry 0 text in
+    (omega (arith, counted, long, fits), ap₂ take counted held ∙ take-filled (length text) text entry refl)

@@ -1,7 +1,8 @@
 // The step program: a record read into lent arrays, one step, and what is printed of it; the program's own arrays; its input and
 // output.
 ghost use mathlib.Core.Path.{_≡_};
-ghost use Prim.Native.Nat.{min};
+ghost use Prim.Native.Nat.{_≤_, min};
+ghost use lib.ListN.{length, take};
 ghost use Rattle.model.specs.State.{stateOf, WithinLimits};
 ghost use Rattle.model.specs.Program.{stateLines, programOutput, Printed, ProgramPromise};
 ghost use Rattle.program.specs.Stepped.{Ready, Stepped, SteppedParts};
@@ -134,12 +135,18 @@ pub fn output(input: &[u8], out: &mut [u8]) -> usize
     )
 }
 
-// Reads standard input, up to the byte that makes it too long, and writes what the program prints, for which there is room
-// (`OutputClaim`).
+// All that the program prints, in an array that has room for it (`OutputClaim`).
+fn whole_output(input: &[u8], out: &mut [u8; 32768]) -> usize
+    ensures { λ r. ⌜ (r ≤ length (now (out .exit))) × (take r (now (out .exit)) ≡ programOutput (now (input .entry))) ⌝ }
+{
+    output(input, out)
+}
+
+// Reads standard input, up to the byte that makes it too long, and writes what the program prints.
 pub fn run() {
     let mut input = io::large_buffer();
     let count = io::read_full(libc::STDIN_FILENO, &mut input);
     let mut out = [0u8; 32768];
-    let printed = output(&input[..count], &mut out);
+    let printed = whole_output(&input[..count], &mut out);
     io::write_all(libc::STDOUT_FILENO, &out[..printed]);
 }

@@ -48,7 +48,7 @@ fn small(random: &mut Random) -> Vec<u8> {
 
 #[test]
 fn damaged_records() {
-    let mut random = Random(1);
+    let mut random = Random::new(1);
     let mut accepted = 0;
     for _ in 0..6000 {
         let mut record = small(&mut random);
@@ -80,7 +80,7 @@ fn damaged_records() {
 
 #[test]
 fn random_bytes() {
-    let mut random = Random(2);
+    let mut random = Random::new(2);
     for _ in 0..2000 {
         let length = random.below(200);
         let bytes: Vec<u8> = (0..length).map(|_| random.next() as u8 % 9).collect();
@@ -94,7 +94,7 @@ fn random_bytes() {
 
 #[test]
 fn damaged_texts() {
-    let mut random = Random(3);
+    let mut random = Random::new(3);
     let all = words(WORDS, &[]);
     let texts = EXAMPLES.map(|name| fs::read(example(&format!("{name}.txt"))).unwrap());
     for round in 0..4000 {
@@ -120,7 +120,7 @@ fn damaged_texts() {
 
 #[test]
 fn texts_of_random_words() {
-    let mut random = Random(4);
+    let mut random = Random::new(4);
     let all = words(WORDS, &[]);
     for _ in 0..3000 {
         let mut text = String::from("grid 2 2\n");
@@ -139,7 +139,7 @@ fn texts_of_random_words() {
 fn random_arguments() {
     let record = fs::read(example("one_cell.rec")).unwrap();
     env::set_current_dir(folder("arguments")).unwrap();
-    let mut random = Random(5);
+    let mut random = Random::new(5);
     let words = words(
         "make show step run compare draw - -- --text --steps --every --inflow --seconds 0 0 3 -7 \
          99999999999999999999 --help /nonexistent/x ",

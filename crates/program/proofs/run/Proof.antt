@@ -1,6 +1,5 @@
 -- `program::run` meets its contract. Assumes nothing.
 use mathlib.Core.Path.{sym}
-use native.Mathlib.Omega.{arith}
 use lib.Seq.{length-take-le}
 use borrow.Author.Needs.{needs}
 use Rattle.program.proofs.run.Statement.{statement}
@@ -15,9 +14,8 @@ run-spec =
     (λ c κs. search needs)
     (λ c. search needs)
     (λ c. search needs)
-    (λ c. search needs)
     (λ c κs. search needs)
     (λ c. search needs)
-    (λ c. let o = c .before .before .output in sym (length-take-le _ _ (omega (arith, o .ensures .counts, o .kept .1 .0))))
+    (λ c. sym (length-take-le _ _ (c .before .whole-output .ensures .0)))
     (λ c κs. search needs)
     (λ c. search needs))

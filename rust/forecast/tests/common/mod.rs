@@ -1,6 +1,13 @@
 //! What the tests share: the tool called in this process, files, random numbers.
 
-#![allow(dead_code)]
+// Each file of tests uses a part.
+#![allow(dead_code, unused_imports)]
+
+// The generator is shared with the independent version's tests.
+#[path = "../../../reference/tests/common/random.rs"]
+mod random;
+
+pub use random::Random;
 
 use std::ffi::OsString;
 use std::fs;
@@ -75,26 +82,4 @@ pub fn said(arguments: &[&str]) -> String {
     let (status, trouble) = (answer.status, &answer.trouble[..]);
     assert_eq!((status, trouble), (0, ""), "{}", answer.out);
     answer.out
-}
-
-/// The splitmix64 generator.
-pub struct Random(pub u64);
-
-impl Random {
-    pub fn next(&mut self) -> u64 {
-        self.0 = self.0.wrapping_add(0x9e37_79b9_7f4a_7c15);
-        let mut z = self.0;
-        z = (z ^ (z >> 30)).wrapping_mul(0xbf58_476d_1ce4_e5b9);
-        z = (z ^ (z >> 27)).wrapping_mul(0x94d0_49bb_1331_11eb);
-        z ^ (z >> 31)
-    }
-
-    /// A number below `bound`.
-    pub fn below(&mut self, bound: usize) -> usize {
-        (self.next() % bound as u64) as usize
-    }
-
-    pub fn pick<T: Copy>(&mut self, from: &[T]) -> T {
-        from[self.below(from.len())]
-    }
 }
