@@ -29,10 +29,10 @@ static size_t write_record(const struct state *s, uint64_t timestamp,
                            uint8_t *record)
 {
     size_t cells = s->w * s->n;
-    uint64_t answer[3];
+    uint64_t answer[8];
     if (basin_write(s->w, s->n, s->kind, s->g, s->c, s->r,
                     s->h, cells, s->b, cells, s->u, cells, s->v, cells,
-                    timestamp, record, ROOM, answer, 3) != 0)
+                    timestamp, record, ROOM, answer) != 0)
         return 0;
     return answer[1];
 }
@@ -56,9 +56,9 @@ static void print_read(const char *name, const uint8_t *record, size_t len)
     int64_t h[2], b[2], u[2], v[2];
     /* g, c and r */
     int64_t constants[3];
-    uint64_t answer[5];
+    uint64_t answer[8];
     uint64_t number = basin_read(record, len, h, 2, b, 2, u, 2, v, 2,
-                                 constants, 3, answer, 5);
+                                 constants, answer);
     if (number != 0) {
         printf("%s: refused %" PRIu64, name, number);
         if (number == 7)
@@ -82,9 +82,9 @@ static void print_comparison(const char *name,
     static const char *const means[] = {
         "same", "first newer", "second newer", "conflict",
     };
-    uint64_t answer[4];
+    uint64_t answer[8];
     uint64_t number = basin_compare(first, first_len, second, second_len,
-                                    answer, 4);
+                                    answer);
     if (number == 0) {
         printf("%s: %s\n", name, means[answer[1]]);
         return;

@@ -48,22 +48,22 @@ static void print_total_depth(const char *name, const struct state *s)
 {
     size_t cells = s->w * s->n;
     int64_t total;
-    uint64_t answer[3];
+    uint64_t answer[8];
     if (basin_total_depth(s->w, s->n, s->kind, s->g, s->c, s->r,
                           s->h, cells, s->b, cells, s->u, cells, s->v, cells,
-                          &total, 1, answer, 3) == 0)
+                          &total, answer) == 0)
         printf("%s: total depth %" PRId64 "\n", name, total);
 }
 
 static void print_step(const char *name, struct state *s, size_t work_len)
 {
     size_t cells = s->w * s->n;
-    uint64_t answer[4];
+    uint64_t answer[8];
     uint64_t number = basin_step(s->w, s->n, s->kind, s->g, s->c, s->r,
                                  s->h, cells, s->b, cells,
                                  s->u, cells, s->v, cells,
                                  s->inflow, cells, s->work, work_len,
-                                 answer, 4);
+                                 answer);
     if (number == 0) {
         print_state(name, s);
         return;
@@ -76,12 +76,12 @@ static void print_step(const char *name, struct state *s, size_t work_len)
 static void print_run(const char *name, struct state *s, uint64_t steps)
 {
     size_t cells = s->w * s->n;
-    uint64_t answer[5];
+    uint64_t answer[8];
     uint64_t number = basin_run(s->w, s->n, s->kind, s->g, s->c, s->r,
                                 s->h, cells, s->b, cells,
                                 s->u, cells, s->v, cells,
                                 s->inflow, cells, steps, s->work, 8 * cells,
-                                answer, 5);
+                                answer);
     printf("%s:", name);
     size_t done = number == 0 ? 1 : print_refusal(answer);
     /* The steps done are told last, but not with 1 to 5. */

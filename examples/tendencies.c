@@ -25,17 +25,17 @@ static void print_tendencies(const char *name, const struct state *s)
 {
     size_t cells = s->w * s->n;
     int64_t q[2], dh[2], du[2], dv[2];
-    uint64_t answer[3];
+    uint64_t answer[8];
     uint64_t number = basin_potential_vorticity(s->w, s->n, s->kind,
                                                 s->g, s->c, s->r,
                                                 s->h, cells, s->b, cells,
                                                 s->u, cells, s->v, cells,
-                                                q, 2, answer, 3);
+                                                q, 2, answer);
     if (number == 0)
         number = basin_tendencies(s->w, s->n, s->kind, s->g, s->c, s->r,
                                   s->h, cells, s->b, cells,
                                   s->u, cells, s->v, cells, q, cells,
-                                  dh, 2, du, 2, dv, 2, answer, 3);
+                                  dh, 2, du, 2, dv, 2, answer);
     if (number != 0) {
         printf("%s: refused %" PRIu64, name, number);
         if (number == 4 || number == 5)

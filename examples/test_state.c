@@ -23,11 +23,11 @@ struct state {
 static void print_test(const char *name, const struct state *s)
 {
     size_t cells = s->w * s->n;
-    uint64_t answer[3];
+    uint64_t answer[8];
     uint64_t number = basin_test_state(s->w, s->n, s->kind, s->g, s->c, s->r,
                                        s->h, cells, s->b, cells,
                                        s->u, cells, s->v, cells,
-                                       answer, 3);
+                                       answer);
     printf("%s: %" PRIu64, name, number);
     if (number == 4 || number == 5)
         printf(" field %" PRIu64 " cell %" PRIu64, answer[1], answer[2]);

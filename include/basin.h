@@ -6,11 +6,13 @@
  * begins with, by themselves, and rounding.
  *
  * Every function takes any numbers and any lengths, and always returns. A
- * field is lent as a pointer and the number of its elements. What is asked of
- * a caller:
- * - each pointer is valid and aligned for the length after it. Where that is 0
- *   nothing is read or written there, and any aligned pointer but a null
- *   pointer will do: of that one nothing is promised;
+ * field or a record is lent as a pointer and the number of its elements; what
+ * is told is lent as a pointer alone, to 1, 3 or 8 numbers as declared. What is
+ * asked of a caller:
+ * - each pointer is valid and aligned for the length after it, or for the
+ *   numbers declared. Where a length is 0 nothing is read or written there, and
+ *   any aligned pointer but a null pointer will do: of that one nothing is
+ *   promised;
  * - what a function writes (every pointer that is not to const) overlaps
  *   nothing else lent to it. What is only read may overlap.
  *
@@ -22,8 +24,8 @@
  * the edges v(i,0) for kinds 1 and 2; kind 0 closes none.
  *
  * Answers. A call on a state or a record returns the number of its refusal, 0
- * for none. answer holds the same number and then what is told with it, as far
- * as there is room (5 places are enough); its other places are untouched. A
+ * for none. answer[0] is the same number, what is told with it follows, and the
+ * other places of the eight are 0: every call sets all eight. A
  * refused call leaves everything else that was lent to it untouched, but for
  * the work space, and for the state of a run that 6 stops, which is left as it
  * is after the steps done.
@@ -85,13 +87,10 @@ extern "C" {
 /*
  * a/b rounded to the nearest whole number, halves away from zero.
  *
- * Where a is -2^58 to 2^58, b is 1 to 2^43 and rounded_len is at least 1:
- * returns 1, rounded[0] is the result, and the rest of rounded is untouched.
- * Otherwise returns 0 and rounded is untouched.
- *
- * Warning: unlike all other functions here, it returns 1 where it is accepted.
+ * Where a is -2^58 to 2^58 and b is 1 to 2^43: returns 0, and *rounded is the
+ * result. Otherwise returns 4 and *rounded is untouched.
  */
-uint64_t basin_rnd(int64_t a, int64_t b, int64_t *rounded, size_t rounded_len);
+uint64_t basin_rnd(int64_t a, int64_t b, int64_t *rounded);
 
 /*
  * Potential vorticity, times spacing times 65,536, at the southwest corners of
@@ -105,7 +104,7 @@ uint64_t basin_potential_vorticity(size_t w, size_t n, uint8_t kind,
                                    const int64_t *u, size_t u_len,
                                    const int64_t *v, size_t v_len,
                                    int64_t *q, size_t q_len,
-                                   uint64_t *answer, size_t answer_len);
+                                   uint64_t answer[8]);
 
 /*
  * Tendencies of a state with a potential vorticity q, which may be any within
@@ -125,7 +124,7 @@ uint64_t basin_tendencies(size_t w, size_t n, uint8_t kind,
                           int64_t *dh, size_t dh_len,
                           int64_t *du, size_t du_len,
                           int64_t *dv, size_t dv_len,
-                          uint64_t *answer, size_t answer_len);
+                          uint64_t answer[8]);
 
 /*
  * One step with an inflow for each cell. Tests 1 to 5, the inflow among the
@@ -139,7 +138,7 @@ uint64_t basin_step(size_t w, size_t n, uint8_t kind,
                     int64_t *v, size_t v_len,
                     const int64_t *inflow, size_t inflow_len,
                     int64_t *work, size_t work_len,
-                    uint64_t *answer, size_t answer_len);
+                    uint64_t answer[8]);
 
 /*
  * Up to so many steps with the same inflow. Tests 1 to 5 as a step, with the
@@ -157,11 +156,11 @@ uint64_t basin_run(size_t w, size_t n, uint8_t kind,
                    const int64_t *inflow, size_t inflow_len,
                    uint64_t steps,
                    int64_t *work, size_t work_len,
-                   uint64_t *answer, size_t answer_len);
+                   uint64_t answer[8]);
 
 /*
- * Total depth, the sum of h. Tests 1 to 5. Where none refuses and total_len is
- * at least 1, total[0] is the result; the rest of total is untouched.
+ * Total depth, the sum of h. Tests 1 to 5. Where none refuses, *total is the
+ * result; otherwise it is untouched.
  */
 uint64_t basin_total_depth(size_t w, size_t n, uint8_t kind,
                            int64_t g, int64_t c, int64_t r,
@@ -169,8 +168,8 @@ uint64_t basin_total_depth(size_t w, size_t n, uint8_t kind,
                            const int64_t *b, size_t b_len,
                            const int64_t *u, size_t u_len,
                            const int64_t *v, size_t v_len,
-                           int64_t *total, size_t total_len,
-                           uint64_t *answer, size_t answer_len);
+                           int64_t *total,
+                           uint64_t answer[8]);
 
 /* The same of four times total energy. */
 uint64_t basin_total_energy(size_t w, size_t n, uint8_t kind,
@@ -179,8 +178,8 @@ uint64_t basin_total_energy(size_t w, size_t n, uint8_t kind,
                             const int64_t *b, size_t b_len,
                             const int64_t *u, size_t u_len,
                             const int64_t *v, size_t v_len,
-                            int64_t *total, size_t total_len,
-                            uint64_t *answer, size_t answer_len);
+                            int64_t *total,
+                            uint64_t answer[8]);
 
 /*
  * Writes the record of a state, its tags rising. Tests 1 to 5, then 8 of
@@ -196,22 +195,21 @@ uint64_t basin_write(size_t w, size_t n, uint8_t kind,
                      const int64_t *v, size_t v_len,
                      uint64_t timestamp,
                      uint8_t *record, size_t record_len,
-                     uint64_t *answer, size_t answer_len);
+                     uint64_t answer[8]);
 
 /*
  * Reads a record, its tags in any order. Tests 7, 1, 2, then 8 of h, b, u and
  * v, then 3, 4, 5. Where none refuses, the first w*n numbers of each of the
- * four are the state's and the rest of each is untouched; the first three
- * numbers of constants are g, c and r, as far as there is room, and the rest is
- * untouched; told are 0, w, n, kind and the timestamp.
+ * four are the state's and the rest of each is untouched; constants are g, c
+ * and r; told are 0, w, n, kind and the timestamp.
  */
 uint64_t basin_read(const uint8_t *record, size_t record_len,
                     int64_t *h, size_t h_len,
                     int64_t *b, size_t b_len,
                     int64_t *u, size_t u_len,
                     int64_t *v, size_t v_len,
-                    int64_t *constants, size_t constants_len,
-                    uint64_t *answer, size_t answer_len);
+                    int64_t constants[3],
+                    uint64_t answer[8]);
 
 /*
  * Compares two records. Each is tested as one that is read, but for 8: the
@@ -227,7 +225,7 @@ uint64_t basin_read(const uint8_t *record, size_t record_len,
  */
 uint64_t basin_compare(const uint8_t *first, size_t first_len,
                        const uint8_t *second, size_t second_len,
-                       uint64_t *answer, size_t answer_len);
+                       uint64_t answer[8]);
 
 /*
  * Tests 1 to 5 of a state by themselves: 0 where a call that takes it is
@@ -239,7 +237,7 @@ uint64_t basin_test_state(size_t w, size_t n, uint8_t kind,
                           const int64_t *b, size_t b_len,
                           const int64_t *u, size_t u_len,
                           const int64_t *v, size_t v_len,
-                          uint64_t *answer, size_t answer_len);
+                          uint64_t answer[8]);
 
 /* The same of a call that takes a potential vorticity too: tendencies. */
 uint64_t basin_test_vorticity(size_t w, size_t n, uint8_t kind,
@@ -249,7 +247,7 @@ uint64_t basin_test_vorticity(size_t w, size_t n, uint8_t kind,
                               const int64_t *u, size_t u_len,
                               const int64_t *v, size_t v_len,
                               const int64_t *q, size_t q_len,
-                              uint64_t *answer, size_t answer_len);
+                              uint64_t answer[8]);
 
 /*
  * The same of a call that takes an inflow and a work space of work_len numbers
@@ -263,7 +261,7 @@ uint64_t basin_test_step(size_t w, size_t n, uint8_t kind,
                          const int64_t *v, size_t v_len,
                          const int64_t *inflow, size_t inflow_len,
                          size_t work_len,
-                         uint64_t *answer, size_t answer_len);
+                         uint64_t answer[8]);
 
 /* The same with the number of steps too: a run. */
 uint64_t basin_test_run(size_t w, size_t n, uint8_t kind,
@@ -274,7 +272,7 @@ uint64_t basin_test_run(size_t w, size_t n, uint8_t kind,
                         const int64_t *v, size_t v_len,
                         const int64_t *inflow, size_t inflow_len,
                         uint64_t steps, size_t work_len,
-                        uint64_t *answer, size_t answer_len);
+                        uint64_t answer[8]);
 
 #ifdef __cplusplus
 }

@@ -1,6 +1,7 @@
 -- an answer of the tests, told
 pub mod Tells
--- the theorems speak of the C interface
+-- calls by name, and the theorems of them
+pub mod Calls
 pub mod Applied
 pub mod Balance
 pub mod Records

@@ -1,66 +1,149 @@
--- The theorems of the record speak of the C interface: what a caller learns of `basin_write`, `basin_read` and `basin_compare` are
--- `WriteTold`, `ReadTold` and `CompareTold`, the `ensures` of these functions. Assumes nothing.
-use mathlib.Core.Path.{_≡_, ap, subst, _∙_}
-use mathlib.Core.Logic.{_↔_}
+-- The theorems of the record speak of the C interface: of what `basin_write`, `basin_read` and `basin_compare` return, tell and leave.
+-- Assumes nothing.
+use mathlib.Core.Path.{_≡_, refl, sym, ap, subst, _∙_}
+use mathlib.Core.Logic.{_↔_, _⊎_, inl, inr}
 use mathlib.Core.List.{List, [], _∷_}
+use native.Mathlib.Omega.{arith}
 use Prim.Native.Nat.{ℕ, _*_, _^_, _≤_, _<_}
 use lib.Dec.{T}
-use lib.IntN.{ℤ}
+use lib.IntN.{ℤ, pos}
 use lib.ListN.{length, take, getD}
-use lib.Seq.{sets}
-use Rattle.model.specs.Answers.{writeNumbers, readNumbers, constantsIn}
+use Rattle.model.specs.Answers.{writeNumbers, readNumbers, constantsIn, compareNumbers}
 use Rattle.model.specs.State.{State, stateOf, parametersOf, cells, WithinLimits}
-use Rattle.model.specs.Record.{Timestamp, recordLength, rising, decode, accepted}
-use Rattle.model.specs.Promises.{ReadPromise}
+use Rattle.model.specs.Record.{Timestamp, recordLength, rising, Decoded, decode, accepted, refused}
+use Rattle.model.specs.Promises.{ReadPromise, WritePromise, ComparePromise}
 use Rattle.model.specs.Claims.{Bytes, BothAre, swapped}
 use Rattle.model.specs.declared.Parameters.{Parameters}
-use Rattle.model.specs.declared.ReadAnswer.the-variants.{Read}
-use Rattle.model.specs.declared.CompareAnswer.the-variants.{Same}
+use Rattle.model.specs.declared.Refusal.{Refusal}
+use Rattle.model.specs.declared.ReadAnswer.{ReadAnswer}
+use Rattle.model.specs.declared.ReadAnswer.the-variants.{Read, Refused}
+use Rattle.model.specs.declared.CompareAnswer.{CompareAnswer}
+use Rattle.model.specs.declared.CompareAnswer.the-variants.{Same, FirstNewer, SecondNewer, Conflict, FirstRefused, SecondRefused}
 use Rattle.theorems.specs.Theorems.{theorems}
-use Rattle.telling.specs.Told.{Told}
+use Rattle.telling.specs.Told.{eight, orKept}
 use Rattle.reading.specs.Rooms.{Room}
-use Rattle.basin.specs.Told.{WriteTold, ReadTold, CompareTold}
+use Rattle.basin.specs.Told.{stateIn}
+use Rattle.basin.proofs.Applied.{from-one}
+use Rattle.basin.proofs.Calls.{WriteCall, ReadCall, CompareCall}
 
 -- ---- write, then read
 
 -- a state within the limits comes back, with its parameters and its timestamp: both calls return 0
-pub record CameBack (s : State) (t : Timestamp) (h′ b′ u′ v′ constants constants′ : List ℤ) (wrote returned : ℕ) (entry exit : List ℕ) : Type 0 where
-  pub written : wrote ≡ 0
-  pub fields : stateOf (parametersOf s) (take (cells s) h′) (take (cells s) b′) (take (cells s) u′) (take (cells s) v′) ≡ s
-  pub told : Told (0 ∷ s .w ∷ s .n ∷ s .kind ∷ t ∷ []) entry returned exit
-  pub holds : constants′ ≡ sets constants 0 (s .G ∷ s .c ∷ s .R ∷ [])
+pub record CameBack (w : WriteCall) (g : ReadCall) : Type 0 where
+  pub written : w .returned ≡ 0
+  pub read : g .returned ≡ 0
+  pub told : let s = w .state in g .answer ≡ 0 ∷ s .w ∷ s .n ∷ s .kind ∷ w .timestamp ∷ 0 ∷ 0 ∷ 0 ∷ []
+  pub constants : let s = w .state in g .constants′ ≡ s .G ∷ s .c ∷ s .R ∷ []
+  pub fields : let m = cells (w .state) in stateOf (parametersOf (w .state)) (take m (g .h′)) (take m (g .b′)) (take m (g .u′)) (take m (g .v′)) ≡ w .state
 
-pub write-then-read : {s : State} {t : Timestamp} {d d′ h₀ h₁ e x : List ℕ} {h b u v h′ b′ u′ v′ constants constants′ : List ℤ} {k r : ℕ}
-    → WithinLimits s → t < 2 ^ 64 → recordLength s ≤ length d → Room (cells s) h b u v
-    → WriteTold s t d d′ h₀ k h₁ → ReadTold (take (recordLength s) d′) h b u v h′ b′ u′ v′ constants constants′ e r x
-    → CameBack s t h′ b′ u′ v′ constants constants′ k r e x
-write-then-read {s} {t} {d} {d′} {h₀} {h₁} {e} {x} {h} {b} {u} {v} {h′} {b′} {u′} {v′} {constants} {constants′} {k} {r} l q room fit w g =
-    let y = theorems .write-then-read s t d d′ (w .answer) h b u v h′ b′ u′ v′ (g .answer) l q room (w .promise) (fit .depth) (fit .bottom) (fit .velocity-u) (fit .velocity-v) (g .promise) in
+pub write-then-read : (w : WriteCall) (g : ReadCall)
+    → WithinLimits (w .state) → w .timestamp < 2 ^ 64 → recordLength (w .state) ≤ length (w .bytes) → Room (cells (w .state)) (g .h) (g .b) (g .u) (g .v)
+    → g .bytes ≡ take (recordLength (w .state)) (w .bytes′)
+    → CameBack w g
+write-then-read w g l q room fit same =
+    let s = w .state in
+    let p = subst (λ bytes. ReadPromise bytes (g .h) (g .b) (g .u) (g .v) (g .told .answer) (g .h′) (g .b′) (g .u′) (g .v′)) same (g .told .promise) in
+    let y = theorems .write-then-read s (w .timestamp) (w .bytes) (w .bytes′) (w .told .answer) (g .h) (g .b) (g .u) (g .v) (g .h′) (g .b′) (g .u′) (g .v′) (g .told .answer) l q room (w .told .promise) (fit .depth) (fit .bottom) (fit .velocity-u) (fit .velocity-v) p in
     record {
-      written = w .told .returns ∙ ap (λ a. getD (writeNumbers a) 0 0) (y .0);
+      written = w .told .told .returns ∙ ap (λ a. getD (writeNumbers a) 0 0) (y .0);
+      read = g .told .told .returns ∙ ap (λ a. getD (readNumbers a) 0 0) (y .1);
+      told = g .told .told .holds ∙ ap (λ a. eight (readNumbers a)) (y .1);
+      constants = g .told .holds ∙ ap (λ a. orKept (constantsIn a) (g .constants)) (y .1);
       fields = y .2;
-      told = subst (λ a. Told (readNumbers a) e r x) (y .1) (g .told);
-      holds = g .holds ∙ ap (λ a. sets constants 0 (constantsIn a)) (y .1);
     }
 
 -- ---- read, then write
 
--- an accepted record whose tags rise: the same bytes
-pub read-then-write : {rec d d′ h₀ h₁ e x : List ℕ} {h b u v h′ b′ u′ v′ constants constants′ : List ℤ} {p : Parameters} {t k r : ℕ}
-    → Bytes rec → T (rising rec) → (g : ReadTold rec h b u v h′ b′ u′ v′ constants constants′ e r x) → g .answer ≡ Read p t
-    → let m = p .w * p .n in WriteTold (stateOf p (take m h′) (take m b′) (take m u′) (take m v′)) t d d′ h₀ k h₁
-    → length rec ≤ length d → (k ≡ 0) × (take (length rec) d′ ≡ rec)
-read-then-write {rec} {d} {d′} {h = h} {b} {u} {v} {h′} {b′} {u′} {v′} {p = p} {t} bytes rises g a w room =
-    let y = theorems .read-then-write rec d d′ h b u v h′ b′ u′ v′ p t (w .answer) bytes rises (subst (λ x. ReadPromise rec h b u v x h′ b′ u′ v′) a (g .promise)) (w .promise) room in
-    (w .told .returns ∙ ap (λ a. getD (writeNumbers a) 0 0) (y .0), y .1)
+-- the state that a read tells and leaves: w, n and kind are told after the 0, and the timestamp after these
+abbrev pub readState : ReadCall → State
+readState g =
+    let w = getD (g .answer) 1 0 in
+    let n = getD (g .answer) 2 0 in
+    let m = w * n in
+    stateIn w n (getD (g .answer) 3 0) (getD (g .constants′) 0 (pos 0)) (getD (g .constants′) 1 (pos 0)) (getD (g .constants′) 2 (pos 0)) (take m (g .h′)) (take m (g .b′)) (take m (g .u′)) (take m (g .v′))
+
+abbrev pub readTimestamp : ReadCall → Timestamp
+readTimestamp g = getD (g .answer) 4 0
+
+record WasRead (g : ReadCall) : Type 0 where
+  p : Parameters
+  t : Timestamp
+  answers : g .told .answer ≡ Read p t
+  stamp : readTimestamp g ≡ t
+  state : let m = p .w * p .n in readState g ≡ stateOf p (take m (g .h′)) (take m (g .b′)) (take m (g .u′)) (take m (g .v′))
+
+was-read : (g : ReadCall) → g .returned ≡ 0 → WasRead g
+was-read g z = by (g .told .answer) refl (sym (g .told .told .returns) ∙ z)
+  where
+    by : (x : ReadAnswer) → g .told .answer ≡ x → getD (readNumbers x) 0 0 ≡ 0 → WasRead g
+    by (Read p t) e n =
+        let a = g .told .told .holds ∙ ap (λ x. eight (readNumbers x)) e in
+        let k = g .told .holds ∙ ap (λ x. orKept (constantsIn x) (g .constants)) e in
+        record { p = p; t = t; answers = e; stamp = rw a; state = rw (a, k) }
+    by (Refused r) e n = absurd (omega (arith, from-one r, n))
+
+-- an accepted record whose tags rise: the writer makes the same bytes of what is read
+pub read-then-write : (g : ReadCall) (w : WriteCall)
+    → Bytes (g .bytes) → T (rising (g .bytes)) → g .returned ≡ 0 → w .state ≡ readState g → w .timestamp ≡ readTimestamp g → length (g .bytes) ≤ length (w .bytes)
+    → (w .returned ≡ 0) × (take (length (g .bytes)) (w .bytes′) ≡ g .bytes)
+read-then-write g w bytes rises z state stamp room =
+    let r = was-read g z in
+    let m = r .p .w * r .p .n in
+    let read = subst (λ x. ReadPromise (g .bytes) (g .h) (g .b) (g .u) (g .v) x (g .h′) (g .b′) (g .u′) (g .v′)) (r .answers) (g .told .promise) in
+    let written = subst (λ s. WritePromise s (r .t) (w .bytes) (w .told .answer) (w .bytes′)) (state ∙ r .state) (subst (λ t. WritePromise (w .state) t (w .bytes) (w .told .answer) (w .bytes′)) (stamp ∙ r .stamp) (w .told .promise)) in
+    let y = theorems .read-then-write (g .bytes) (w .bytes) (w .bytes′) (g .h) (g .b) (g .u) (g .v) (g .h′) (g .b′) (g .u′) (g .v′) (r .p) (r .t) (w .told .answer) bytes rises read written room in
+    (w .told .told .returns ∙ ap (λ a. getD (writeNumbers a) 0 0) (y .0), y .1)
 
 -- ---- comparison
 
--- same exactly where both records are accepted, with one state and one timestamp
-pub same-means : {first second e x : List ℕ} {k : ℕ} (c : CompareTold first second e k x) → (c .answer ≡ Same) ↔ BothAre first second
-same-means {first} {second} c = theorems .compare .same first second (c .answer) (c .promise)
+-- what is told with the 0: 0 same, 1 first newer, 2 second newer, 3 conflict
+abbrev pub result : CompareCall → ℕ
+result c = getD (c .answer) 1 0
 
--- and swapped with the records
-pub swapped-answer : {first second e x e′ x′ : List ℕ} {k k′ : ℕ} (c : CompareTold first second e k x) (c′ : CompareTold second first e′ k′ x′) {s t : State} {i j : ℕ}
-    → decode first [] ≡ accepted s i → decode second [] ≡ accepted t j → c′ .answer ≡ swapped (c .answer)
-swapped-answer {first} {second} c c′ {s} {t} {i} {j} p q = theorems .compare .swap first second (c .answer) (c′ .answer) s t i j p q (c .promise) (c′ .promise)
+-- the numbers leave one answer possible
+record Is (c : CompareCall) (a : CompareAnswer) : Type 0 where
+  returns : c .returned ≡ getD (compareNumbers a) 0 0
+  tells : result c ≡ getD (eight (compareNumbers a)) 1 0
+
+is : (c : CompareCall) {a : CompareAnswer} → c .told .answer ≡ a → Is c a
+is c e = record { returns = c .told .told .returns ∙ ap (λ a. getD (compareNumbers a) 0 0) e; tells = ap (λ l. getD l 1 0) (c .told .told .holds ∙ ap (λ a. eight (compareNumbers a)) e) }
+
+-- same exactly where both records are accepted, with one state and one timestamp
+pub same-means : (c : CompareCall) → ((c .returned ≡ 0) × (result c ≡ 0)) ↔ BothAre (c .first) (c .second)
+same-means c =
+    let means = theorems .compare .same (c .first) (c .second) (c .told .answer) (c .told .promise) in
+    (λ t. means .0 (by (c .told .answer) (is c refl) (t .0) (t .1)), λ both. let s = is c (means .1 both) in (s .returns, s .tells))
+  where
+    by : (a : CompareAnswer) → Is c a → c .returned ≡ 0 → result c ≡ 0 → a ≡ Same
+    by Same s n k = refl
+    by FirstNewer s n k = absurd (omega (arith, s .tells, k))
+    by SecondNewer s n k = absurd (omega (arith, s .tells, k))
+    by Conflict s n k = absurd (omega (arith, s .tells, k))
+    by (FirstRefused r) s n k = absurd (omega (arith, from-one r, s .returns, n))
+    by (SecondRefused r) s n k = absurd (omega (arith, from-one r, s .returns, n))
+
+-- and swapped with the records, of two that are accepted: 1 for 2, and 0 and 3 as they are
+pub record Swapped (c d : CompareCall) : Type 0 where
+  pub both : (c .returned ≡ 0) × (d .returned ≡ 0)
+  pub results : ((result c ≡ 0) × (result d ≡ 0)) ⊎ ((result c ≡ 1) × (result d ≡ 2)) ⊎ ((result c ≡ 2) × (result d ≡ 1)) ⊎ ((result c ≡ 3) × (result d ≡ 3))
+
+pub swapped-result : (c d : CompareCall) → d .first ≡ c .second → d .second ≡ c .first → {s t : State} {i j : ℕ}
+    → decode (c .first) [] ≡ accepted s i → decode (c .second) [] ≡ accepted t j → Swapped c d
+swapped-result c d p q {s} {t} {i} {j} one two =
+    let back = subst (λ l. ComparePromise l (c .first) (d .told .answer)) p (subst (λ l. ComparePromise (d .first) l (d .told .answer)) q (d .told .promise)) in
+    by (c .told .answer) refl (theorems .compare .swap (c .first) (c .second) (c .told .answer) (d .told .answer) s t i j one two (c .told .promise) back)
+  where
+    refusals : Decoded → ℕ
+    refusals (accepted x y) = 0
+    refusals (refused r) = 1
+
+    accepted-not-refused : {d : Decoded} {r : Refusal} {x : State} {y : ℕ} → d ≡ accepted x y → d ≡ refused r → ⊥
+    accepted-not-refused e f = omega (arith, ap refusals (sym e ∙ f))
+
+    by : (a : CompareAnswer) → c .told .answer ≡ a → d .told .answer ≡ swapped (c .told .answer) → Swapped c d
+    by Same e b = let x = is c e in let y = is d (b ∙ ap swapped e) in record { both = (x .returns, y .returns); results = inl (x .tells, y .tells) }
+    by FirstNewer e b = let x = is c e in let y = is d (b ∙ ap swapped e) in record { both = (x .returns, y .returns); results = inr (inl (x .tells, y .tells)) }
+    by SecondNewer e b = let x = is c e in let y = is d (b ∙ ap swapped e) in record { both = (x .returns, y .returns); results = inr (inr (inl (x .tells, y .tells))) }
+    by Conflict e b = let x = is c e in let y = is d (b ∙ ap swapped e) in record { both = (x .returns, y .returns); results = inr (inr (inr (x .tells, y .tells))) }
+    by (FirstRefused r) e b = absurd (accepted-not-refused one (theorems .compare .first-refused (c .first) (c .second) (c .told .answer) r (c .told .promise) .0 e))
+    by (SecondRefused r) e b = absurd (accepted-not-refused two (theorems .compare .second-refused (c .first) (c .second) (c .told .answer) r s i one (c .told .promise) .0 e))

@@ -11,6 +11,6 @@ use Rattle.model.specs.declared.TestAnswer.{TestAnswer}
 use Rattle.telling.specs.Told.{Told}
 use Rattle.basin.specs.Told.{TestTold}
 
-pub told-test : {s : State} {x : List ℤ} {beside : Beside} {t : TestAnswer} {entry exit : List ℕ} {k : ℕ}
-    → TestPromise s beside x t → Told (testNumbers t) entry k exit → TestTold s beside x entry k exit
-told-test {entry = entry} {exit} {k} a e = subst (λ t. Told (testNumbers t) entry k exit) (a .answers) e
+pub told-test : {s : State} {x : List ℤ} {beside : Beside} {t : TestAnswer} {exit : List ℕ} {k : ℕ}
+    → TestPromise s beside x t → Told (testNumbers t) k exit → TestTold s beside x k exit
+told-test {exit = exit} {k} a e = subst (λ t. Told (testNumbers t) k exit) (a .answers) e

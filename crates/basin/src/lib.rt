@@ -1,5 +1,6 @@
-// The C interface: thin functions over the proved calls, for Rust and C (include/basin.h). A slice crosses as pointer and length, and
-// an answer goes into a lent slice. Any numbers and any lengths may come in.
+// The C interface: thin functions over the proved calls, for Rust and C (include/basin.h). A slice crosses as pointer and length. What is
+// told crosses as a pointer alone, to one number, three or eight, so that no call has too little room for it. Any numbers and any lengths
+// may come in.
 ghost use mathlib.Core.Path.{_≡_};
 ghost use mathlib.Core.List.{[]};
 ghost use Rattle.model.specs.Promises.{TotalDepthPromise, TotalEnergyPromise};
@@ -11,7 +12,7 @@ use model::Parameters;
 
 // ---- the tests by themselves
 
-// Each rules out, for instance: 3 returned as 4; two fields numbered the other way round; the first number not stored.
+// Each rules out, for instance: 3 returned as 4; two fields numbered the other way round; a place of the eight left as it was.
 
 // Tests 1 to 5 of a state: what total depth, total energy, potential vorticity and the writer test first.
 #[no_mangle]
@@ -26,9 +27,9 @@ pub extern "C" fn basin_test_state(
     b: &[i64],
     u: &[i64],
     v: &[i64],
-    answer: &mut [u64],
+    answer: &mut [u64; 8],
 ) -> u64
-    ensures { λ k. ⌜ TestTold (stateIn w n kind g c r (now (h .entry)) (now (b .entry)) (now (u .entry)) (now (v .entry))) Nothing [] (now (answer .entry)) k (now (answer .exit)) ⌝ }
+    ensures { λ k. ⌜ TestTold (stateIn w n kind g c r (now (h .entry)) (now (b .entry)) (now (u .entry)) (now (v .entry))) Nothing [] k (now (answer .exit)) ⌝ }
 {
     let p = Parameters {
         w,
@@ -39,7 +40,8 @@ pub extern "C" fn basin_test_state(
         r,
     };
     // the last argument stands for a further field, which nothing looks at here
-    telling::tell_test(answer, state::test_state(p, h, b, u, v, Beside::Nothing, h))
+    let x = state::test_state(p, h, b, u, v, Beside::Nothing, h);
+    telling::tell(answer, telling::test_numbers(x))
 }
 
 // The same with a potential vorticity: what the tendencies test first.
@@ -56,9 +58,9 @@ pub extern "C" fn basin_test_vorticity(
     u: &[i64],
     v: &[i64],
     q: &[i64],
-    answer: &mut [u64],
+    answer: &mut [u64; 8],
 ) -> u64
-    ensures { λ k. ⌜ TestTold (stateIn w n kind g c r (now (h .entry)) (now (b .entry)) (now (u .entry)) (now (v .entry))) Vorticity (now (q .entry)) (now (answer .entry)) k (now (answer .exit)) ⌝ }
+    ensures { λ k. ⌜ TestTold (stateIn w n kind g c r (now (h .entry)) (now (b .entry)) (now (u .entry)) (now (v .entry))) Vorticity (now (q .entry)) k (now (answer .exit)) ⌝ }
 {
     let p = Parameters {
         w,
@@ -68,10 +70,8 @@ pub extern "C" fn basin_test_vorticity(
         c,
         r,
     };
-    telling::tell_test(
-        answer,
-        state::test_state(p, h, b, u, v, Beside::Vorticity, q),
-    )
+    let x = state::test_state(p, h, b, u, v, Beside::Vorticity, q);
+    telling::tell(answer, telling::test_numbers(x))
 }
 
 // The same with an inflow and a work space of so many numbers: what the step tests first.
@@ -89,9 +89,9 @@ pub extern "C" fn basin_test_step(
     v: &[i64],
     inflow: &[i64],
     work: usize,
-    answer: &mut [u64],
+    answer: &mut [u64; 8],
 ) -> u64
-    ensures { λ k. ⌜ TestTold (stateIn w n kind g c r (now (h .entry)) (now (b .entry)) (now (u .entry)) (now (v .entry))) (Inflow work) (now (inflow .entry)) (now (answer .entry)) k (now (answer .exit)) ⌝ }
+    ensures { λ k. ⌜ TestTold (stateIn w n kind g c r (now (h .entry)) (now (b .entry)) (now (u .entry)) (now (v .entry))) (Inflow work) (now (inflow .entry)) k (now (answer .exit)) ⌝ }
 {
     let p = Parameters {
         w,
@@ -101,10 +101,8 @@ pub extern "C" fn basin_test_step(
         c,
         r,
     };
-    telling::tell_test(
-        answer,
-        state::test_state(p, h, b, u, v, Beside::Inflow { work }, inflow),
-    )
+    let x = state::test_state(p, h, b, u, v, Beside::Inflow { work }, inflow);
+    telling::tell(answer, telling::test_numbers(x))
 }
 
 // The same with a run length too: what the run tests first.
@@ -123,9 +121,9 @@ pub extern "C" fn basin_test_run(
     inflow: &[i64],
     steps: u64,
     work: usize,
-    answer: &mut [u64],
+    answer: &mut [u64; 8],
 ) -> u64
-    ensures { λ k. ⌜ TestTold (stateIn w n kind g c r (now (h .entry)) (now (b .entry)) (now (u .entry)) (now (v .entry))) (Run steps work) (now (inflow .entry)) (now (answer .entry)) k (now (answer .exit)) ⌝ }
+    ensures { λ k. ⌜ TestTold (stateIn w n kind g c r (now (h .entry)) (now (b .entry)) (now (u .entry)) (now (v .entry))) (Run steps work) (now (inflow .entry)) k (now (answer .exit)) ⌝ }
 {
     let p = Parameters {
         w,
@@ -135,10 +133,8 @@ pub extern "C" fn basin_test_run(
         c,
         r,
     };
-    telling::tell_test(
-        answer,
-        state::test_state(p, h, b, u, v, Beside::Run { steps, work }, inflow),
-    )
+    let x = state::test_state(p, h, b, u, v, Beside::Run { steps, work }, inflow);
+    telling::tell(answer, telling::test_numbers(x))
 }
 
 // ---- potential vorticity and tendencies
@@ -158,9 +154,9 @@ pub extern "C" fn basin_potential_vorticity(
     u: &[i64],
     v: &[i64],
     q: &mut [i64],
-    answer: &mut [u64],
+    answer: &mut [u64; 8],
 ) -> u64
-    ensures { λ k. ⌜ VorticityTold (stateIn w n kind g c r (now (h .entry)) (now (b .entry)) (now (u .entry)) (now (v .entry))) (now (q .entry)) (now (q .exit)) (now (answer .entry)) k (now (answer .exit)) ⌝ }
+    ensures { λ k. ⌜ VorticityTold (stateIn w n kind g c r (now (h .entry)) (now (b .entry)) (now (u .entry)) (now (v .entry))) (now (q .entry)) (now (q .exit)) k (now (answer .exit)) ⌝ }
 {
     let p = Parameters {
         w,
@@ -170,7 +166,8 @@ pub extern "C" fn basin_potential_vorticity(
         c,
         r,
     };
-    telling::tell_fill(answer, filling::potential_vorticity(p, h, b, u, v, q))
+    let x = filling::potential_vorticity(p, h, b, u, v, q);
+    telling::tell(answer, telling::fill_numbers(x))
 }
 
 #[no_mangle]
@@ -189,9 +186,9 @@ pub extern "C" fn basin_tendencies(
     dh: &mut [i64],
     du: &mut [i64],
     dv: &mut [i64],
-    answer: &mut [u64],
+    answer: &mut [u64; 8],
 ) -> u64
-    ensures { λ k. ⌜ TendenciesTold (stateIn w n kind g c r (now (h .entry)) (now (b .entry)) (now (u .entry)) (now (v .entry))) (now (q .entry)) (now (dh .entry)) (now (du .entry)) (now (dv .entry)) (now (dh .exit)) (now (du .exit)) (now (dv .exit)) (now (answer .entry)) k (now (answer .exit)) ⌝ }
+    ensures { λ k. ⌜ TendenciesTold (stateIn w n kind g c r (now (h .entry)) (now (b .entry)) (now (u .entry)) (now (v .entry))) (now (q .entry)) (now (dh .entry)) (now (du .entry)) (now (dv .entry)) (now (dh .exit)) (now (du .exit)) (now (dv .exit)) k (now (answer .exit)) ⌝ }
 {
     let p = Parameters {
         w,
@@ -201,7 +198,8 @@ pub extern "C" fn basin_tendencies(
         c,
         r,
     };
-    telling::tell_fill(answer, filling::tendencies(p, h, b, u, v, q, dh, du, dv))
+    let x = filling::tendencies(p, h, b, u, v, q, dh, du, dv);
+    telling::tell(answer, telling::fill_numbers(x))
 }
 
 // ---- step and run
@@ -223,9 +221,9 @@ pub extern "C" fn basin_step(
     v: &mut [i64],
     inflow: &[i64],
     work: &mut [i64],
-    answer: &mut [u64],
+    answer: &mut [u64; 8],
 ) -> u64
-    ensures { λ k. ⌜ StepTold (stateIn w n kind g c r (now (h .entry)) (now (b .entry)) (now (u .entry)) (now (v .entry))) (now (inflow .entry)) (now (work .entry)) (stateIn w n kind g c r (now (h .exit)) (now (b .entry)) (now (u .exit)) (now (v .exit))) (now (work .exit)) (now (answer .entry)) k (now (answer .exit)) ⌝ }
+    ensures { λ k. ⌜ StepTold (stateIn w n kind g c r (now (h .entry)) (now (b .entry)) (now (u .entry)) (now (v .entry))) (now (inflow .entry)) (now (work .entry)) (stateIn w n kind g c r (now (h .exit)) (now (b .entry)) (now (u .exit)) (now (v .exit))) (now (work .exit)) k (now (answer .exit)) ⌝ }
 {
     let p = Parameters {
         w,
@@ -235,7 +233,8 @@ pub extern "C" fn basin_step(
         c,
         r,
     };
-    telling::tell_step(answer, stepping::step(p, h, b, u, v, inflow, work))
+    let x = stepping::step(p, h, b, u, v, inflow, work);
+    telling::tell(answer, telling::step_numbers(x))
 }
 
 #[no_mangle]
@@ -253,9 +252,9 @@ pub extern "C" fn basin_run(
     inflow: &[i64],
     steps: u64,
     work: &mut [i64],
-    answer: &mut [u64],
+    answer: &mut [u64; 8],
 ) -> u64
-    ensures { λ k. ⌜ RunTold (stateIn w n kind g c r (now (h .entry)) (now (b .entry)) (now (u .entry)) (now (v .entry))) (now (inflow .entry)) steps (now (work .entry)) (stateIn w n kind g c r (now (h .exit)) (now (b .entry)) (now (u .exit)) (now (v .exit))) (now (work .exit)) (now (answer .entry)) k (now (answer .exit)) ⌝ }
+    ensures { λ k. ⌜ RunTold (stateIn w n kind g c r (now (h .entry)) (now (b .entry)) (now (u .entry)) (now (v .entry))) (now (inflow .entry)) steps (now (work .entry)) (stateIn w n kind g c r (now (h .exit)) (now (b .entry)) (now (u .exit)) (now (v .exit))) (now (work .exit)) k (now (answer .exit)) ⌝ }
 {
     let p = Parameters {
         w,
@@ -265,13 +264,14 @@ pub extern "C" fn basin_run(
         c,
         r,
     };
-    telling::tell_run(answer, stepping::run(p, h, b, u, v, inflow, steps, work))
+    let x = stepping::run(p, h, b, u, v, inflow, steps, work);
+    telling::tell(answer, telling::run_numbers(x))
 }
 
 // ---- totals
 
-// Each is the proved call: an accepted total goes into the first place of a lent slice, where there is one, and 0 is told; a refusal is
-// told as above. They rule out, for instance: the total stored in the second place; the total of b.
+// Each is the proved call: an accepted total goes into the lent number and 0 is told; a refusal is told as above, and leaves the lent
+// number. They rule out, for instance: 0 told and no total; the total of b.
 
 #[no_mangle]
 pub extern "C" fn basin_total_depth(
@@ -285,10 +285,10 @@ pub extern "C" fn basin_total_depth(
     b: &[i64],
     u: &[i64],
     v: &[i64],
-    total: &mut [i64],
-    answer: &mut [u64],
+    total: &mut i64,
+    answer: &mut [u64; 8],
 ) -> u64
-    ensures { λ k. ⌜ TotalTold (TotalDepthPromise (stateIn w n kind g c r (now (h .entry)) (now (b .entry)) (now (u .entry)) (now (v .entry)))) (now (total .entry)) (now (total .exit)) (now (answer .entry)) k (now (answer .exit)) ⌝ }
+    ensures { λ k. ⌜ TotalTold (TotalDepthPromise (stateIn w n kind g c r (now (h .entry)) (now (b .entry)) (now (u .entry)) (now (v .entry)))) (now (total .entry)) (now (total .exit)) k (now (answer .exit)) ⌝ }
 {
     let p = Parameters {
         w,
@@ -298,7 +298,9 @@ pub extern "C" fn basin_total_depth(
         c,
         r,
     };
-    telling::tell_total(total, answer, totals::total_depth(p, h, b, u, v))
+    let x = totals::total_depth(p, h, b, u, v);
+    *total = telling::total_or(x, *total);
+    telling::tell(answer, telling::total_numbers(x))
 }
 
 #[no_mangle]
@@ -313,10 +315,10 @@ pub extern "C" fn basin_total_energy(
     b: &[i64],
     u: &[i64],
     v: &[i64],
-    total: &mut [i64],
-    answer: &mut [u64],
+    total: &mut i64,
+    answer: &mut [u64; 8],
 ) -> u64
-    ensures { λ k. ⌜ TotalTold (TotalEnergyPromise (stateIn w n kind g c r (now (h .entry)) (now (b .entry)) (now (u .entry)) (now (v .entry)))) (now (total .entry)) (now (total .exit)) (now (answer .entry)) k (now (answer .exit)) ⌝ }
+    ensures { λ k. ⌜ TotalTold (TotalEnergyPromise (stateIn w n kind g c r (now (h .entry)) (now (b .entry)) (now (u .entry)) (now (v .entry)))) (now (total .entry)) (now (total .exit)) k (now (answer .exit)) ⌝ }
 {
     let p = Parameters {
         w,
@@ -326,13 +328,15 @@ pub extern "C" fn basin_total_energy(
         c,
         r,
     };
-    telling::tell_total(total, answer, totals::total_energy(p, h, b, u, v))
+    let x = totals::total_energy(p, h, b, u, v);
+    *total = telling::total_or(x, *total);
+    telling::tell(answer, telling::total_numbers(x))
 }
 
 // ---- the record
 
 // Each is the proved call, its answer told as above: the writer's with the number of bytes; the reader's with w, n, kind and the
-// timestamp, while G, c and R, which have a sign, go into the first three places of a lent slice, as far as there is room; the
+// timestamp, while G, c and R, which have a sign, go into three lent numbers; the
 // comparison's with 0 same, 1 first newer, 2 second newer, 3 conflict, or which record is refused. They rule out, for instance: the
 // fields of a record swapped; the records swapped; G told in the place of c.
 
@@ -350,9 +354,9 @@ pub extern "C" fn basin_write(
     v: &[i64],
     timestamp: u64,
     record: &mut [u8],
-    answer: &mut [u64],
+    answer: &mut [u64; 8],
 ) -> u64
-    ensures { λ k. ⌜ WriteTold (stateIn w n kind g c r (now (h .entry)) (now (b .entry)) (now (u .entry)) (now (v .entry))) timestamp (now («record» .entry)) (now («record» .exit)) (now (answer .entry)) k (now (answer .exit)) ⌝ }
+    ensures { λ k. ⌜ WriteTold (stateIn w n kind g c r (now (h .entry)) (now (b .entry)) (now (u .entry)) (now (v .entry))) timestamp (now («record» .entry)) (now («record» .exit)) k (now (answer .exit)) ⌝ }
 {
     let p = Parameters {
         w,
@@ -362,7 +366,8 @@ pub extern "C" fn basin_write(
         c,
         r,
     };
-    telling::tell_write(answer, writing::write(p, h, b, u, v, timestamp, record))
+    let x = writing::write(p, h, b, u, v, timestamp, record);
+    telling::tell(answer, telling::write_numbers(x))
 }
 
 #[no_mangle]
@@ -372,19 +377,22 @@ pub extern "C" fn basin_read(
     b: &mut [i64],
     u: &mut [i64],
     v: &mut [i64],
-    constants: &mut [i64],
-    answer: &mut [u64],
+    constants: &mut [i64; 3],
+    answer: &mut [u64; 8],
 ) -> u64
-    ensures { λ k. ⌜ ReadTold (now («record» .entry)) (now (h .entry)) (now (b .entry)) (now (u .entry)) (now (v .entry)) (now (h .exit)) (now (b .exit)) (now (u .exit)) (now (v .exit)) (now (constants .entry)) (now (constants .exit)) (now (answer .entry)) k (now (answer .exit)) ⌝ }
+    ensures { λ k. ⌜ ReadTold (now («record» .entry)) (now (h .entry)) (now (b .entry)) (now (u .entry)) (now (v .entry)) (now (h .exit)) (now (b .exit)) (now (u .exit)) (now (v .exit)) (now (constants .entry)) (now (constants .exit)) k (now (answer .exit)) ⌝ }
 {
-    telling::tell_read(constants, answer, reading::read(record, h, b, u, v))
+    let x = reading::read(record, h, b, u, v);
+    *constants = telling::constants_or(x, *constants);
+    telling::tell(answer, telling::read_numbers(x))
 }
 
 #[no_mangle]
-pub extern "C" fn basin_compare(first: &[u8], second: &[u8], answer: &mut [u64]) -> u64
-    ensures { λ k. ⌜ CompareTold (now (first .entry)) (now (second .entry)) (now (answer .entry)) k (now (answer .exit)) ⌝ }
+pub extern "C" fn basin_compare(first: &[u8], second: &[u8], answer: &mut [u64; 8]) -> u64
+    ensures { λ k. ⌜ CompareTold (now (first .entry)) (now (second .entry)) k (now (answer .exit)) ⌝ }
 {
-    telling::tell_compare(answer, comparing::compare(first, second))
+    let x = comparing::compare(first, second);
+    telling::tell(answer, telling::compare_numbers(x))
 }
 
 // ---- rounding
@@ -404,18 +412,15 @@ fn is_roundable(a: i64, b: i64) -> bool
     integers::within(a, dividend) && integers::within(b, divisor)
 }
 
-// 01's rnd(a/b) into the first place of a lent slice. It rules out, for instance: the largest dividend refused; 1 returned where there
-// is no room.
+// 01's rnd(a/b), or 4 where the quotient is out of its range. It rules out, for instance: the largest dividend refused; rounded changed
+// by a refusal.
 #[no_mangle]
-pub extern "C" fn basin_rnd(a: i64, b: i64, rounded: &mut [i64]) -> u64
+pub extern "C" fn basin_rnd(a: i64, b: i64, rounded: &mut i64) -> u64
     ensures { λ k. ⌜ Rounded a b (now (rounded .entry)) k (now (rounded .exit)) ⌝ }
 {
     if !is_roundable(a, b) {
-        return 0;
+        return 4;
     }
-    if rounded.len() < 1 {
-        return 0;
-    }
-    rounded[0] = integers::rnd(a, b);
-    1
+    *rounded = integers::rnd(a, b);
+    0
 }

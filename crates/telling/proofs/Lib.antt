@@ -1,2 +1,2 @@
--- the number and its values, each in its place
+-- the numbers of a refusal
 mod Tells

@@ -1,34 +1,38 @@
--- What is told of an answer: numbers without a sign, and beside them what has one. `sets d 0 l` is d with the elements of l in its first
--- places, as far as there is room.
-use mathlib.Core.Path.{_≡_, refl}
-use mathlib.Core.Bool.{cond}
+-- What is told of an answer: eight numbers without a sign, and beside them what has one.
+use mathlib.Core.Path.{_≡_, refl, ap, _∙_}
 use mathlib.Core.List.{List, [], _∷_, _++_, map}
 use Prim.Native.Nat.{ℕ}
 use lib.IntN.{pos}
-use lib.Dec.{leb}
-use lib.ListN.{getD, set, take, drop}
-use lib.Seq.{sets}
-use Rattle.telling.specs.declared.Numbers.{Numbers}
+use lib.ListN.{getD, take, drop, replicate}
 use Rattle.model.specs.Answers.{readNumbers, constantsIn, toldRead}
 use Rattle.model.specs.declared.ReadAnswer.{ReadAnswer}
 use Rattle.model.specs.declared.ReadAnswer.the-variants as R
 use Rattle.model.specs.declared.Refusal.the-variants.{Grid, Lengths, Constants, Value, ClosedEdge, Record, Destination}
 
--- a list of numbers is told: its first is returned, and all of them are in the answer, as far as there is room
-pub record Told (numbers entry : List ℕ) (r : ℕ) (exit : List ℕ) : Type 0 where
+-- eight places: the numbers first, the others 0
+abbrev pub eight : List ℕ → List ℕ
+eight numbers = take 8 (numbers ++ replicate 8 0)
+
+-- numbers are told: the first is returned, and all of them are in the answer
+pub record Told (numbers : List ℕ) (r : ℕ) (answer : List ℕ) : Type 0 where
   pub returns : r ≡ getD numbers 0 0
-  pub holds : exit ≡ sets entry 0 numbers
+  pub holds : answer ≡ eight numbers
 
--- what is told of an answer: its number and its values
-abbrev pub listed : Numbers → List ℕ
-listed n = n .1 ∷ take (n .0) (n .2 ∷ n .3 ∷ n .4 ∷ n .5 ∷ [])
+-- from the eight numbers, of which the first is returned
+pub told-by : {numbers told answer : List ℕ} {r : ℕ} → told ≡ eight numbers → (r ≡ getD told 0 0) × (answer ≡ told) → Told numbers r answer
+told-by {numbers} e t = record { returns = t .0 ∙ ap (λ l. getD l 0 0) e ∙ first numbers; holds = t .1 ∙ e }
+  where
+    first : (l : List ℕ) → getD (eight l) 0 0 ≡ getD l 0 0
+    first [] = refl
+    first (x ∷ l) = refl
 
--- x in place k of d, if that is the place of the number or of one of its values
-abbrev pub stored : ℕ → ℕ → ℕ → List ℕ → List ℕ
-stored count k x d = cond (leb k count) (set d k x) d
+-- what a lent place holds after the call: what is told, or what it held where nothing is
+abbrev pub orKept : {A : Type 0} → List A → List A → List A
+orKept [] kept = kept
+orKept (x ∷ l) kept = x ∷ l
 
--- the two slices of a record that is read hold all that 01 tells of it: the constants go before the timestamp, and a refusal has none
--- and three numbers at most
+-- the eight numbers and the constants of a record that is read hold all that 01 tells of it: the constants go before the timestamp, and a
+-- refusal has none and three numbers at most
 pub read-told : (a : ReadAnswer) → toldRead a ≡ take 4 (map pos (readNumbers a)) ++ constantsIn a ++ drop 4 (map pos (readNumbers a))
 read-told (R.Read p t) = refl
 read-told (R.Refused Grid) = refl

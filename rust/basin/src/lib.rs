@@ -260,9 +260,9 @@ pub fn total_depth(
     u: &[i64],
     v: &[i64],
 ) -> Result<i64, Refusal> {
-    let mut total = [0];
+    let mut total = 0;
     answered(|answer| raw::total_depth(p, h, b, u, v, &mut total, answer))?;
-    Ok(total[0])
+    Ok(total)
 }
 
 /// Four times total energy of a state, kinetic and potential. Tests 1 to 5.
@@ -273,9 +273,9 @@ pub fn total_energy(
     u: &[i64],
     v: &[i64],
 ) -> Result<i64, Refusal> {
-    let mut total = [0];
+    let mut total = 0;
     answered(|answer| raw::total_energy(p, h, b, u, v, &mut total, answer))?;
-    Ok(total[0])
+    Ok(total)
 }
 
 /// Fills the first w·n places of `q` with the potential vorticity of a state,
@@ -406,16 +406,16 @@ pub fn test_state(
 }
 
 /// The number that a call told, and room for the values that come with it.
-fn told(call: impl FnOnce(&mut [u64]) -> u64) -> (u64, [u64; 4]) {
+fn told(call: impl FnOnce(&mut [u64; 8]) -> u64) -> (u64, [u64; 4]) {
     // The most is told by a run that is stopped, and by a record that is read.
-    let mut answer = [0; 5];
+    let mut answer = [0; 8];
     let number = call(&mut answer);
-    let [_, values @ ..] = answer;
-    (number, values)
+    let [_, first, second, third, fourth, ..] = answer;
+    (number, [first, second, third, fourth])
 }
 
 /// The same of a call that tells no value with a 0.
-fn answered(call: impl FnOnce(&mut [u64]) -> u64) -> Result<(), Refusal> {
+fn answered(call: impl FnOnce(&mut [u64; 8]) -> u64) -> Result<(), Refusal> {
     let (number, values) = told(call);
     Refusal::from_told(number, values)
 }
@@ -424,9 +424,9 @@ fn answered(call: impl FnOnce(&mut [u64]) -> u64) -> Result<(), Refusal> {
 /// unless |a| is at most 2^58 and b is 1 to 2^43, which is more than the scheme
 /// needs.
 pub fn rnd(a: i64, b: i64) -> Option<i64> {
-    let mut rounded = [0];
+    let mut rounded = 0;
     match raw::rnd(a, b, &mut rounded) {
-        1 => Some(rounded[0]),
+        0 => Some(rounded),
         _ => None,
     }
 }

@@ -8,7 +8,7 @@
 use crate::Parameters;
 
 extern "C" {
-    fn basin_rnd(a: i64, b: i64, rounded: *mut i64, rounded_len: usize) -> u64;
+    fn basin_rnd(a: i64, b: i64, rounded: *mut i64) -> u64;
 
     fn basin_potential_vorticity(
         w: usize,
@@ -27,8 +27,7 @@ extern "C" {
         v_len: usize,
         q: *mut i64,
         q_len: usize,
-        answer: *mut u64,
-        answer_len: usize,
+        answer: *mut [u64; 8],
     ) -> u64;
 
     fn basin_tendencies(
@@ -54,8 +53,7 @@ extern "C" {
         du_len: usize,
         dv: *mut i64,
         dv_len: usize,
-        answer: *mut u64,
-        answer_len: usize,
+        answer: *mut [u64; 8],
     ) -> u64;
 
     fn basin_step(
@@ -77,8 +75,7 @@ extern "C" {
         inflow_len: usize,
         work: *mut i64,
         work_len: usize,
-        answer: *mut u64,
-        answer_len: usize,
+        answer: *mut [u64; 8],
     ) -> u64;
 
     fn basin_run(
@@ -101,8 +98,7 @@ extern "C" {
         steps: u64,
         work: *mut i64,
         work_len: usize,
-        answer: *mut u64,
-        answer_len: usize,
+        answer: *mut [u64; 8],
     ) -> u64;
 
     fn basin_total_depth(
@@ -121,9 +117,7 @@ extern "C" {
         v: *const i64,
         v_len: usize,
         total: *mut i64,
-        total_len: usize,
-        answer: *mut u64,
-        answer_len: usize,
+        answer: *mut [u64; 8],
     ) -> u64;
 
     fn basin_total_energy(
@@ -142,9 +136,7 @@ extern "C" {
         v: *const i64,
         v_len: usize,
         total: *mut i64,
-        total_len: usize,
-        answer: *mut u64,
-        answer_len: usize,
+        answer: *mut [u64; 8],
     ) -> u64;
 
     fn basin_write(
@@ -165,8 +157,7 @@ extern "C" {
         timestamp: u64,
         record: *mut u8,
         record_len: usize,
-        answer: *mut u64,
-        answer_len: usize,
+        answer: *mut [u64; 8],
     ) -> u64;
 
     fn basin_read(
@@ -180,10 +171,8 @@ extern "C" {
         u_len: usize,
         v: *mut i64,
         v_len: usize,
-        constants: *mut i64,
-        constants_len: usize,
-        answer: *mut u64,
-        answer_len: usize,
+        constants: *mut [i64; 3],
+        answer: *mut [u64; 8],
     ) -> u64;
 
     fn basin_compare(
@@ -191,8 +180,7 @@ extern "C" {
         first_len: usize,
         second: *const u8,
         second_len: usize,
-        answer: *mut u64,
-        answer_len: usize,
+        answer: *mut [u64; 8],
     ) -> u64;
 
     fn basin_test_state(
@@ -210,8 +198,7 @@ extern "C" {
         u_len: usize,
         v: *const i64,
         v_len: usize,
-        answer: *mut u64,
-        answer_len: usize,
+        answer: *mut [u64; 8],
     ) -> u64;
 
     fn basin_test_vorticity(
@@ -231,8 +218,7 @@ extern "C" {
         v_len: usize,
         q: *const i64,
         q_len: usize,
-        answer: *mut u64,
-        answer_len: usize,
+        answer: *mut [u64; 8],
     ) -> u64;
 
     fn basin_test_step(
@@ -253,8 +239,7 @@ extern "C" {
         inflow: *const i64,
         inflow_len: usize,
         work_len: usize,
-        answer: *mut u64,
-        answer_len: usize,
+        answer: *mut [u64; 8],
     ) -> u64;
 
     fn basin_test_run(
@@ -276,8 +261,7 @@ extern "C" {
         inflow_len: usize,
         steps: u64,
         work_len: usize,
-        answer: *mut u64,
-        answer_len: usize,
+        answer: *mut [u64; 8],
     ) -> u64;
 }
 
@@ -306,15 +290,15 @@ macro_rules! on_stepped_state {
     };
 }
 
-/// 1, and `rounded[0]` is rnd(a/b); or 0, and `rounded` is untouched.
-pub fn rnd(a: i64, b: i64, rounded: &mut [i64]) -> u64 {
+/// 0, and `rounded` is rnd(a/b); or 4, and `rounded` is untouched.
+pub fn rnd(a: i64, b: i64, rounded: &mut i64) -> u64 {
     // SAFETY: the pointer and the length are those of a slice that is lent to
     // this call alone.
-    unsafe { basin_rnd(a, b, rounded.as_mut_ptr(), rounded.len()) }
+    unsafe { basin_rnd(a, b, rounded) }
 }
 
 /// The number of the refusal, 0 where `q` is filled; `answer` begins with the
-/// number and the values told with it, as far as there is room.
+/// number and the values told with it; its other places are 0.
 pub fn potential_vorticity(
     p: &Parameters,
     h: &[i64],
@@ -322,7 +306,7 @@ pub fn potential_vorticity(
     u: &[i64],
     v: &[i64],
     q: &mut [i64],
-    answer: &mut [u64],
+    answer: &mut [u64; 8],
 ) -> u64 {
     // SAFETY: each pointer and the length after it are those of one slice.
     // `q` and `answer`, which are written, are borrowed apart from each other
@@ -336,8 +320,7 @@ pub fn potential_vorticity(
             v,
             q.as_mut_ptr(),
             q.len(),
-            answer.as_mut_ptr(),
-            answer.len()
+            answer
         ))
     }
 }
@@ -354,7 +337,7 @@ pub fn tendencies(
     dh: &mut [i64],
     du: &mut [i64],
     dv: &mut [i64],
-    answer: &mut [u64],
+    answer: &mut [u64; 8],
 ) -> u64 {
     // SAFETY: each pointer and the length after it are those of one slice.
     // `dh`, `du`, `dv` and `answer`, which are written, are borrowed apart from
@@ -374,8 +357,7 @@ pub fn tendencies(
             du.len(),
             dv.as_mut_ptr(),
             dv.len(),
-            answer.as_mut_ptr(),
-            answer.len()
+            answer
         ))
     }
 }
@@ -390,7 +372,7 @@ pub fn step(
     v: &mut [i64],
     inflow: &[i64],
     work: &mut [i64],
-    answer: &mut [u64],
+    answer: &mut [u64; 8],
 ) -> u64 {
     // SAFETY: each pointer and the length after it are those of one slice.
     // `h`, `u`, `v`, `work` and `answer`, which are written, are borrowed apart
@@ -406,8 +388,7 @@ pub fn step(
             inflow.len(),
             work.as_mut_ptr(),
             work.len(),
-            answer.as_mut_ptr(),
-            answer.len()
+            answer
         ))
     }
 }
@@ -422,7 +403,7 @@ pub fn run(
     inflow: &[i64],
     steps: u64,
     work: &mut [i64],
-    answer: &mut [u64],
+    answer: &mut [u64; 8],
 ) -> u64 {
     // SAFETY: each pointer and the length after it are those of one slice.
     // `h`, `u`, `v`, `work` and `answer`, which are written, are borrowed apart
@@ -439,39 +420,25 @@ pub fn run(
             steps,
             work.as_mut_ptr(),
             work.len(),
-            answer.as_mut_ptr(),
-            answer.len()
+            answer
         ))
     }
 }
 
-/// The number of the refusal, 0 where `total[0]` is total depth, if there is
-/// that place; `answer` as above.
+/// The number of the refusal, 0 where `total` is total depth; `answer` as above.
 pub fn total_depth(
     p: &Parameters,
     h: &[i64],
     b: &[i64],
     u: &[i64],
     v: &[i64],
-    total: &mut [i64],
-    answer: &mut [u64],
+    total: &mut i64,
+    answer: &mut [u64; 8],
 ) -> u64 {
     // SAFETY: each pointer and the length after it are those of one slice.
     // `total` and `answer`, which are written, are borrowed apart from each
     // other and from the others.
-    unsafe {
-        on_state!(basin_total_depth(
-            p,
-            h,
-            b,
-            u,
-            v,
-            total.as_mut_ptr(),
-            total.len(),
-            answer.as_mut_ptr(),
-            answer.len()
-        ))
-    }
+    unsafe { on_state!(basin_total_depth(p, h, b, u, v, total, answer)) }
 }
 
 /// The same of four times total energy.
@@ -481,25 +448,13 @@ pub fn total_energy(
     b: &[i64],
     u: &[i64],
     v: &[i64],
-    total: &mut [i64],
-    answer: &mut [u64],
+    total: &mut i64,
+    answer: &mut [u64; 8],
 ) -> u64 {
     // SAFETY: each pointer and the length after it are those of one slice.
     // `total` and `answer`, which are written, are borrowed apart from each
     // other and from the others.
-    unsafe {
-        on_state!(basin_total_energy(
-            p,
-            h,
-            b,
-            u,
-            v,
-            total.as_mut_ptr(),
-            total.len(),
-            answer.as_mut_ptr(),
-            answer.len()
-        ))
-    }
+    unsafe { on_state!(basin_total_energy(p, h, b, u, v, total, answer)) }
 }
 
 /// The number of the refusal, 0 where the first places of `record` have the
@@ -512,7 +467,7 @@ pub fn write(
     v: &[i64],
     timestamp: u64,
     record: &mut [u8],
-    answer: &mut [u64],
+    answer: &mut [u64; 8],
 ) -> u64 {
     // SAFETY: each pointer and the length after it are those of one slice.
     // `record` and `answer`, which are written, are borrowed apart from each
@@ -527,23 +482,21 @@ pub fn write(
             timestamp,
             record.as_mut_ptr(),
             record.len(),
-            answer.as_mut_ptr(),
-            answer.len()
+            answer
         ))
     }
 }
 
 /// The number of the refusal, 0 where `h`, `b`, `u` and `v` are filled, and
-/// `constants` with G, c and R, as far as there is room; `answer` as above,
-/// with w, n, kind and timestamp after a 0.
+/// `constants` with G, c and R; `answer` as above, with w, n, kind and timestamp after a 0.
 pub fn read(
     record: &[u8],
     h: &mut [i64],
     b: &mut [i64],
     u: &mut [i64],
     v: &mut [i64],
-    constants: &mut [i64],
-    answer: &mut [u64],
+    constants: &mut [i64; 3],
+    answer: &mut [u64; 8],
 ) -> u64 {
     // SAFETY: each pointer and the length after it are those of one slice.
     // All but `record`, which is only read, are borrowed apart from each other
@@ -560,17 +513,15 @@ pub fn read(
             u.len(),
             v.as_mut_ptr(),
             v.len(),
-            constants.as_mut_ptr(),
-            constants.len(),
-            answer.as_mut_ptr(),
-            answer.len(),
+            constants,
+            answer,
         )
     }
 }
 
 /// The number of the refusal; `answer` as above, with the record, 1 or 2,
 /// straight after it, or with what the comparison comes to after a 0.
-pub fn compare(first: &[u8], second: &[u8], answer: &mut [u64]) -> u64 {
+pub fn compare(first: &[u8], second: &[u8], answer: &mut [u64; 8]) -> u64 {
     // SAFETY: each pointer and the length after it are those of one slice.
     // `answer`, the only one written, is borrowed apart from the others.
     unsafe {
@@ -579,8 +530,7 @@ pub fn compare(first: &[u8], second: &[u8], answer: &mut [u64]) -> u64 {
             first.len(),
             second.as_ptr(),
             second.len(),
-            answer.as_mut_ptr(),
-            answer.len(),
+            answer,
         )
     }
 }
@@ -592,21 +542,11 @@ pub fn test_state(
     b: &[i64],
     u: &[i64],
     v: &[i64],
-    answer: &mut [u64],
+    answer: &mut [u64; 8],
 ) -> u64 {
     // SAFETY: each pointer and the length after it are those of one slice.
     // `answer`, the only one written, is borrowed apart from the others.
-    unsafe {
-        on_state!(basin_test_state(
-            p,
-            h,
-            b,
-            u,
-            v,
-            answer.as_mut_ptr(),
-            answer.len()
-        ))
-    }
+    unsafe { on_state!(basin_test_state(p, h, b, u, v, answer)) }
 }
 
 /// The same with a potential vorticity.
@@ -617,7 +557,7 @@ pub fn test_vorticity(
     u: &[i64],
     v: &[i64],
     q: &[i64],
-    answer: &mut [u64],
+    answer: &mut [u64; 8],
 ) -> u64 {
     // SAFETY: each pointer and the length after it are those of one slice.
     // `answer`, the only one written, is borrowed apart from the others.
@@ -630,8 +570,7 @@ pub fn test_vorticity(
             v,
             q.as_ptr(),
             q.len(),
-            answer.as_mut_ptr(),
-            answer.len()
+            answer
         ))
     }
 }
@@ -645,7 +584,7 @@ pub fn test_step(
     v: &[i64],
     inflow: &[i64],
     work: usize,
-    answer: &mut [u64],
+    answer: &mut [u64; 8],
 ) -> u64 {
     // SAFETY: each pointer and the length after it are those of one slice.
     // `answer`, the only one written, is borrowed apart from the others.
@@ -660,8 +599,7 @@ pub fn test_step(
             inflow.as_ptr(),
             inflow.len(),
             work,
-            answer.as_mut_ptr(),
-            answer.len()
+            answer
         ))
     }
 }
@@ -676,7 +614,7 @@ pub fn test_run(
     inflow: &[i64],
     steps: u64,
     work: usize,
-    answer: &mut [u64],
+    answer: &mut [u64; 8],
 ) -> u64 {
     // SAFETY: each pointer and the length after it are those of one slice.
     // `answer`, the only one written, is borrowed apart from the others.
@@ -692,8 +630,7 @@ pub fn test_run(
             inflow.len(),
             steps,
             work,
-            answer.as_mut_ptr(),
-            answer.len()
+            answer
         ))
     }
 }

@@ -1,15 +1,16 @@
 -- `basin::basin_step` meets its contract. Assumes nothing.
 use borrow.Author.Needs.{needs}
 use mir.Facts.{toZ-ofZ}
+use Rattle.telling.specs.Told.{told-by}
 use Rattle.basin.proofs.basin_step.Statement.{statement}
 use Rattle.basin.proofs.basin_step.Tie as tie
 
 returns : tie.Need-returns
 returns c =
-    let t = c .before .before in
-    let k = t .before .before .before .before .before in
-    let f = k .before .before .before .before .before .before .before .fits in
-    record { answer = k .step .result; promise = rw (toZ-ofZ (f .g), toZ-ofZ (f .c), toZ-ofZ (f .r)) at (k .step .ensures); told = t .tell-step .ensures }
+    let n = c .before in
+    let k = n .before .before .before .before .before .before in
+    let f = k .before .before .before .before .before .fits in
+    record { answer = k .step .result; promise = rw (toZ-ofZ (f .g), toZ-ofZ (f .c), toZ-ofZ (f .r)) at (k .step .ensures); told = told-by (n .step-numbers .ensures) (c .tell .ensures) }
 
 pub basin-step-spec : {M : Type 1} → statement M
 basin-step-spec =
@@ -17,7 +18,7 @@ basin-step-spec =
     (tie.spec
     (λ c κs. search needs)
     (λ c κs. search needs)
-    (λ c. search needs)
+    (λ c κs. search needs)
     (λ c. search needs)
     (λ c. search needs)
     (λ c. search needs)

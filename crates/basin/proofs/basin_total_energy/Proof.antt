@@ -1,20 +1,35 @@
 -- `basin::basin_total_energy` meets its contract. Assumes nothing.
 use borrow.Author.Needs.{needs}
+use mathlib.Core.Path.{ap, _∙_}
 use mir.Facts.{toZ-ofZ}
+use mir.Syntax.{w64}
+use lib.ListN.{getD}
+use Rattle.model.specs.Answers.{totalIn}
+use Rattle.integers.specs.Bounds.{held-is}
+use Rattle.telling.specs.Told.{told-by}
 use Rattle.basin.proofs.basin_total_energy.Statement.{statement}
 use Rattle.basin.proofs.basin_total_energy.Tie as tie
 
 returns : tie.Need-returns
 returns c =
-    let t = c .before .before .before in
-    let k = t .before in
-    let f = k .before .before .before .before .fits in
+    let n = c .before in
+    let o = n .before .before in
+    let k = o .before .before in
+    let f = k .before .fits in
+    let x = k .total-energy .result in
     record {
-      answer = k .total-energy .result;
+      answer = x;
       promise = rw (toZ-ofZ (f .g), toZ-ofZ (f .c), toZ-ofZ (f .r)) at (k .total-energy .ensures);
-      holds = t .tell-total .ensures .0;
-      told = t .tell-total .ensures .1;
+      holds = held-is w64 (o .total-or .ok) (o .total-or .ensures) ∙ ap (λ z. getD (totalIn x) 0 z) (toZ-ofZ {w = w64} {z = k .before .args .total .now} (record { sfits = o .before .total-or-arg .given }));
+      told = told-by (n .total-numbers .ensures) (c .tell .ensures);
     }
 
 pub basin-total-energy-spec : {M : Type 1} → statement M
-basin-total-energy-spec = tie.close (tie.spec (λ c κs. search needs) (λ c κs. search needs) (λ c. search needs) (λ c. search needs) returns)
+basin-total-energy-spec =
+    tie.close
+    (tie.spec
+    (λ c κs. search needs)
+    (λ c κs. search needs)
+    (λ c κs. search needs)
+    (λ c κs. search needs)
+    returns)

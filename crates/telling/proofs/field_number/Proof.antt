@@ -1,7 +1,7 @@
 -- `telling::field_number` meets its contract. Assumes nothing.
 use mathlib.Core.Path.{sym, ap}
-use borrow.Author.Needs.{needs}
 use Rattle.model.specs.Answers.{fieldNumber}
+use borrow.Author.Needs.{needs}
 use Rattle.telling.proofs.field_number.Statement.{statement}
 use Rattle.telling.proofs.field_number.Tie as tie
 

@@ -9,5 +9,6 @@ number-of-spec =
     tie.close
     (tie.spec
     (λ c κs. search needs)
-    (λ c. let n = c .before .refusal-numbers in record { fits = small (c .before .before .args .refusal) (n .result) (n .ensures) })
+    (λ c. search needs)
+    (λ c. record { fits = small (c .before .args .refusal) _ (c .refusal-numbers .ensures) })
     (λ c. search needs))

@@ -1,6 +1,5 @@
 -- `telling::refusal_numbers_of` meets its contract. Assumes nothing.
-use native.Mathlib.Omega.{arith}
-use Rattle.telling.proofs.Tells.{few, of-record}
+use Rattle.telling.proofs.Tells.{of-record}
 use borrow.Author.Needs.{needs}
 use Rattle.telling.proofs.refusal_numbers_of.Statement.{statement}
 use Rattle.telling.proofs.refusal_numbers_of.Tie as tie
@@ -10,5 +9,8 @@ refusal-numbers-of-spec =
     tie.close
     (tie.spec
     (λ c κs. search needs)
-    (λ c. let n = c .before .refusal-numbers in record { fits = omega (arith, few (c .before .before .args .refusal) (n .result) (n .ensures)) })
-    (λ c. let n = c .before .refusal-numbers in of-record (c .before .before .args .which) (c .before .before .args .refusal) (n .result) (n .ensures)))
+    (λ c. search needs)
+    (λ c. search needs)
+    (λ c. search needs)
+    (λ c. search needs)
+    (λ c. of-record (c .before .args .which) (c .before .args .refusal) _ (c .refusal-numbers .ensures)))

@@ -1,0 +1,14 @@
+-- `telling::test_numbers` meets its contract. Assumes nothing.
+use borrow.Author.Needs.{needs}
+use Rattle.telling.proofs.test_numbers.Statement.{statement}
+use Rattle.telling.proofs.test_numbers.Tie as tie
+
+pub test-numbers-spec : {M : Type 1} → statement M
+test-numbers-spec =
+    tie.close
+    (tie.spec
+    (λ c. search needs)
+    (λ c. search needs)
+    (λ c κs. search needs)
+    (λ c. rw (c .enum-told .given .1))
+    (λ c. rw (c .before .before .test .given .1) (c .refusal-numbers .ensures)))
