@@ -14,7 +14,7 @@ use cases::{small_size, Call, Case, H, U, V};
 fn total(case: &Case, at: &str) -> i128 {
     let outcome = compare(case, Call::TotalDepth, at);
     assert_eq!(outcome.told, [0], "{at}: {case:?}");
-    outcome.written.destinations[0][0].into()
+    outcome.written.total[0].into()
 }
 
 /// How often each thing happened over all the lists.

@@ -1,6 +1,6 @@
 //! The proved library against the independent version, call by call: random
 //! calls with every kind of fault, every bound from both sides, every size of
-//! grid in every kind, every pair of causes, and every size of answer slice.
+//! grid in every kind, every pair of causes, and whatever stands in the answer.
 //! (Where the tests pass a step, it may still leave a bound: stepping.rs. What
 //! the writer writes is read back in record.rs.)
 //!
@@ -10,9 +10,9 @@
 
 mod cases;
 
-use cases::calls::{call_raw, compare, expect, independent, Written, UNTOUCHED};
+use cases::calls::{answered, call_raw, compare, expect, independent, Written, UNANSWERED};
 use cases::common::Random;
-use cases::{add, random_case, record_size, Call, Case};
+use cases::{add, any_numbers, random_case, record_size, Call, Case};
 use cases::{BOUNDS, CALLS, FAULTS, FILLING, H, TOTALS, U, V};
 
 // ---- random calls
@@ -370,11 +370,16 @@ fn a_record_of_fewer_bytes_is_refused() {
 }
 
 #[test]
-fn a_total_takes_one_place_if_there_is_one() {
+fn a_refused_total_keeps_the_number_that_is_lent() {
+    let mut random = Random::new(8);
+    let ends = [i64::MIN, i64::MIN + 1, -1, 0, 1, i64::MAX];
     for call in TOTALS {
-        for length in 0..=13 {
+        for k in 0..14 {
             let mut case = Case::basin();
-            case.destinations = [length, 0, 0];
+            case.total = match ends.get(k) {
+                Some(&total) => total,
+                None => random.next() as i64,
+            };
             expect(&case, call, &[0], "a total");
             case.fields[H][5] = 999;
             expect(&case, call, &[4, 0, 5], "a refused total");
@@ -579,10 +584,7 @@ impl Cause {
             Cause::Gravity(_) | Cause::Coriolis(_) | Cause::SpacingRate(_) => (true, vec![3]),
             Cause::Value(field, cell, _) => (taken(&field), vec![4, field as u64, cell as u64]),
             Cause::Edge(field, cell) => (taken(&field), vec![5, field as u64, cell as u64]),
-            Cause::Destination(which, _) => {
-                let short = call.is_filling() && which < call.destinations();
-                (short, vec![8])
-            }
+            Cause::Destination(which, _) => (which < call.destinations(), vec![8]),
             Cause::Record(_) => (call == Call::Write, vec![8]),
         };
         looked_at.then_some(told)
@@ -622,15 +624,25 @@ fn of_two_causes_the_first_by_number_field_and_cell_is_told() {
 // ---- the C functions by themselves
 
 #[test]
-fn only_the_told_numbers_that_fit_are_written() {
+fn all_eight_places_are_set_whatever_stood_there() {
     let seed = 7;
     let mut random = Random::new(seed);
     let mut met = [0; 9];
     for number in 0..5_000 {
         let (mut case, faults) = random_case(&mut random);
         for call in CALLS {
-            for room in 0..=6 {
-                case.room = room;
+            // All of one kind; what an answer could be; anything.
+            let standing = [
+                [0; 8],
+                [1; 8],
+                [u64::MAX; 8],
+                [0, 0, 0, 0, 0, 0, 0, 1],
+                [6, 2, 3, 1, 9_999, 0, 0, 0],
+                UNANSWERED,
+                any_numbers(&mut random),
+            ];
+            for answer in standing {
+                case.answer = answer;
                 let at = format!("seed {seed}, case {number}, {faults:?}");
                 let told = compare(&case, call, &at).told;
                 met[told[0] as usize] += 1;
@@ -662,13 +674,11 @@ fn fields_that_are_read_may_be_the_same() {
         for call in CALLS {
             let expected = independent(&case, call);
             assert_eq!(expected.told[0], number, "{call:?}");
-            let mut answer = [UNTOUCHED; 6];
-            let mut answered = answer;
-            answered[..expected.told.len()].copy_from_slice(&expected.told);
+            let mut answer = UNANSWERED;
             let mut written = Written::before(&case, call);
             let told = call_raw(&case, call, lent, written.slices(), &mut answer);
             assert_eq!(told, number, "{call:?}");
-            assert_eq!(answer, answered, "{call:?}");
+            assert_eq!(answer, answered(&expected.told), "{call:?}");
             assert_eq!(written, expected.written, "{call:?}");
         }
     }

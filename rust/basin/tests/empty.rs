@@ -1,22 +1,23 @@
 //! Empty lists, and lists beside memory that nobody may touch. Every list of
 //! every call is empty by itself and together with the others: as a pointer to
 //! no memory at all, which an empty `Vec` has, as one between two fences, and as
-//! one to a page without access. Then lists of any length start or end beside
-//! such a page, so that a call that only reads there ends the test.
+//! one to a page without access. Then lists of any length, and the numbers that
+//! a call tells, start or end beside such a page, so that a call that only reads
+//! there ends the test.
 //!
 //! What is told and left is compared as everywhere ([`cases`]).
 
 mod cases;
 
 use basin::raw;
-use cases::calls::{answered, call_raw, expect, independent, junk, Written, UNTOUCHED};
+use cases::calls::{answered, array, call_raw, expect, independent, Written, UNANSWERED};
 use cases::changes::Changed;
 use cases::common::{record_of, Random};
 use cases::memory::{Guarded, Plain};
-use cases::records::{self, basin, compare_pair, expect_pair, expect_read, told_for};
+use cases::records::{self, basin, expect_pair, expect_read};
 use cases::records::{hex, of_record, Lent, TIMESTAMP};
-use cases::rounding::{compare_rnd, random_quotient};
-use cases::{random_case, Call, Case, CALLS};
+use cases::rounding::{self, random_quotient};
+use cases::{any_numbers, random_case, Call, Case, CALLS};
 
 // ---- empty lists
 
@@ -32,8 +33,8 @@ fn each_list_by_itself() {
         for which in 0..3 {
             let mut case = Case::basin();
             case.destinations[which] = 0;
-            let filled = call.is_filling() && which < call.destinations();
-            expect(&case, call, &[if filled { 8 } else { 0 }], "no destination");
+            let lent = which < call.destinations();
+            expect(&case, call, &[if lent { 8 } else { 0 }], "no destination");
         }
         let mut case = Case::basin();
         case.work = 0;
@@ -43,10 +44,6 @@ fn each_list_by_itself() {
         case.record = 0;
         let short = call == Call::Write;
         expect(&case, call, &[if short { 8 } else { 0 }], "no record");
-        // Nowhere to tell it, which is no cause of refusal.
-        let mut case = Case::basin();
-        case.room = 0;
-        expect(&case, call, &[0], "no answer");
     }
 }
 
@@ -55,8 +52,7 @@ fn nothing(w: usize, n: usize) -> Case {
     let mut case = Case::basin();
     (case.p.w, case.p.n) = (w, n);
     case.fields.iter_mut().for_each(Vec::clear);
-    (case.work, case.destinations) = (0, [0; 3]);
-    (case.record, case.room) = (0, 0);
+    (case.work, case.destinations, case.record) = (0, [0; 3], 0);
     case
 }
 
@@ -79,54 +75,33 @@ fn all_lists_at_once() {
 #[test]
 fn records_and_what_they_are_read_into() {
     let good = record_of(&basin(), TIMESTAMP);
-    let none = Lent {
-        fields: [0; 4],
-        constants: 0,
-        room: 0,
-    };
-    expect_read(&[], none, &[7, 0], "nothing");
+    expect_read(&[], Lent::enough(0), &[7, 0], "nothing");
     expect_read(&[], Lent::enough(6), &[7, 0], "no record");
-    expect_read(&good, none, &[8], "no room at all");
+    expect_read(&good, Lent::enough(0), &[8], "no room at all");
     for which in 0..4 {
         let mut lent = Lent::enough(6);
         lent.fields[which] = 0;
         expect_read(&good, lent, &[8], "no room for a field");
     }
-    // These two take what is told, and may be as short as they like.
-    let told = told_for(&basin(), TIMESTAMP);
-    for (constants, room) in [(0, 5), (3, 0), (0, 0)] {
-        let lent = Lent {
-            constants,
-            room,
-            ..Lent::enough(6)
-        };
-        expect_read(&good, lent, &told, "nowhere to tell it");
-    }
 
     expect_pair(&[], &[], &of_record(&[7, 0], 1), "two empty records");
     expect_pair(&[], &good, &of_record(&[7, 0], 1), "the first is empty");
     expect_pair(&good, &[], &of_record(&[7, 0], 2), "the second is empty");
-    for (first, second) in [(&good[..], &good[..]), (&good, &[]), (&[], &good)] {
-        compare_pair(first, second, 0, "no answer");
-    }
-}
-
-#[test]
-fn a_quotient_without_a_place() {
-    for (a, b) in [(5, 2), (-5, 2), (5, 0), (i64::MIN, i64::MAX)] {
-        compare_rnd(a, b, 0, "no place");
-    }
 }
 
 // ---- beside memory without access
 
-/// Room for every list that a call may be lent, each between two such pages.
+/// Room for every list that a call may be lent, and for what it tells, each
+/// between two such pages.
 struct Pages {
     fields: [Guarded; 6],
     destinations: [Guarded; 3],
+    total: Guarded,
     stepped: [Guarded; 3],
     work: Guarded,
     records: [Guarded; 2],
+    constants: Guarded,
+    rounded: Guarded,
     answer: Guarded,
     /// The lists end straight before a page, or else start straight after one.
     at_end: bool,
@@ -152,9 +127,12 @@ impl Pages {
         Pages {
             fields: [(); 6].map(|()| room()),
             destinations: [(); 3].map(|()| room()),
+            total: room(),
             stepped: [(); 3].map(|()| room()),
             work: room(),
             records: [(); 2].map(|()| room()),
+            constants: room(),
+            rounded: room(),
             answer: room(),
             at_end,
         }
@@ -166,21 +144,18 @@ impl Pages {
         let fields = lend_all(&mut self.fields, &case.fields, at_end);
         let mut lent = Written {
             destinations: lend_all(&mut self.destinations, &before.destinations, at_end),
+            total: self.total.lend(&before.total, at_end),
             stepped: lend_all(&mut self.stepped, &before.stepped, at_end),
             work: self.work.lend(&before.work, at_end),
             record: self.records[0].lend(&before.record, at_end),
         };
-        let answer = self.answer.lend(&vec![UNTOUCHED; case.room], at_end);
+        let answer = array(self.answer.lend(&case.answer, at_end));
         let read = fields.each_ref().map(|field| &**field);
         let number = call_raw(case, call, read, lent.slices(), answer);
 
         let expected = independent(case, call);
         assert_eq!(number, expected.told[0], "{at}: {call:?} {case:?}");
-        assert_eq!(
-            answer,
-            answered(&expected.told, case.room),
-            "{at}: {case:?}"
-        );
+        assert_eq!(*answer, answered(&expected.told), "{at}: {call:?} {case:?}");
         assert_eq!(lent.copied(), expected.written, "{at}: {call:?} {case:?}");
         assert_eq!(read, case.fields.each_ref().map(Vec::as_slice), "{at}");
         number
@@ -188,45 +163,43 @@ impl Pages {
 
     fn read(&mut self, record: &[u8], lent: Lent, at: &str) -> u64 {
         let before = records::Outcome::before(lent);
-        let [h, b, u, v] = before.fields;
-        let lists = [h, b, u, v, before.constants, vec![]];
-        let [h, b, u, v, constants, _] = lend_all(&mut self.fields, &lists, self.at_end);
-        let answer = self.answer.lend(&vec![UNTOUCHED; lent.room], self.at_end);
+        let rooms = self.fields.first_chunk_mut().expect("four of six");
+        let [h, b, u, v] = lend_all(rooms, &before.fields, self.at_end);
+        let constants = array(self.constants.lend(&lent.constants, self.at_end));
+        let answer = array(self.answer.lend(&lent.answer, self.at_end));
         let lent_record = self.records[0].lend(record, self.at_end);
         let number = raw::read(lent_record, h, b, u, v, constants, answer);
 
         let expected = records::independent(record, lent);
         assert_eq!(number, expected.told[0], "{at}: {}", hex(record));
-        assert_eq!(answer, answered(&expected.told, lent.room), "{at}");
+        assert_eq!(*answer, answered(&expected.told), "{at}: {}", hex(record));
         let fields = [h, b, u, v].map(|field| field.to_vec());
         assert_eq!(fields, expected.fields, "{at}: {}", hex(record));
-        assert_eq!(constants, expected.constants, "{at}: {}", hex(record));
+        assert_eq!(*constants, expected.constants, "{at}: {}", hex(record));
         assert_eq!(lent_record, record, "{at}");
         number
     }
 
-    fn compare(&mut self, first: &[u8], second: &[u8], room: usize, at: &str) -> u64 {
+    fn compare(&mut self, first: &[u8], second: &[u8], standing: [u64; 8], at: &str) -> u64 {
         let pair = [first, second].map(<[u8]>::to_vec);
-        let answer = self.answer.lend(&vec![UNTOUCHED; room], self.at_end);
+        let answer = array(self.answer.lend(&standing, self.at_end));
         let [one, other] = lend_all(&mut self.records, &pair, self.at_end);
         let number = raw::compare(one, other, answer);
 
         let told = records::independent_pair(first, second);
         assert_eq!(number, told[0], "{at}: {} {}", hex(first), hex(second));
-        assert_eq!(answer, answered(&told, room), "{at}");
+        assert_eq!(*answer, answered(&told), "{at}");
         assert_eq!([&*one, &*other], [first, second], "{at}");
         number
     }
 
-    fn rnd(&mut self, (a, b): (i64, i64), room: usize) {
-        let mut expected = junk(room, 0);
-        let places = self.fields[0].lend(&expected, self.at_end);
-        let number = raw::rnd(a, b, places);
-        if let (Some(place), Some(rounded)) = (expected.first_mut(), basin::rnd(a, b)) {
-            assert_eq!(number, 1, "{a} {b}");
-            *place = rounded;
-        }
-        assert_eq!(places, expected, "{a} {b}");
+    /// Whether the quotient is rounded; otherwise the number lent is kept.
+    fn rnd(&mut self, (a, b): (i64, i64), lent: i64) -> bool {
+        let rounded = self.rounded.lend(&[lent], self.at_end);
+        let number = raw::rnd(a, b, &mut rounded[0]);
+        let expected = rounding::expected(a, b, lent);
+        assert_eq!((number, rounded[0]), expected, "{a} {b} over {lent}");
+        number == 0
     }
 }
 
@@ -237,15 +210,10 @@ fn empty_lists_that_point_to_such_a_page() {
         assert_eq!(pages.call(&nothing(3, 2), call, "nothing"), 2);
         assert_eq!(pages.call(&nothing(0, 0), call, "nothing"), 1);
     }
-    let none = Lent {
-        fields: [0; 4],
-        constants: 0,
-        room: 0,
-    };
+    let none = Lent::enough(0);
     assert_eq!(pages.read(&[], none, "nothing"), 7);
     assert_eq!(pages.read(&record_of(&basin(), 1), none, "no room"), 8);
-    assert_eq!(pages.compare(&[], &[], 0, "nothing"), 7);
-    pages.rnd((5, 2), 0);
+    assert_eq!(pages.compare(&[], &[], UNANSWERED, "nothing"), 7);
 }
 
 #[test]
@@ -253,6 +221,8 @@ fn lists_that_start_or_end_beside_such_a_page() {
     let mut random = Random::new(81);
     // By number: of calls on a state, of reads, of comparisons.
     let mut met = [[0; 9]; 3];
+    // Quotients refused, and rounded.
+    let mut quotients = [0; 2];
     for at_end in [false, true] {
         let mut pages = Pages::new(at_end);
         for number in 0..1_500 {
@@ -273,16 +243,18 @@ fn lists_that_start_or_end_beside_such_a_page() {
             }
             met[1][pages.read(&record, lent, &at) as usize] += 1;
             for (first, second) in [(&record, &good), (&good, &record)] {
-                let told = pages.compare(first, second, random.below(6), &at);
+                let told = pages.compare(first, second, any_numbers(&mut random), &at);
                 met[2][told as usize] += 1;
             }
-            pages.rnd(random_quotient(&mut random), random.below(4));
+            let rounded = pages.rnd(random_quotient(&mut random), random.next() as i64);
+            quotients[usize::from(rounded)] += 1;
         }
     }
-    println!("{met:?}");
+    println!("{met:?} {quotients:?}");
     for number in [0, 1, 2, 3, 4, 5] {
         assert!(met.iter().all(|met| met[number] > 30), "{met:?}");
     }
     let others = [met[0][6], met[0][8], met[1][7], met[1][8], met[2][7]];
     assert!(others.iter().all(|&times| times > 30), "{met:?}");
+    assert!(quotients.iter().all(|&times| times > 30), "{quotients:?}");
 }

@@ -11,12 +11,12 @@
 mod cases;
 
 use basin::{raw, Refusal};
-use cases::calls::{answered, call_raw, compare, expect, independent, parameters};
-use cases::calls::{Written, FENCE, FENCE_BYTE, UNTOUCHED};
+use cases::calls::{answered, array, call_raw, compare, expect, independent, parameters};
+use cases::calls::{Written, FENCE, FENCE_BYTE, UNANSWERED, UNTOUCHED};
 use cases::common::{record_field, record_fields, record_of};
 use cases::memory::{Mapping, Plain};
 use cases::records::{self, basin, expect_pair, expect_state, independent_pair};
-use cases::records::{of_record, told_for, written, Lent, TIMESTAMP};
+use cases::records::{of_record, written, Lent, TIMESTAMP};
 use cases::{record_size, Call, Case, CALLS, H, S, U, V};
 
 // ---- numbers
@@ -219,7 +219,7 @@ fn call_with(
     list: List,
     long: &mut [i64],
     written: &mut Written,
-    answer: &mut [u64],
+    answer: &mut [u64; 8],
 ) -> u64 {
     let mut fields = case.fields.each_ref().map(Vec::as_slice);
     let mut lent = written.slices();
@@ -246,10 +246,10 @@ fn compare_with(call: Call, list: List, long: &mut [i64], at: &str) {
     };
     let long = Long::new(long, list.numbers(&case, &before), FENCE);
     let mut written = before.clone();
-    let mut answer = [UNTOUCHED; 6];
+    let mut answer = UNANSWERED;
     let number = call_with((&case, call), list, long.list, &mut written, &mut answer);
     assert_eq!(number, told[0], "{at}");
-    assert_eq!(answer.to_vec(), answered(told, 6), "{at}");
+    assert_eq!(answer, answered(told), "{at}");
     long.assert_left(list.numbers(&case, after), at);
     // The short list in its place was not lent.
     let mut expected = after.clone();
@@ -281,7 +281,7 @@ fn each_list_of_numbers_of_each_call() {
 }
 
 #[test]
-fn records_and_answers_that_are_long_places_to_write_to() {
+fn records_that_are_long_places_to_write_to() {
     let mut mapping = Mapping::long();
     let case = Case::basin();
     let expected = independent(&case, Call::Write);
@@ -293,22 +293,59 @@ fn records_and_answers_that_are_long_places_to_write_to() {
         let mut written = before.clone();
         let mut lent = written.slices();
         lent.record = long.list;
-        let mut answer = [UNTOUCHED; 2];
+        let mut answer = UNANSWERED;
         call_raw(&case, Call::Write, fields, lent, &mut answer);
-        assert_eq!(answer, [0, record_size(6) as u64]);
+        assert_eq!(answer, answered(&[0, record_size(6) as u64]));
         long.assert_left(&expected.written.record, "a long record");
     }
-    let all: &mut [u64] = mapping.list();
+}
+
+/// What is told has a pointer alone: of memory that goes on for long, only the
+/// one number, the three or the eight are written.
+#[test]
+fn what_is_told_at_the_start_of_long_memory() {
+    let (mut answers, mut numbers) = (Mapping::long(), Mapping::long());
+    let case = Case::basin();
+    let fields = case.fields.each_ref().map(Vec::as_slice);
     for call in CALLS {
         let expected = independent(&case, call);
-        for length in lengths(6, all.len()) {
-            let long = Long::new(&mut all[..length], &[UNTOUCHED; 6], UNTOUCHED);
-            let mut written = Written::before(&case, call);
-            call_raw(&case, call, fields, written.slices(), long.list);
-            assert_eq!(written, expected.written, "{call:?}");
-            long.assert_left(&answered(&expected.told, 6), "a long answer");
-        }
+        let mut written = Written::before(&case, call);
+        let answer = Long::new(answers.list(), &UNANSWERED, UNTOUCHED);
+        let total = Long::new(numbers.list(), &written.total, FENCE);
+        let mut lent = written.slices();
+        lent.total = &mut total.list[..total.part];
+        call_raw(&case, call, fields, lent, array(&mut answer.list[..8]));
+        answer.assert_left(&answered(&expected.told), "an answer");
+        total.assert_left(&expected.written.total, "a total");
+        // The one in its place was not lent.
+        written.total.clone_from(&expected.written.total);
+        assert_eq!(written, expected.written, "{call:?}");
     }
+
+    let (record, lent) = (record_of(&basin(), TIMESTAMP), Lent::enough(6));
+    let answer = Long::new(answers.list(), &UNANSWERED, UNTOUCHED);
+    let constants = Long::new(numbers.list(), &lent.constants, FENCE);
+    let [mut h, mut b, mut u, mut v] = records::Outcome::before(lent).fields;
+    raw::read(
+        &record,
+        &mut h,
+        &mut b,
+        &mut u,
+        &mut v,
+        array(&mut constants.list[..3]),
+        array(&mut answer.list[..8]),
+    );
+    let expected = records::independent(&record, lent);
+    assert_eq!([h, b, u, v], expected.fields);
+    constants.assert_left(&expected.constants, "constants");
+    answer.assert_left(&answered(&expected.told), "what is read");
+
+    let answer = Long::new(answers.list(), &UNANSWERED, UNTOUCHED);
+    raw::compare(&record, &record, array(&mut answer.list[..8]));
+    answer.assert_left(&[0; 8], "a comparison");
+    let rounded = Long::new(numbers.list(), &[FENCE], FENCE);
+    assert_eq!(raw::rnd(-5, 2, &mut rounded.list[0]), 0);
+    rounded.assert_left(&[-3], "a quotient");
 }
 
 #[test]
@@ -317,30 +354,23 @@ fn records_are_read_into_long_lists() {
     let all: &mut [i64] = mapping.list();
     let (record, lent) = (record_of(&basin(), TIMESTAMP), Lent::enough(6));
     let expected = records::independent(&record, lent);
-    let lists = |outcome: &records::Outcome| {
-        let [h, b, u, v] = outcome.fields.clone();
-        [h, b, u, v, outcome.constants.clone()]
-    };
-    for which in 0..5 {
-        let mut short = lists(&records::Outcome::before(lent));
+    for which in 0..4 {
+        let mut short = records::Outcome::before(lent).fields;
         let start = short[which].clone();
         for length in lengths(start.len(), all.len()) {
+            let at = format!("field {which} of {length}");
             let long = Long::new(&mut all[..length], &start, FENCE);
-            let mut lent = short.each_mut().map(Vec::as_mut_slice);
-            lent[which] = long.list;
-            let [h, b, u, v, constants] = lent;
-            let mut answer = [UNTOUCHED; 5];
-            raw::read(&record, h, b, u, v, constants, &mut answer);
-            assert_eq!(answer, told_for(&basin(), TIMESTAMP), "{which} {length}");
-            long.assert_left(&lists(&expected)[which], "a long list");
+            let mut fields = short.each_mut().map(Vec::as_mut_slice);
+            fields[which] = long.list;
+            let [h, b, u, v] = fields;
+            let (mut constants, mut answer) = (lent.constants, lent.answer);
+            raw::read(&record, h, b, u, v, &mut constants, &mut answer);
+            assert_eq!(answer, answered(&expected.told), "{at}");
+            assert_eq!(constants, expected.constants, "{at}");
+            long.assert_left(&expected.fields[which], &at);
         }
-        short[which] = lists(&expected)[which].clone();
-        assert_eq!(short, lists(&expected), "{which}");
-    }
-    for length in lengths(2, all.len()) {
-        let long = Long::new(&mut all[..length], &[FENCE; 2], FENCE);
-        assert_eq!(raw::rnd(-5, 2, long.list), 1);
-        long.assert_left(&[-3, FENCE], "a long list for a quotient");
+        short[which].clone_from(&expected.fields[which]);
+        assert_eq!(short, expected.fields, "{which}");
     }
 }
 
@@ -386,9 +416,9 @@ fn records_that_go_on_for_long() {
             ] {
                 let told = of_record(&[7, offset], which);
                 assert_eq!(independent_pair(first, second), told, "{at}");
-                let mut answer = [UNTOUCHED; 4];
+                let mut answer = UNANSWERED;
                 raw::compare(first, second, &mut answer);
-                assert_eq!(answer.to_vec(), answered(&told, 4), "{at}");
+                assert_eq!(answer, answered(&told), "{at}");
             }
             all[..start.len()].fill(0);
         }
@@ -404,9 +434,9 @@ fn refused_at(record: &[u8], offset: u64, at: &str) {
     let [h, b, u, v] = &mut left.fields;
     let expected = reference::read(record, h, b, u, v);
     assert_eq!(expected.told(), told.map(i128::from), "{at}");
-    let mut answer = [UNTOUCHED; 5];
+    let mut answer = UNANSWERED;
     raw::read(record, h, b, u, v, &mut left.constants, &mut answer);
-    assert_eq!(answer.to_vec(), answered(&told, 5), "{at}");
+    assert_eq!(answer, answered(&told), "{at}");
     assert_eq!(left, before, "{at}");
 }
 

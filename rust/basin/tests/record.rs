@@ -11,13 +11,14 @@
 
 mod cases;
 
+use cases::calls::UNANSWERED;
 use cases::changes::Changed;
 use cases::common::{any_state, random_state, within_limits, Random, SPREADS};
 use cases::common::{every_order, record_fields, record_of, two_cells};
 use cases::records::{answer_for, basin, TIMESTAMP};
 use cases::records::{compare_pair, compare_read, expect_pair, expect_read, expect_state};
 use cases::records::{field, hex, of_record, shuffled, written, Lent};
-use cases::{add, random_timestamp, Case, BOUNDS, U, V};
+use cases::{add, any_numbers, random_timestamp, Case, BOUNDS, U, V};
 use reference::{Parameters, State};
 
 // ---- good records
@@ -152,11 +153,10 @@ fn what_was_written_reads_back_and_what_was_read_writes_back() {
         let timestamp = random_timestamp(&mut random);
         let rising = written(&state, timestamp, &at);
         let record = shuffled(&mut random, &state, timestamp);
-        let mut lent = Lent::any(&mut random, state.h.len());
-        lent.constants = 3;
+        let lent = Lent::any(&mut random, state.h.len());
         for record in [&rising, &record] {
             let outcome = compare_read(record, lent, &at);
-            let read = outcome.state().expect("three constants are enough");
+            let read = outcome.state().expect("it was written so");
             assert_eq!(read, (state.clone(), timestamp), "{at}: {}", hex(record));
             // From another order the tags rise again.
             assert_eq!(written(&read.0, read.1, &at), rising, "{at}");
@@ -195,7 +195,7 @@ fn timestamps_of_every_bit_are_kept_and_compared_without_a_sign() {
 }
 
 #[test]
-fn only_what_fits_of_constants_and_answer_is_written() {
+fn constants_and_answers_are_set_or_kept_whatever_stood_there() {
     let good = record_of(&two_cells(), TIMESTAMP);
     let with = |change: fn(&mut State)| {
         let mut state = two_cells();
@@ -211,21 +211,41 @@ fn only_what_fits_of_constants_and_answer_is_written() {
         with(|s| s.parameters.kind = 2),
         good[..60].to_vec(),
     ];
+    let mut random = Random::new(75);
+    // All of one kind; G, c and R of this record or of another; anything.
+    let constants = [
+        [0; 3],
+        [i64::MIN; 3],
+        [i64::MAX; 3],
+        [9_810, -10, 1_000],
+        [1, 10_000, 1_000_000],
+        [(); 3].map(|()| random.next() as i64),
+    ];
+    let answers = [
+        [0; 8],
+        [1; 8],
+        [u64::MAX; 8],
+        [0, 0, 0, 0, 0, 0, 0, 1],
+        [0, 2, 1, 0, TIMESTAMP, 0, 0, 0],
+        [5, 2, 2, 0, 0, 0, 0, 0],
+        UNANSWERED,
+        any_numbers(&mut random),
+    ];
     let mut met = [0; 9];
     for record in &records {
-        for constants in 0..=5 {
-            for room in 0..=7 {
+        for constants in constants {
+            for answer in answers {
                 for cells in [1, 2] {
                     let lent = Lent {
                         constants,
-                        room,
+                        answer,
                         ..Lent::enough(cells)
                     };
-                    let told = compare_read(record, lent, "room").told;
+                    let told = compare_read(record, lent, "standing").told;
                     met[told[0] as usize] += 1;
                 }
-                compare_pair(record, &good, room, "room");
-                compare_pair(&good, record, room, "room");
+                compare_pair(record, &good, answer, "standing");
+                compare_pair(&good, record, answer, "standing");
             }
         }
     }
@@ -496,11 +516,11 @@ fn records_changed_at_random_are_answered_alike() {
             let accepted = [record != unchanged, record != rising].map(|other| accepted && other);
             add(&mut coverage.accepted, accepted);
             // With the record it was made from, and with the last one.
-            let room = random.below(6);
+            let answer = any_numbers(&mut random);
             for other in [&good, &last] {
-                let told = compare_pair(&record, other, room, &at);
+                let told = compare_pair(&record, other, answer, &at);
                 coverage.count_pair(&told);
-                let told = compare_pair(other, &record, room, &at);
+                let told = compare_pair(other, &record, answer, &at);
                 coverage.count_pair(&told);
             }
             last = record;

@@ -9,6 +9,7 @@
 
 mod cases;
 
+use cases::calls::UNANSWERED;
 use cases::common::{record_field, record_fields, record_of, two_cells, Random};
 use cases::records::{basin, TIMESTAMP};
 use cases::records::{compare_pair, compare_read, expect_read, expect_refused, expect_state};
@@ -88,8 +89,8 @@ fn every_bit_flipped_and_every_byte_set_to_any() {
     let mut check = |record: &[u8], which: usize| {
         let told = compare_read(record, Lent::enough(6), "a byte").told;
         met[which][told[0] as usize] += 1;
-        let as_first = compare_pair(record, &good, 4, "a byte");
-        let as_second = compare_pair(&good, record, 4, "a byte");
+        let as_first = compare_pair(record, &good, UNANSWERED, "a byte");
+        let as_second = compare_pair(&good, record, UNANSWERED, "a byte");
         if told[0] != 0 {
             assert_eq!(as_first, of_record(&told, 1), "{}", hex(record));
             assert_eq!(as_second, of_record(&told, 2), "{}", hex(record));
@@ -725,7 +726,7 @@ fn of_two_causes_the_first_of_7_1_2_8_3_4_5_is_told() {
             let without: Vec<_> = alone.iter().filter(|told| told[0] != 8).collect();
             let first = without.iter().min_by_key(|told| rank(told));
             let good = record_of(&basin(), TIMESTAMP);
-            let pair = compare_pair(&record, &good, 4, "causes");
+            let pair = compare_pair(&record, &good, UNANSWERED, "causes");
             let number = first.map_or(0, |told| told[0]);
             assert_eq!(pair[0], number, "{at}");
         }

@@ -3,6 +3,7 @@
 mod cases;
 
 use cases::add;
+use cases::calls::UNFILLED;
 use cases::common::Random;
 use cases::rounding::{compare_rnd, random_quotient, Rounded, MOST_A, MOST_B};
 
@@ -15,7 +16,7 @@ fn random_quotients_are_rounded_alike() {
         let mut random = Random::new(seed);
         for number in 0..150_000 {
             let (a, b) = random_quotient(&mut random);
-            let rounded = compare_rnd(a, b, 1, &format!("seed {seed}, case {number}"));
+            let rounded = compare_rnd(a, b, UNFILLED, &format!("seed {seed}, case {number}"));
             met[rounded as usize] += 1;
             if rounded == Rounded::Half {
                 halves[usize::from(a < 0)] += 1;
@@ -44,7 +45,7 @@ fn small_quotients_and_bounds_are_rounded_alike() {
     assert_eq!(basin::rnd(0, 9), Some(0));
     for b in 0..=60 {
         for a in -300..=300 {
-            compare_rnd(a, b, 1, "small");
+            compare_rnd(a, b, UNFILLED, "small");
         }
     }
     let beside = |x: i64| [x.saturating_sub(1), x, x.saturating_add(1)];
@@ -52,22 +53,22 @@ fn small_quotients_and_bounds_are_rounded_alike() {
     let ends_b = [i64::MIN, 0, 2, MOST_B / 2, MOST_B, i64::MAX].map(beside);
     for &a in ends_a.as_flattened() {
         for &b in ends_b.as_flattened() {
-            compare_rnd(a, b, 1, "at a bound");
+            compare_rnd(a, b, UNFILLED, "at a bound");
         }
     }
 }
 
 #[test]
-fn a_rounded_number_is_written_only_where_there_is_room() {
+fn a_refused_quotient_keeps_the_number_that_is_lent() {
     let mut random = Random::new(13);
     let quotients = [(5, 2), (-7, 3), (MOST_A + 1, 2), (5, 0), (5, MOST_B + 1)];
-    for room in [0, 1, 2, 5] {
+    for lent in [i64::MIN, -1, 0, i64::MAX] {
         for k in 0..1_000 {
             let (a, b) = match quotients.get(k) {
                 Some(&quotient) => quotient,
                 None => random_quotient(&mut random),
             };
-            compare_rnd(a, b, room, "room");
+            compare_rnd(a, b, lent, "a number lent");
         }
     }
 }

@@ -9,26 +9,25 @@
 
 mod cases;
 
-use cases::calls::{compare, rates};
+use cases::calls::{compare, rates, Written};
 use cases::common::{literal, Random};
-use cases::{add, random_size, Call, Case, BOUNDS, H, Q, U, V};
+use cases::{add, random_size, Call, Case, BOUNDS, H, Q, TOTALS, U, V};
 
-/// What both fill in, where both accept.
-fn filled(case: &Case, call: Call, at: &str) -> [Vec<i64>; 3] {
+/// What both write, where both accept.
+fn accepted(case: &Case, call: Call, at: &str) -> Written {
     let outcome = compare(case, call, at);
     assert_eq!(outcome.told, [0], "{at}: {call:?} {case:?}");
-    outcome.written.destinations
+    outcome.written
+}
+
+fn filled(case: &Case, call: Call, at: &str) -> [Vec<i64>; 3] {
+    accepted(case, call, at).destinations
 }
 
 /// Total depth and four times total energy, which are those of 01's formulas
 /// taken literally.
 fn totals(case: &Case, at: &str) -> [i64; 2] {
-    let mut case = case.clone();
-    case.destinations[0] = 1;
-    let totals = [Call::TotalDepth, Call::TotalEnergy].map(|call| {
-        let [total, ..] = filled(&case, call, at);
-        total[0]
-    });
+    let totals = TOTALS.map(|call| accepted(case, call, at).total[0]);
     let depth: i64 = case.fields[H].iter().sum();
     let energy = literal::energy(&case.state());
     assert_eq!(

@@ -29,7 +29,7 @@ use cases::common::Random;
 use cases::lists::{take_stepped, Entry};
 use cases::records::{answer_for, compare_pair, compare_read, expect_state, Lent};
 use cases::rounding::{compare_rnd, random_quotient, Rounded};
-use cases::{put_faults, random_timestamp, Call, Case, CALLS, Q};
+use cases::{any_numbers, put_faults, random_timestamp, Call, Case, CALLS, Q};
 use reference::State;
 
 /// Places in [`Soak::told`] after those of the calls on a state.
@@ -67,15 +67,15 @@ impl Soak {
         self.told[READ][told[0] as usize] += 1;
     }
 
-    fn compare(&mut self, first: &[u8], second: &[u8], room: usize, at: &str) -> Vec<u64> {
-        let told = compare_pair(first, second, room, at);
+    fn compare(&mut self, first: &[u8], second: &[u8], answer: [u64; 8], at: &str) -> Vec<u64> {
+        let told = compare_pair(first, second, answer, at);
         self.told[COMPARE][told[0] as usize] += 1;
         told
     }
 
     fn rnd(&mut self, random: &mut Random, at: &str) {
         let (a, b) = random_quotient(random);
-        let rounded = compare_rnd(a, b, random.below(4), at);
+        let rounded = compare_rnd(a, b, random.next() as i64, at);
         self.told[RND][usize::from(rounded == Rounded::Refused)] += 1;
     }
 }
@@ -133,9 +133,9 @@ impl Soak {
             lent.fields[random.below(4)] = random.below(changed.cells + 1);
         }
         self.read(record, lent, at);
-        let room = random.below(6);
-        self.compare(record, good, room, at);
-        self.compare(good, record, room, at);
+        let answer = any_numbers(random);
+        self.compare(record, good, answer, at);
+        self.compare(good, record, answer, at);
     }
 }
 
@@ -187,7 +187,7 @@ impl Soak {
 
     fn total(&mut self, case: &Case, at: &str) -> i128 {
         let outcome = self.call(case, Call::TotalDepth, at);
-        outcome.written.destinations[0][0].into()
+        outcome.written.total[0].into()
     }
 
     /// A call or some on the state that a step or run left.
@@ -228,13 +228,13 @@ impl Soak {
         self.told[READ][0] += 1;
         if let Some(last) = last {
             let answer = answer_for(last.timestamp, timestamp, last.state == state);
-            let told = self.compare(&last.record, &record, 4, at);
+            let told = self.compare(&last.record, &record, case.answer, at);
             assert_eq!(told, [0, answer], "{at}: two records");
         }
         let mut damaged = record.clone();
         change_bytes(random, &mut damaged);
         self.read(&damaged, lent, at);
-        self.compare(&record, &damaged, 4, at);
+        self.compare(&record, &damaged, case.answer, at);
         Last {
             record,
             state,

@@ -7,9 +7,21 @@ use super::common::literal::{self, Three};
 use super::{record_size, Call, Case, H, Q, U, V};
 
 /// Numbers that no call gives.
-pub const UNTOUCHED: u64 = 0x5555_5555_5555_5555;
 pub const FENCE: i64 = 0x3333_3333_3333_3333;
 pub const UNFILLED: i64 = i64::MIN;
+/// The number beside an answer, and what stands in an answer before a call, no
+/// two the same.
+pub const UNTOUCHED: u64 = 0x5555_5555_5555_5555;
+pub const UNANSWERED: [u64; 8] = [
+    UNTOUCHED + 1,
+    UNTOUCHED + 2,
+    UNTOUCHED + 3,
+    UNTOUCHED + 4,
+    UNTOUCHED + 5,
+    UNTOUCHED + 6,
+    UNTOUCHED + 7,
+    UNTOUCHED + 8,
+];
 /// A byte beside a record.
 pub const FENCE_BYTE: u8 = 0xA5;
 
@@ -26,8 +38,10 @@ pub struct Outcome {
 /// lent none.
 #[derive(Clone, Debug, PartialEq)]
 pub struct Written<T = Vec<i64>, R = Vec<u8>> {
-    /// q, or dh, du, dv, or a total.
+    /// q, or dh, du, dv.
     pub destinations: [T; 3],
+    /// One number.
+    pub total: T,
     /// h, u, v of a step or run, and its work space.
     pub stepped: [T; 3],
     pub work: T,
@@ -67,6 +81,7 @@ impl Written {
             destinations: std::array::from_fn(|k| {
                 junk(lent(k < call.destinations(), case.destinations[k]), k)
             }),
+            total: vec![case.total; lent(call.is_total(), 1)],
             stepped,
             work: junk(lent(call.is_stepping(), case.lent_work()), 3),
             record: (0..lent(call == Call::Write, case.record))
@@ -79,6 +94,7 @@ impl Written {
         let fenced = |numbers: &Vec<i64>| fenced(numbers, FENCE);
         Written {
             destinations: self.destinations.each_ref().map(fenced),
+            total: fenced(&self.total),
             stepped: self.stepped.each_ref().map(fenced),
             work: fenced(&self.work),
             record: self::fenced(&self.record, FENCE_BYTE),
@@ -88,6 +104,7 @@ impl Written {
     fn inside_fences(&mut self) -> Written<&mut [i64], &mut [u8]> {
         Written {
             destinations: self.destinations.each_mut().map(|list| inside(list)),
+            total: inside(&mut self.total),
             stepped: self.stepped.each_mut().map(|list| inside(list)),
             work: inside(&mut self.work),
             record: inside(&mut self.record),
@@ -99,6 +116,7 @@ impl<T: AsMut<[i64]>, R: AsMut<[u8]>> Written<T, R> {
     pub fn slices(&mut self) -> Written<&mut [i64], &mut [u8]> {
         Written {
             destinations: self.destinations.each_mut().map(T::as_mut),
+            total: self.total.as_mut(),
             stepped: self.stepped.each_mut().map(T::as_mut),
             work: self.work.as_mut(),
             record: self.record.as_mut(),
@@ -110,6 +128,7 @@ impl Written<&mut [i64], &mut [u8]> {
     pub fn copied(&self) -> Written {
         Written {
             destinations: self.destinations.each_ref().map(|list| list.to_vec()),
+            total: self.total.to_vec(),
             stepped: self.stepped.each_ref().map(|list| list.to_vec()),
             work: self.work.to_vec(),
             record: self.record.to_vec(),
@@ -168,20 +187,13 @@ fn told_run(result: Result<Ran, Refusal>) -> Vec<u64> {
 }
 
 fn told_total(result: Result<i64, Refusal>, total: &mut [i64]) -> Vec<u64> {
-    told(result.map(|number| put_total(number, total)))
+    told(result.map(|number| total[0] = number))
 }
 
 fn told_write(result: Result<usize, Refusal>) -> Vec<u64> {
     match result {
         Ok(bytes) => vec![0, bytes as u64],
         Err(refusal) => told(Err(refusal)),
-    }
-}
-
-/// Where there is a place for it.
-fn put_total(number: i64, total: &mut [i64]) {
-    if let Some(place) = total.first_mut() {
-        *place = number;
     }
 }
 
@@ -236,8 +248,8 @@ fn proved(case: &Case, call: Call) -> Outcome {
         Call::Run => told_run(basin::run(
             p, h_stepped, b, u_stepped, v_stepped, s, steps, lent.work,
         )),
-        Call::TotalDepth => told_total(basin::total_depth(p, h, b, u, v), first),
-        Call::TotalEnergy => told_total(basin::total_energy(p, h, b, u, v), first),
+        Call::TotalDepth => told_total(basin::total_depth(p, h, b, u, v), lent.total),
+        Call::TotalEnergy => told_total(basin::total_energy(p, h, b, u, v), lent.total),
         Call::Write => told_write(basin::write(p, h, b, u, v, timestamp, lent.record)),
     };
     Outcome { told, written }
@@ -262,7 +274,7 @@ pub fn independent(case: &Case, call: Call) -> Outcome {
     // The total goes to its place, and is not told.
     let mut total = |answer: TotalAnswer| {
         if let TotalAnswer::Total(number) = answer {
-            put_total(number, first);
+            lent.total[0] = number;
             return vec![0];
         }
         answer.told()
@@ -298,7 +310,7 @@ pub fn call_raw(
     call: Call,
     fields: [&[i64]; 6],
     lent: Written<&mut [i64], &mut [u8]>,
-    answer: &mut [u64],
+    answer: &mut [u64; 8],
 ) -> u64 {
     let p = &parameters(case);
     let [h, b, u, v, q, s] = fields;
@@ -321,8 +333,8 @@ pub fn call_raw(
         Call::Run => raw::run(
             p, h_stepped, b, u_stepped, v_stepped, s, steps, lent.work, answer,
         ),
-        Call::TotalDepth => raw::total_depth(p, h, b, u, v, first, answer),
-        Call::TotalEnergy => raw::total_energy(p, h, b, u, v, first, answer),
+        Call::TotalDepth => raw::total_depth(p, h, b, u, v, &mut lent.total[0], answer),
+        Call::TotalEnergy => raw::total_energy(p, h, b, u, v, &mut lent.total[0], answer),
         Call::Write => raw::write(p, h, b, u, v, timestamp, lent.record, answer),
     }
 }
@@ -365,19 +377,19 @@ pub fn expect(case: &Case, call: Call, told: &[u64], at: &str) {
 fn compare_raw(case: &Case, call: Call, before: &Written, expected: &Outcome, at: &str) {
     let fields = case.fields.each_ref().map(|field| fenced(field, FENCE));
     let mut written = before.fenced();
-    let mut answer = fenced(&vec![UNTOUCHED; case.room], UNTOUCHED);
+    let mut answer = fenced(&case.answer, UNTOUCHED);
 
     let number = call_raw(
         case,
         call,
         fields.each_ref().map(|field| &field[1..field.len() - 1]),
         written.inside_fences(),
-        inside(&mut answer),
+        array(inside(&mut answer)),
     );
 
     let told = &expected.told;
     assert_eq!(number, told[0], "{}", sides(case, call, at));
-    let answered = fenced(&answered(told, case.room), UNTOUCHED);
+    let answered = fenced(&answered(told), UNTOUCHED);
     assert_eq!(answer, answered, "{}", sides(case, call, at));
     let expected = expected.written.fenced();
     assert_eq!(written, expected, "{}", sides(case, call, at));
@@ -387,12 +399,11 @@ fn compare_raw(case: &Case, call: Call, before: &Written, expected: &Outcome, at
     }
 }
 
-/// What a slice for the answer holds after a call that tells this.
-pub fn answered(told: &[u64], room: usize) -> Vec<u64> {
-    let mut answer = vec![UNTOUCHED; room];
-    for (place, number) in answer.iter_mut().zip(told) {
-        *place = *number;
-    }
+/// The eight places of the answer after a call that tells this: the numbers
+/// told, and then 0.
+pub fn answered(told: &[u64]) -> [u64; 8] {
+    let mut answer = [0; 8];
+    answer[..told.len()].copy_from_slice(told);
     answer
 }
 
@@ -413,27 +424,39 @@ pub fn inside<T>(fenced: &mut [T]) -> &mut [T] {
     &mut fenced[1..last]
 }
 
+/// A list of just so many numbers, as the array that a call is lent.
+pub fn array<T, const N: usize>(numbers: &mut [T]) -> &mut [T; N] {
+    numbers.try_into().expect("a list of that length")
+}
+
 /// What 01 says of all that is lent, whatever the numbers: a refused call
-/// leaves its destinations and its record, an accepted one fills their first
-/// places and leaves the others; without a step done h, u and v are left; the
-/// work space is cleared after tests 1 and 2, and not past its first 8·w·n
-/// numbers.
+/// leaves its destinations, its total and its record, an accepted one gives the
+/// total, fills the first places and leaves the others; without a step done h, u
+/// and v are left; the work space is cleared after tests 1 and 2, and not past
+/// its first 8·w·n numbers.
 fn assert_left(case: &Case, call: Call, before: &Written, got: &Outcome, at: &str) {
     let cells = case.p.w.wrapping_mul(case.p.n);
     let filled = match got.told[0] {
-        0 => call.places_filled(cells),
+        0 => cells,
         _ => 0,
     };
     let lists = got.written.destinations.iter().zip(&before.destinations);
-    for (after, before) in lists {
-        let rest = filled.min(before.len());
+    for (after, before) in lists.take(call.destinations()) {
         assert_eq!(
-            after[rest..],
-            before[rest..],
+            after[filled..],
+            before[filled..],
             "{at}: left by {call:?} {case:?}"
         );
-        let all = after[..rest].iter().all(|&x| x >= UNFILLED / 2);
+        let all = after[..filled].iter().all(|&x| x >= UNFILLED / 2);
         assert!(all, "{at}: not filled by {call:?} {case:?}");
+    }
+    if call.is_total() {
+        let (after, before) = (&got.written.total, &before.total);
+        match got.told[0] {
+            // No water is without depth or energy.
+            0 => assert!(after[0] > 0, "{at}: {after:?} by {call:?} {case:?}"),
+            _ => assert_eq!(after, before, "{at}: left by {call:?} {case:?}"),
+        }
     }
     if call == Call::Write {
         let length = match got.told[..] {

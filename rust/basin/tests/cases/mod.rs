@@ -14,6 +14,7 @@ pub mod rounding;
 #[path = "../../../reference/tests/common/mod.rs"]
 pub mod common;
 
+use calls::{UNANSWERED, UNFILLED};
 use common::{literal, numbers, random_q, random_state, Random, Spread, SPREADS};
 use reference::{Parameters, State};
 
@@ -107,22 +108,17 @@ impl Call {
         STEPPING.contains(&self)
     }
 
-    /// How many destinations the call is lent, but for a record.
-    pub fn destinations(self) -> usize {
-        match self {
-            Call::TestState | Call::TestVorticity | Call::TestStep | Call::TestRun => 0,
-            Call::Step | Call::Run | Call::Write => 0,
-            Call::PotentialVorticity | Call::TotalDepth | Call::TotalEnergy => 1,
-            Call::Tendencies => 3,
-        }
+    /// Whether the call is lent a number for a total.
+    pub fn is_total(self) -> bool {
+        TOTALS.contains(&self)
     }
 
-    /// How many places of each it fills, if they are there.
-    pub fn places_filled(self, cells: usize) -> usize {
-        if TOTALS.contains(&self) {
-            1
-        } else {
-            cells
+    /// How many fields the call is lent to be filled.
+    pub fn destinations(self) -> usize {
+        match self {
+            Call::PotentialVorticity => 1,
+            Call::Tendencies => 3,
+            _ => 0,
         }
     }
 }
@@ -135,13 +131,14 @@ pub struct Case {
     pub fields: [Vec<i64>; 6],
     pub steps: u64,
     pub work: usize,
-    /// Lengths of the destinations: q, or dh, du, dv, or a total.
+    /// Lengths of the destinations: q, or dh, du, dv.
     pub destinations: [usize; 3],
     pub timestamp: u64,
     /// Bytes for the record.
     pub record: usize,
-    /// Places for the answer.
-    pub room: usize,
+    /// What stands in the total and in the answer before the call.
+    pub total: i64,
+    pub answer: [u64; 8],
 }
 
 impl Case {
@@ -163,7 +160,8 @@ impl Case {
             destinations: [cells; 3],
             timestamp: 0,
             record: record_size(cells),
-            room: 5,
+            total: UNFILLED,
+            answer: UNANSWERED,
         }
     }
 
@@ -256,7 +254,8 @@ impl Case {
         case.destinations = [(); 3].map(|()| cells + random.pick(&[0, 0, 1, 5]));
         case.timestamp = random_timestamp(random);
         case.record += random.pick(&[0, 0, 1, 5, 60]);
-        case.room = random.below(7);
+        case.total = random.next() as i64;
+        case.answer = any_numbers(random);
         case
     }
 
@@ -715,6 +714,11 @@ pub fn random_timestamp(random: &mut Random) -> u64 {
         1 => random.next() >> random.below(64),
         _ => random.next(),
     }
+}
+
+/// Eight numbers that may stand in an answer before a call.
+pub fn any_numbers(random: &mut Random) -> [u64; 8] {
+    [(); 8].map(|()| random_timestamp(random))
 }
 
 /// 01's number of bytes of a record of so many cells.

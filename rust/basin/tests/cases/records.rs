@@ -7,10 +7,10 @@ use std::cmp::Ordering;
 use basin::{raw, Comparison, Read, Refusal, Refused};
 use reference::{Parameters, ReadAnswer, State};
 
-use super::calls::{self, answered, fenced, inside, junk, told};
-use super::calls::{FENCE, FENCE_BYTE, UNFILLED, UNTOUCHED};
+use super::calls::{self, answered, array, fenced, inside, junk, told};
+use super::calls::{FENCE, FENCE_BYTE, UNANSWERED, UNFILLED, UNTOUCHED};
 use super::common::{record_fields, record_of, two_cells, within_limits, Random};
-use super::{record_size, Call, Case};
+use super::{any_numbers, record_size, Call, Case};
 
 pub fn hex(record: &[u8]) -> String {
     record.iter().map(|byte| format!("{byte:02X}")).collect()
@@ -47,14 +47,14 @@ pub fn field(state: &mut State, which: usize) -> &mut Vec<i64> {
 
 // ---- reading
 
-/// What is lent to a read beside the record, by its lengths.
+/// What is lent to a read beside the record.
 #[derive(Clone, Copy, Debug, PartialEq)]
 pub struct Lent {
-    /// h, b, u, v
+    /// Lengths of h, b, u, v.
     pub fields: [usize; 4],
-    pub constants: usize,
-    /// Places for the answer.
-    pub room: usize,
+    /// What stands in the constants and in the answer before the call.
+    pub constants: [i64; 3],
+    pub answer: [u64; 8],
 }
 
 impl Lent {
@@ -62,18 +62,19 @@ impl Lent {
     pub fn enough(cells: usize) -> Self {
         Lent {
             fields: [cells; 4],
-            constants: 3,
-            room: 5,
+            // More than four bytes of a record make.
+            constants: [1, 2, 3].map(|k| UNFILLED / 2 + k),
+            answer: UNANSWERED,
         }
     }
 
-    /// Enough for so many cells, or more, and any places for constants and
-    /// answer.
+    /// Enough for so many cells, or more, and any numbers in the constants and
+    /// in the answer.
     pub fn any(random: &mut Random, cells: usize) -> Self {
         Lent {
             fields: [(); 4].map(|()| cells + random.pick(&[0, 0, 1, 5])),
-            constants: random.below(6),
-            room: random.below(7),
+            constants: [(); 3].map(|()| random.next() as i64),
+            answer: any_numbers(random),
         }
     }
 }
@@ -87,7 +88,7 @@ pub struct Outcome {
     /// h, b, u, v
     pub fields: [Vec<i64>; 4],
     /// G, c, R
-    pub constants: Vec<i64>,
+    pub constants: [i64; 3],
 }
 
 impl Outcome {
@@ -96,11 +97,7 @@ impl Outcome {
         Outcome {
             told: vec![],
             fields: std::array::from_fn(|k| junk(lent.fields[k], k)),
-            // No number of a field's.
-            constants: junk(lent.constants, 0)
-                .iter()
-                .map(|x| x - UNFILLED / 4)
-                .collect(),
+            constants: lent.constants,
         }
     }
 
@@ -108,19 +105,19 @@ impl Outcome {
         self.told[0] == 0
     }
 
-    /// The state and timestamp that were read, where the constants had room.
+    /// The state and timestamp that were read, if one was.
     pub fn state(&self) -> Option<(State, u64)> {
-        let ([0, w, n, kind, timestamp], [g, c, r, ..]) = (&self.told[..], &self.constants[..])
-        else {
+        let [0, w, n, kind, timestamp] = self.told[..] else {
             return None;
         };
+        let [g, c, r] = self.constants;
         let parameters = Parameters {
-            w: *w as usize,
-            n: *n as usize,
-            kind: *kind as u8,
-            g: *g,
-            c: *c,
-            r: *r,
+            w: w as usize,
+            n: n as usize,
+            kind: kind as u8,
+            g,
+            c,
+            r,
         };
         let cells = parameters.w * parameters.n;
         let [h, b, u, v] = self.fields.each_ref().map(|field| field[..cells].to_vec());
@@ -131,14 +128,7 @@ impl Outcome {
             u,
             v,
         };
-        Some((state, *timestamp))
-    }
-}
-
-/// As far as there is room.
-fn put_constants(constants: &mut [i64], numbers: [i64; 3]) {
-    for (place, number) in constants.iter_mut().zip(numbers) {
-        *place = number;
+        Some((state, timestamp))
     }
 }
 
@@ -151,7 +141,7 @@ pub fn independent(record: &[u8], lent: Lent) -> Outcome {
             parameters: p,
             timestamp,
         } => {
-            put_constants(&mut outcome.constants, [p.g, p.c, p.r]);
+            outcome.constants = [p.g, p.c, p.r];
             vec![0, p.w as u64, p.n as u64, p.kind.into(), timestamp]
         }
         ReadAnswer::Refused(refusal) => refusal.told().iter().map(|&x| x as u64).collect(),
@@ -168,7 +158,7 @@ fn proved(record: &[u8], lent: Lent) -> Outcome {
             parameters: p,
             timestamp,
         }) => {
-            put_constants(&mut outcome.constants, [p.g, p.c, p.r]);
+            outcome.constants = [p.g, p.c, p.r];
             vec![0, p.w as u64, p.n as u64, p.kind.into(), timestamp]
         }
         Err(refusal) => told(Err(refusal)),
@@ -189,7 +179,7 @@ pub fn compare_read(record: &[u8], lent: Lent, at: &str) -> Outcome {
     let before = Outcome::before(lent);
     let mut fields = before.fields.each_ref().map(|field| fenced(field, FENCE));
     let mut constants = fenced(&before.constants, FENCE);
-    let mut answer = fenced(&vec![UNTOUCHED; lent.room], UNTOUCHED);
+    let mut answer = fenced(&lent.answer, UNTOUCHED);
     let [h, b, u, v] = fields.each_mut().map(|field| inside(field));
     let number = raw::read(
         &fenced_record[1..=record.len()],
@@ -197,16 +187,12 @@ pub fn compare_read(record: &[u8], lent: Lent, at: &str) -> Outcome {
         b,
         u,
         v,
-        inside(&mut constants),
-        inside(&mut answer),
+        array(inside(&mut constants)),
+        array(inside(&mut answer)),
     );
     assert_eq!(number, expected.told[0], "{}", sides());
-    assert_eq!(
-        answer,
-        fenced(&answered(&expected.told, lent.room), UNTOUCHED),
-        "{}",
-        sides()
-    );
+    let left = fenced(&answered(&expected.told), UNTOUCHED);
+    assert_eq!(answer, left, "{}", sides());
     let left = expected.fields.each_ref().map(|field| fenced(field, FENCE));
     assert_eq!(fields, left, "{}", sides());
     let left = fenced(&expected.constants, FENCE);
@@ -232,8 +218,8 @@ fn assert_untouched(fenced: &[u8], record: &[u8], at: &str) {
 }
 
 /// What 01 says of all that is lent, whatever the numbers: a refused read leaves
-/// everything, an accepted one fills the first places with a state within the
-/// limits and leaves the others.
+/// everything, an accepted one gives a state within the limits, in the constants
+/// and in the first places of the fields, and leaves the other places.
 fn assert_left(record: &[u8], before: &Outcome, got: &Outcome, at: &str) {
     if !got.is_accepted() {
         let left = got.fields == before.fields && got.constants == before.constants;
@@ -246,18 +232,15 @@ fn assert_left(record: &[u8], before: &Outcome, got: &Outcome, at: &str) {
         let (after, before) = (&after[cells..], &before[cells..]);
         assert_eq!(after, before, "{at}: not left by {}", hex(record));
     }
-    let constants = got.constants.len().min(3);
-    let (after, before) = (&got.constants[constants..], &before.constants[constants..]);
-    assert_eq!(after, before, "{at}: not left by {}", hex(record));
-    if let Some((state, _)) = got.state() {
-        assert!(within_limits(&state), "{at}: read from {}", hex(record));
-    }
+    let (state, _) = got.state().expect("one was read");
+    assert!(within_limits(&state), "{at}: read from {}", hex(record));
 }
 
 // ---- comparing
 
-/// What both tell; `at` is where the records came from.
-pub fn compare_pair(first: &[u8], second: &[u8], room: usize, at: &str) -> Vec<u64> {
+/// What both tell, whatever stands in the answer before; `at` is where the
+/// records came from.
+pub fn compare_pair(first: &[u8], second: &[u8], answer: [u64; 8], at: &str) -> Vec<u64> {
     let sides = || {
         let (first, second) = (hex(first), hex(second));
         format!("{at}: the proved library (left) and the independent version (right) compare {first} with {second}")
@@ -265,19 +248,15 @@ pub fn compare_pair(first: &[u8], second: &[u8], room: usize, at: &str) -> Vec<u
     let expected = independent_pair(first, second);
 
     let fenced_records = [first, second].map(|record| fenced(record, FENCE_BYTE));
-    let mut answer = fenced(&vec![UNTOUCHED; room], UNTOUCHED);
+    let mut answer = fenced(&answer, UNTOUCHED);
     let number = raw::compare(
         &fenced_records[0][1..=first.len()],
         &fenced_records[1][1..=second.len()],
-        inside(&mut answer),
+        array(inside(&mut answer)),
     );
     assert_eq!(number, expected[0], "{}", sides());
-    assert_eq!(
-        answer,
-        fenced(&answered(&expected, room), UNTOUCHED),
-        "{}",
-        sides()
-    );
+    let left = fenced(&answered(&expected), UNTOUCHED);
+    assert_eq!(answer, left, "{}", sides());
     for (after, record) in fenced_records.iter().zip([first, second]) {
         assert_untouched(after, record, at);
     }
@@ -320,7 +299,7 @@ pub fn answer_for(time: u64, other_time: u64, same: bool) -> u64 {
 
 /// Both tell this.
 pub fn expect_pair(first: &[u8], second: &[u8], told: &[u64], at: &str) {
-    let got = compare_pair(first, second, 4, at);
+    let got = compare_pair(first, second, UNANSWERED, at);
     assert_eq!(got, told, "{at}: {} and {}", hex(first), hex(second));
 }
 
@@ -342,9 +321,7 @@ pub fn expect_state(record: &[u8], lent: Lent, (state, timestamp): (&State, u64)
         assert_eq!(got[..cells], field[..], "{at}: {}", hex(record));
     }
     let Parameters { g, c, r, .. } = state.parameters;
-    for (got, constant) in outcome.constants.iter().zip([g, c, r]) {
-        assert_eq!(*got, constant, "{at}: {}", hex(record));
-    }
+    assert_eq!(outcome.constants, [g, c, r], "{at}: {}", hex(record));
 }
 
 /// Reading the record is refused with this, and so is comparing it with a good

@@ -3,26 +3,46 @@
 use basin::raw;
 use reference::scheme::round_div;
 
-use super::calls::{fenced, inside, junk, FENCE};
+use super::calls::FENCE;
 use super::common::Random;
 
 pub const MOST_A: i64 = 1 << 58;
 pub const MOST_B: i64 = 1 << 43;
 
-/// Compares one quotient, with so many places for it, and says how it is
-/// rounded.
-pub fn compare_rnd(a: i64, b: i64, room: usize, at: &str) -> Rounded {
+/// The result by the independent version; none where the quotient is out of
+/// range.
+fn independent(a: i64, b: i64) -> Option<i64> {
     let known = (-MOST_A..=MOST_A).contains(&a) && (1..=MOST_B).contains(&b);
-    let got = basin::rnd(a, b);
-    compare_raw(a, b, room, got, at);
-    if !known {
-        assert_eq!(got, None, "{at}: rnd({a}/{b})");
-        return Rounded::Refused;
+    known.then(|| round_div(a, b))
+}
+
+/// What the function of the C interface says, and the number that it leaves
+/// where `lent` stood.
+pub fn expected(a: i64, b: i64, lent: i64) -> (u64, i64) {
+    match independent(a, b) {
+        Some(rounded) => (0, rounded),
+        None => (4, lent),
     }
+}
+
+/// Compares one quotient, whatever number is lent for it, and says how it is
+/// rounded.
+pub fn compare_rnd(a: i64, b: i64, lent: i64, at: &str) -> Rounded {
+    let mut places = [FENCE, lent, FENCE];
+    let number = raw::rnd(a, b, &mut places[1]);
+    let (told, left) = expected(a, b, lent);
+    assert_eq!(number, told, "{at}: rnd({a}/{b}) over {lent}");
+    assert_eq!(
+        places,
+        [FENCE, left, FENCE],
+        "{at}: rnd({a}/{b}) over {lent}"
+    );
+
+    let got = basin::rnd(a, b);
+    assert_eq!(got, independent(a, b), "{at}: rnd({a}/{b})");
     let Some(rounded) = got else {
-        panic!("{at}: rnd({a}/{b}) is refused");
+        return Rounded::Refused;
     };
-    assert_eq!(rounded, round_div(a, b), "{at}: rnd({a}/{b})");
     // Once more in plain words: nearest, and of two the one further from zero.
     let (a, b, whole) = (i128::from(a), i128::from(b), i128::from(rounded));
     let twice_off = 2 * (whole * b - a);
@@ -37,21 +57,6 @@ pub fn compare_rnd(a: i64, b: i64, room: usize, at: &str) -> Rounded {
         1 => Rounded::Away,
         _ => Rounded::Towards,
     }
-}
-
-/// The function of the C interface writes the same to the first place, if
-/// there is one, and nothing else.
-fn compare_raw(a: i64, b: i64, room: usize, given: Option<i64>, at: &str) {
-    let mut expected = fenced(&junk(room, 0), FENCE);
-    let mut places = expected.clone();
-    let number = raw::rnd(a, b, inside(&mut places));
-    let given = given.filter(|_| room > 0);
-    if let Some(rounded) = given {
-        expected[1] = rounded;
-    }
-    let told = u64::from(given.is_some());
-    assert_eq!(number, told, "{at}: rnd({a}/{b}), {room} places");
-    assert_eq!(places, expected, "{at}: rnd({a}/{b}), {room} places");
 }
 
 #[derive(Clone, Copy, Debug, PartialEq)]
