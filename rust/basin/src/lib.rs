@@ -237,15 +237,15 @@ pub fn run(
     steps: u64,
     work: &mut [i64],
 ) -> Result<Ran, Refusal> {
-    let (number, values) = told(|answer| raw::run(p, h, b, u, v, inflow, steps, work, answer));
-    match Refusal::from_told(number, values) {
+    let answer = told(|answer| raw::run(p, h, b, u, v, inflow, steps, work, answer));
+    match accepted(answer) {
         Ok(()) => Ok(Ran {
-            steps: values[0],
+            steps: answer[1],
             stopped: None,
         }),
         // The steps come after the three values of the refusal.
         Err(refusal @ Refusal::OutOfBounds { .. }) => Ok(Ran {
-            steps: values[3],
+            steps: answer[4],
             stopped: Some(refusal),
         }),
         Err(refusal) => Err(refusal),
@@ -332,9 +332,9 @@ pub fn write(
     timestamp: u64,
     record: &mut [u8],
 ) -> Result<usize, Refusal> {
-    let (number, values) = told(|answer| raw::write(p, h, b, u, v, timestamp, record, answer));
-    Refusal::from_told(number, values)?;
-    Ok(values[0] as usize)
+    let answer = told(|answer| raw::write(p, h, b, u, v, timestamp, record, answer));
+    accepted(answer)?;
+    Ok(answer[1] as usize)
 }
 
 /// Reads a record, its tags in any order, into the first w·n places of `h`,
@@ -352,9 +352,9 @@ pub fn read(
     v: &mut [i64],
 ) -> Result<Read, Refusal> {
     let mut constants = [0; 3];
-    let (number, values) = told(|answer| raw::read(record, h, b, u, v, &mut constants, answer));
-    Refusal::from_told(number, values)?;
-    let [w, n, kind, timestamp] = values;
+    let answer = told(|answer| raw::read(record, h, b, u, v, &mut constants, answer));
+    accepted(answer)?;
+    let [_, w, n, kind, timestamp, ..] = answer;
     let [g, c, r] = constants;
     let parameters = Parameters {
         w: w as usize,
@@ -377,9 +377,10 @@ pub fn read(
 /// The first is tested wholly before the second, each in the order 7, 1, 2, 3,
 /// 4, 5.
 pub fn compare(first: &[u8], second: &[u8]) -> Result<Comparison, Refused> {
-    let (number, values) = told(|answer| raw::compare(first, second, answer));
-    Refused::from_told(number, values)?;
-    Ok(Comparison::from_told(values[0]))
+    // What comes next is the record that is refused, or the comparison's result.
+    let [number, next, values @ ..] = told(|answer| raw::compare(first, second, answer));
+    Refused::from_told(number, next, &values)?;
+    Ok(Comparison::from_told(next))
 }
 
 /// Tests 1 to 5 of a call that takes this state and `beside` it. The first
@@ -405,19 +406,22 @@ pub fn test_state(
     })
 }
 
-/// The number that a call told, and room for the values that come with it.
-fn told(call: impl FnOnce(&mut [u64; 8]) -> u64) -> (u64, [u64; 4]) {
-    // The most is told by a run that is stopped, and by a record that is read.
+/// The answer of a call: a number, which it returns too, and what is told with
+/// it.
+fn told(call: impl FnOnce(&mut [u64; 8]) -> u64) -> [u64; 8] {
     let mut answer = [0; 8];
-    let number = call(&mut answer);
-    let [_, first, second, third, fourth, ..] = answer;
-    (number, [first, second, third, fourth])
+    call(&mut answer);
+    answer
 }
 
-/// The same of a call that tells no value with a 0.
+fn accepted(answer: [u64; 8]) -> Result<(), Refusal> {
+    let [number, values @ ..] = answer;
+    Refusal::from_told(number, &values)
+}
+
+/// Makes a call that tells no value with a 0.
 fn answered(call: impl FnOnce(&mut [u64; 8]) -> u64) -> Result<(), Refusal> {
-    let (number, values) = told(call);
-    Refusal::from_told(number, values)
+    accepted(told(call))
 }
 
 /// 01's rnd(a/b): the nearest whole number, halves away from zero. `None`

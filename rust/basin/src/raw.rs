@@ -1,9 +1,12 @@
-//! The functions of `include/basin.h`, each behind a safe one that takes
-//! slices. This is the only place with unsafe code, but for the tests' own
-//! memory.
+//! The functions of `include/basin.h`, each behind a safe one that takes slices
+//! and, for what is told, one number, three or eight. This is the only place
+//! with unsafe code, but for the tests' own memory.
 //!
 //! Every function of the library takes any numbers and any lengths, reads and
-//! writes only within the slices it is lent, and keeps none of them.
+//! writes only within what it is lent, and keeps none of it. Here a pointer with
+//! a length after it is that of one slice, and one without is that of a
+//! reference to the numbers that are declared. What is written is borrowed
+//! mutably, so apart from all else that is lent.
 
 use crate::Parameters;
 
@@ -292,8 +295,7 @@ macro_rules! on_stepped_state {
 
 /// 0, and `rounded` is rnd(a/b); or 4, and `rounded` is untouched.
 pub fn rnd(a: i64, b: i64, rounded: &mut i64) -> u64 {
-    // SAFETY: the pointer and the length are those of a slice that is lent to
-    // this call alone.
+    // SAFETY: what is lent is as said above.
     unsafe { basin_rnd(a, b, rounded) }
 }
 
@@ -308,9 +310,7 @@ pub fn potential_vorticity(
     q: &mut [i64],
     answer: &mut [u64; 8],
 ) -> u64 {
-    // SAFETY: each pointer and the length after it are those of one slice.
-    // `q` and `answer`, which are written, are borrowed apart from each other
-    // and from the others.
+    // SAFETY: what is lent is as said above.
     unsafe {
         on_state!(basin_potential_vorticity(
             p,
@@ -339,9 +339,7 @@ pub fn tendencies(
     dv: &mut [i64],
     answer: &mut [u64; 8],
 ) -> u64 {
-    // SAFETY: each pointer and the length after it are those of one slice.
-    // `dh`, `du`, `dv` and `answer`, which are written, are borrowed apart from
-    // each other and from the others.
+    // SAFETY: what is lent is as said above.
     unsafe {
         on_state!(basin_tendencies(
             p,
@@ -374,9 +372,7 @@ pub fn step(
     work: &mut [i64],
     answer: &mut [u64; 8],
 ) -> u64 {
-    // SAFETY: each pointer and the length after it are those of one slice.
-    // `h`, `u`, `v`, `work` and `answer`, which are written, are borrowed apart
-    // from each other and from the others.
+    // SAFETY: what is lent is as said above.
     unsafe {
         on_stepped_state!(basin_step(
             p,
@@ -405,9 +401,7 @@ pub fn run(
     work: &mut [i64],
     answer: &mut [u64; 8],
 ) -> u64 {
-    // SAFETY: each pointer and the length after it are those of one slice.
-    // `h`, `u`, `v`, `work` and `answer`, which are written, are borrowed apart
-    // from each other and from the others.
+    // SAFETY: what is lent is as said above.
     unsafe {
         on_stepped_state!(basin_run(
             p,
@@ -435,9 +429,7 @@ pub fn total_depth(
     total: &mut i64,
     answer: &mut [u64; 8],
 ) -> u64 {
-    // SAFETY: each pointer and the length after it are those of one slice.
-    // `total` and `answer`, which are written, are borrowed apart from each
-    // other and from the others.
+    // SAFETY: what is lent is as said above.
     unsafe { on_state!(basin_total_depth(p, h, b, u, v, total, answer)) }
 }
 
@@ -451,9 +443,7 @@ pub fn total_energy(
     total: &mut i64,
     answer: &mut [u64; 8],
 ) -> u64 {
-    // SAFETY: each pointer and the length after it are those of one slice.
-    // `total` and `answer`, which are written, are borrowed apart from each
-    // other and from the others.
+    // SAFETY: what is lent is as said above.
     unsafe { on_state!(basin_total_energy(p, h, b, u, v, total, answer)) }
 }
 
@@ -469,9 +459,7 @@ pub fn write(
     record: &mut [u8],
     answer: &mut [u64; 8],
 ) -> u64 {
-    // SAFETY: each pointer and the length after it are those of one slice.
-    // `record` and `answer`, which are written, are borrowed apart from each
-    // other and from the others.
+    // SAFETY: what is lent is as said above.
     unsafe {
         on_state!(basin_write(
             p,
@@ -487,8 +475,9 @@ pub fn write(
     }
 }
 
-/// The number of the refusal, 0 where `h`, `b`, `u` and `v` are filled, and
-/// `constants` with G, c and R; `answer` as above, with w, n, kind and timestamp after a 0.
+/// The number of the refusal, 0 where `h`, `b`, `u` and `v` are filled and
+/// `constants` are G, c and R; `answer` as above, with w, n, kind and timestamp
+/// after a 0.
 pub fn read(
     record: &[u8],
     h: &mut [i64],
@@ -498,9 +487,7 @@ pub fn read(
     constants: &mut [i64; 3],
     answer: &mut [u64; 8],
 ) -> u64 {
-    // SAFETY: each pointer and the length after it are those of one slice.
-    // All but `record`, which is only read, are borrowed apart from each other
-    // and from it.
+    // SAFETY: what is lent is as said above.
     unsafe {
         basin_read(
             record.as_ptr(),
@@ -522,8 +509,7 @@ pub fn read(
 /// The number of the refusal; `answer` as above, with the record, 1 or 2,
 /// straight after it, or with what the comparison comes to after a 0.
 pub fn compare(first: &[u8], second: &[u8], answer: &mut [u64; 8]) -> u64 {
-    // SAFETY: each pointer and the length after it are those of one slice.
-    // `answer`, the only one written, is borrowed apart from the others.
+    // SAFETY: what is lent is as said above.
     unsafe {
         basin_compare(
             first.as_ptr(),
@@ -544,8 +530,7 @@ pub fn test_state(
     v: &[i64],
     answer: &mut [u64; 8],
 ) -> u64 {
-    // SAFETY: each pointer and the length after it are those of one slice.
-    // `answer`, the only one written, is borrowed apart from the others.
+    // SAFETY: what is lent is as said above.
     unsafe { on_state!(basin_test_state(p, h, b, u, v, answer)) }
 }
 
@@ -559,8 +544,7 @@ pub fn test_vorticity(
     q: &[i64],
     answer: &mut [u64; 8],
 ) -> u64 {
-    // SAFETY: each pointer and the length after it are those of one slice.
-    // `answer`, the only one written, is borrowed apart from the others.
+    // SAFETY: what is lent is as said above.
     unsafe {
         on_state!(basin_test_vorticity(
             p,
@@ -575,7 +559,8 @@ pub fn test_vorticity(
     }
 }
 
-/// The same with an inflow and a work space of `work` numbers.
+/// The same with an inflow and a work space of `work` numbers, which is not
+/// lent.
 pub fn test_step(
     p: &Parameters,
     h: &[i64],
@@ -586,9 +571,7 @@ pub fn test_step(
     work: usize,
     answer: &mut [u64; 8],
 ) -> u64 {
-    // SAFETY: each pointer and the length after it are those of one slice.
-    // `answer`, the only one written, is borrowed apart from the others.
-    // `work` is a number: no work space is lent.
+    // SAFETY: what is lent is as said above.
     unsafe {
         on_state!(basin_test_step(
             p,
@@ -616,9 +599,7 @@ pub fn test_run(
     work: usize,
     answer: &mut [u64; 8],
 ) -> u64 {
-    // SAFETY: each pointer and the length after it are those of one slice.
-    // `answer`, the only one written, is borrowed apart from the others.
-    // `work` is a number: no work space is lent.
+    // SAFETY: what is lent is as said above.
     unsafe {
         on_state!(basin_test_run(
             p,

@@ -101,41 +101,36 @@ impl Refusal {
         }
     }
 
-    /// What the library told: a number, 0 where nothing is refused, and room
-    /// for the values that come with it.
+    /// What the library told: a number, 0 where nothing is refused, and the
+    /// values that follow it in the answer.
     ///
     /// Panics at a number, pass or field that is none. The proved library never
     /// tells one: another library was linked then.
-    pub(crate) fn from_told(number: u64, values: [u64; 4]) -> Result<(), Self> {
+    pub(crate) fn from_told(number: u64, values: &[u64]) -> Result<(), Self> {
         // The library is only for machines where a usize has 64 bits.
-        let place = |field, cell| (Field::from_number(field), cell as usize);
-        Err(match number {
-            0 => return Ok(()),
-            1 => Refusal::Grid,
-            2 => Refusal::Lengths,
-            3 => Refusal::Constants,
-            4 => {
-                let (field, cell) = place(values[0], values[1]);
-                Refusal::Value { field, cell }
-            }
-            5 => {
-                let (field, cell) = place(values[0], values[1]);
-                Refusal::ClosedEdge { field, cell }
-            }
-            6 => {
-                let pass = match values[0] {
-                    1 => 1,
-                    2 => 2,
-                    pass => panic!("libbasin.a told pass {pass}, which is none"),
-                };
-                let (field, cell) = place(values[1], values[2]);
-                Refusal::OutOfBounds { pass, field, cell }
-            }
-            7 => Refusal::Record {
-                offset: values[0] as usize,
+        Err(match (number, values) {
+            (0, _) => return Ok(()),
+            (1, _) => Refusal::Grid,
+            (2, _) => Refusal::Lengths,
+            (3, _) => Refusal::Constants,
+            (4, &[field, cell, ..]) => Refusal::Value {
+                field: Field::from_number(field),
+                cell: cell as usize,
             },
-            8 => Refusal::Destination,
-            _ => panic!("libbasin.a told refusal {number}, which is none"),
+            (5, &[field, cell, ..]) => Refusal::ClosedEdge {
+                field: Field::from_number(field),
+                cell: cell as usize,
+            },
+            (6, &[pass @ (1 | 2), field, cell, ..]) => Refusal::OutOfBounds {
+                pass: pass as u8,
+                field: Field::from_number(field),
+                cell: cell as usize,
+            },
+            (7, &[offset, ..]) => Refusal::Record {
+                offset: offset as usize,
+            },
+            (8, _) => Refusal::Destination,
+            _ => panic!("libbasin.a told refusal {number} with {values:?}, which is none"),
         })
     }
 }
@@ -172,15 +167,14 @@ pub struct Refused {
 }
 
 impl Refused {
-    /// What the library told, as with [`Refusal::from_told`]: the record comes
-    /// straight after the number.
-    pub(crate) fn from_told(number: u64, values: [u64; 4]) -> Result<(), Self> {
-        let [which, a, b, c] = values;
-        Refusal::from_told(number, [a, b, c, 0]).map_err(|refusal| Refused {
-            record: match which {
+    /// What the library told, as with [`Refusal::from_told`], of this record: it
+    /// comes straight after the number.
+    pub(crate) fn from_told(number: u64, record: u64, values: &[u64]) -> Result<(), Self> {
+        Refusal::from_told(number, values).map_err(|refusal| Refused {
+            record: match record {
                 1 => 1,
                 2 => 2,
-                _ => panic!("libbasin.a told record {which}, which is none"),
+                _ => panic!("libbasin.a told record {record}, which is none"),
             },
             refusal,
         })
