@@ -6,7 +6,7 @@ ghost use mathlib.Core.List.{List};
 ghost use Prim.Native.Nat.{_+_, _*_, _≤_};
 ghost use lib.IntN.{ℤ};
 ghost use lib.ListN.{length};
-ghost use Rattle.model.specs.State.{Side, stateOf};
+ghost use Rattle.model.specs.State.{Side, lent, before, after};
 ghost use Rattle.model.specs.Step.{leaves, twoPass, second};
 ghost use Rattle.grid.specs.Parts.{part};
 ghost use Rattle.grid.specs.Banks.{Elsewhere};
@@ -57,8 +57,20 @@ fn first_left(p: Parameters, work: &[i64]) -> Bounds
 
 // The base of both passes, into banks 0 to 2 of m numbers.
 fn keep_base(m: usize, h: &[i64], u: &[i64], v: &[i64], work: &mut [i64])
-    requires { ⌜ (length (now h) ≡ m) × (length (now u) ≡ m) × (length (now v) ≡ m) × (m ≤ 4096) × (8 * m ≤ length (now work)) ⌝ }
-    ensures { λ _. ⌜ (let d = now (work .exit) in (part 0 m d ≡ now (h .entry)) × (part m m d ≡ now (u .entry)) × (part (2 * m) m d ≡ now (v .entry)) × Elsewhere 0 (3 * m) (now (work .entry)) d) ⌝ }
+    requires { ⌜
+        (length (now h) ≡ m)
+        × (length (now u) ≡ m)
+        × (length (now v) ≡ m)
+        × (m ≤ 4096)
+        × (8 * m ≤ length (now work))
+        ⌝ }
+    ensures { λ _. ⌜
+        (let d = now (work .exit) in
+        (part 0 m d ≡ now (h .entry))
+        × (part m m d ≡ now (u .entry))
+        × (part (2 * m) m d ≡ now (v .entry))
+        × Elsewhere 0 (3 * m) (now (work .entry)) d)
+        ⌝ }
 {
     grid::copy_into(work, 0, h);
     grid::copy_into(work, m, u);
@@ -67,8 +79,20 @@ fn keep_base(m: usize, h: &[i64], u: &[i64], v: &[i64], work: &mut [i64])
 
 // The state whose h, u and v are the three banks from place a on.
 fn take_state(work: &[i64], a: usize, m: usize, h: &mut [i64], u: &mut [i64], v: &mut [i64])
-    requires { ⌜ (length (now h) ≡ m) × (length (now u) ≡ m) × (length (now v) ≡ m) × (m ≤ 4096) × (a + 3 * m ≤ 8 * m) × (8 * m ≤ length (now work)) ⌝ }
-    ensures { λ _. ⌜ (let d = now (work .entry) in (now (h .exit) ≡ part a m d) × (now (u .exit) ≡ part (a + m) m d) × (now (v .exit) ≡ part (a + 2 * m) m d)) ⌝ }
+    requires { ⌜
+        (length (now h) ≡ m)
+        × (length (now u) ≡ m)
+        × (length (now v) ≡ m)
+        × (m ≤ 4096)
+        × (a + 3 * m ≤ 8 * m)
+        × (8 * m ≤ length (now work))
+        ⌝ }
+    ensures { λ _. ⌜
+        (let d = now (work .entry) in
+        (now (h .exit) ≡ part a m d)
+        × (now (u .exit) ≡ part (a + m) m d)
+        × (now (v .exit) ≡ part (a + 2 * m) m d))
+        ⌝ }
 {
     grid::copy_out(work, a, m, h);
     grid::copy_out(work, a + m, m, u);
@@ -93,8 +117,12 @@ fn second_pass(
     inflow: &[i64],
     work: &mut [i64],
 ) -> Outcome
-    requires { ⌜ PassReady (stateOf p (now h) (now b) (now u) (now v)) (now inflow) (now work) ⌝ }
-    ensures { λ r. ⌜ (let base = baseIn p (now (b .entry)) (now (work .entry)) in Stepped base (second base (stateOf p (now (h .entry)) (now (b .entry)) (now (u .entry)) (now (v .entry))) (now (inflow .entry))) r (stateOf p (now (h .exit)) (now (b .entry)) (now (u .exit)) (now (v .exit))) × Rest (p .w * p .n) (now (work .entry)) (now (work .exit))) ⌝ }
+    requires { ⌜ PassReady (lent p h b u v) (now inflow) (now work) ⌝ }
+    ensures { λ r. ⌜
+        (let base = baseIn p (now (b .entry)) (now (work .entry)) in
+        Stepped base (second base (before p h b u v) (now (inflow .entry))) r (after p h b u v)
+        × Rest (p .w * p .n) (now (work .entry)) (now (work .exit)))
+        ⌝ }
 {
     let m = p.w * p.n;
     passes::pass(p, h, b, u, v, inflow, work);
@@ -124,8 +152,12 @@ pub fn two_pass(
     inflow: &[i64],
     work: &mut [i64],
 ) -> Outcome
-    requires { ⌜ StepReady (stateOf p (now h) (now b) (now u) (now v)) (now inflow) (now work) ⌝ }
-    ensures { λ r. ⌜ (let s = stateOf p (now (h .entry)) (now (b .entry)) (now (u .entry)) (now (v .entry)) in Stepped s (twoPass s (now (inflow .entry))) r (stateOf p (now (h .exit)) (now (b .entry)) (now (u .exit)) (now (v .exit))) × Rest (p .w * p .n) (now (work .entry)) (now (work .exit))) ⌝ }
+    requires { ⌜ StepReady (lent p h b u v) (now inflow) (now work) ⌝ }
+    ensures { λ r. ⌜
+        (let s = before p h b u v in
+        Stepped s (twoPass s (now (inflow .entry))) r (after p h b u v)
+        × Rest (p .w * p .n) (now (work .entry)) (now (work .exit)))
+        ⌝ }
 {
     let cells = p.w * p.n;
     keep_base(cells, h, u, v, work);

@@ -11,7 +11,7 @@ use Rattle.model.specs.State.{State}
 use Rattle.model.specs.Weights.{conditions}
 use Rattle.model.specs.Record.{bytes, encode}
 use Rattle.model.specs.Opened.{everything}
-use Rattle.model.specs.Examples.{Example, vorticities, tends, rates, energy, steps, runs, prints, holds, minus, accepted, none2, sevens, zeros, dock}
+use Rattle.model.specs.Examples.{Example, vorticities, tends, rates, energy, steps, runs, prints, holds, minus, done, sevens, zeros, dock}
 
 -- nine cells, deep and shallow, at rest along a wall in the west and in the south; an inflow and a q to lend
 abbrev unless : Bool → ℤ → ℤ
@@ -39,42 +39,42 @@ lent = pos 1000 ∷ minus 2000 ∷ pos 3000 ∷ minus 4000 ∷ pos 5000 ∷ minu
 
 -- two cells at rest under a steep surface
 abbrev steep : ℤ → State
-steep R = record { w = 2; n = 1; kind = 0; G = pos 9810; c = pos 0; R = R; h = pos 1000 ∷ pos 2000 ∷ []; b = none2; u = none2; v = none2 }
+steep R = record { w = 2; n = 1; kind = 0; G = pos 9810; c = pos 0; R = R; h = pos 1000 ∷ pos 2000 ∷ []; b = (zeros 2); u = (zeros 2); v = (zeros 2) }
 
 abbrev pub agreed : List Example
 agreed =
-    vorticities (nine 0 false false) (zeros 9) accepted (pos 3577 ∷ pos 508 ∷ pos 5381 ∷ pos 4094 ∷ pos 3386 ∷ pos 2768 ∷ minus 562 ∷ pos 4096 ∷ pos 1966 ∷ [])
-    ∷ tends (nine 0 false false) lent (zeros 9) (zeros 9) (zeros 9) accepted
+    vorticities (nine 0 false false) (zeros 9) done (pos 3577 ∷ pos 508 ∷ pos 5381 ∷ pos 4094 ∷ pos 3386 ∷ pos 2768 ∷ minus 562 ∷ pos 4096 ∷ pos 1966 ∷ [])
+    ∷ tends (nine 0 false false) lent (zeros 9) (zeros 9) (zeros 9) done
     (pos 276500 ∷ minus 444700 ∷ pos 518200 ∷ minus 698000 ∷ pos 744500 ∷ minus 776600 ∷ pos 1029500 ∷ minus 891800 ∷ pos 242400 ∷ [])
     (pos 31477776314304 ∷ minus 15739751924416 ∷ minus 15735517989888 ∷ pos 77759320537536 ∷ pos 8947798879168 ∷ minus 86706168616704 ∷ minus 39488814509280 ∷ pos 52148556823776 ∷ minus 12632356514496 ∷ [])
     (pos 48150377146944 ∷ minus 19737807901248 ∷ minus 22843969176640 ∷ pos 14501046246336 ∷ pos 39188443249920 ∷ minus 31784779976896 ∷ minus 62650733393280 ∷ minus 19450802948672 ∷ pos 54597780753536 ∷ [])
     ∷ rates (nine 0 false false) lent inflow ((nine 0 false false) .b) lent (pos 762367042460448) (minus 302970000)
     ∷ energy (nine 0 false false) (pos 0 ∷ pos 1206520900800 ∷ [])
-    ∷ steps (nine 0 false false) inflow (sevens 73) accepted
+    ∷ steps (nine 0 false false) inflow (sevens 73) done
     (pos 2004 ∷ pos 2496 ∷ pos 3004 ∷ pos 1498 ∷ pos 1210 ∷ pos 3986 ∷ pos 3505 ∷ pos 1790 ∷ pos 2212 ∷ [])
     (pos 60 ∷ minus 45 ∷ pos 5 ∷ pos 84 ∷ pos 64 ∷ minus 197 ∷ pos 7 ∷ pos 4 ∷ pos 69 ∷ [])
     (pos 84 ∷ minus 46 ∷ minus 15 ∷ minus 5 ∷ pos 97 ∷ minus 92 ∷ minus 51 ∷ minus 86 ∷ pos 149 ∷ [])
     (zeros 72 ++ sevens 1)
-    ∷ vorticities (nine 1 false true) (zeros 9) accepted (pos 3920 ∷ pos 1070 ∷ pos 4415 ∷ pos 4094 ∷ pos 3386 ∷ pos 2768 ∷ minus 562 ∷ pos 4096 ∷ pos 1966 ∷ [])
-    ∷ tends (nine 1 false true) lent (zeros 9) (zeros 9) (zeros 9) accepted
+    ∷ vorticities (nine 1 false true) (zeros 9) done (pos 3920 ∷ pos 1070 ∷ pos 4415 ∷ pos 4094 ∷ pos 3386 ∷ pos 2768 ∷ minus 562 ∷ pos 4096 ∷ pos 1966 ∷ [])
+    ∷ tends (nine 1 false true) lent (zeros 9) (zeros 9) (zeros 9) done
     (pos 238000 ∷ minus 384500 ∷ pos 409000 ∷ minus 698000 ∷ pos 744500 ∷ minus 776600 ∷ pos 1068000 ∷ minus 952000 ∷ pos 351600 ∷ [])
     (pos 31478463432960 ∷ minus 15739385718912 ∷ minus 15734605714048 ∷ pos 77759320537536 ∷ pos 8947798879168 ∷ minus 86706168616704 ∷ minus 39492514290624 ∷ pos 52148838329280 ∷ minus 12634898038656 ∷ [])
     (pos 0 ∷ pos 0 ∷ pos 0 ∷ pos 14501238711168 ∷ pos 39188650309248 ∷ minus 31785126793408 ∷ minus 62650001858112 ∷ minus 19449324408000 ∷ pos 54598564370048 ∷ [])
     ∷ rates (nine 1 false true) lent inflow ((nine 1 false true) .b) lent (pos 762360212114912) (minus 302970000)
     ∷ energy (nine 1 false true) (pos 0 ∷ pos 1206517495300 ∷ [])
-    ∷ steps (nine 1 false true) inflow (sevens 73) accepted
+    ∷ steps (nine 1 false true) inflow (sevens 73) done
     (pos 2003 ∷ pos 2496 ∷ pos 3004 ∷ pos 1498 ∷ pos 1210 ∷ pos 3986 ∷ pos 3506 ∷ pos 1790 ∷ pos 2212 ∷ [])
     (pos 60 ∷ minus 45 ∷ pos 5 ∷ pos 84 ∷ pos 64 ∷ minus 197 ∷ pos 7 ∷ pos 4 ∷ pos 69 ∷ [])
     (pos 0 ∷ pos 0 ∷ pos 0 ∷ minus 5 ∷ pos 97 ∷ minus 92 ∷ minus 51 ∷ minus 86 ∷ pos 149 ∷ [])
     (zeros 72 ++ sevens 1)
-    ∷ vorticities (nine 2 true true) (zeros 9) accepted (pos 2450 ∷ pos 1070 ∷ pos 4415 ∷ pos 2846 ∷ pos 3386 ∷ pos 2768 ∷ pos 2013 ∷ pos 4096 ∷ pos 1966 ∷ [])
-    ∷ tends (nine 2 true true) lent (zeros 9) (zeros 9) (zeros 9) accepted
+    ∷ vorticities (nine 2 true true) (zeros 9) done (pos 2450 ∷ pos 1070 ∷ pos 4415 ∷ pos 2846 ∷ pos 3386 ∷ pos 2768 ∷ pos 2013 ∷ pos 4096 ∷ pos 1966 ∷ [])
+    ∷ tends (nine 2 true true) lent (zeros 9) (zeros 9) (zeros 9) done
     (pos 188000 ∷ minus 384500 ∷ pos 459000 ∷ minus 478000 ∷ pos 744500 ∷ minus 996600 ∷ pos 669000 ∷ minus 952000 ∷ pos 750600 ∷ [])
     (pos 0 ∷ minus 15739564362112 ∷ minus 15735227070848 ∷ pos 0 ∷ pos 8946100587968 ∷ minus 86710630325504 ∷ pos 0 ∷ pos 52144984812480 ∷ minus 12635832521856 ∷ [])
     (pos 0 ∷ pos 0 ∷ pos 0 ∷ pos 14500078359168 ∷ pos 39188650309248 ∷ minus 31786037145408 ∷ minus 62648357632512 ∷ minus 19449324408000 ∷ pos 54610709595648 ∷ [])
     ∷ rates (nine 2 true true) lent inflow ((nine 2 true true) .b) lent (pos 762261396995712) (minus 302970000)
     ∷ energy (nine 2 true true) (pos 0 ∷ pos 1206480265300 ∷ [])
-    ∷ steps (nine 2 true true) inflow (sevens 73) accepted
+    ∷ steps (nine 2 true true) inflow (sevens 73) done
     (pos 2002 ∷ pos 2496 ∷ pos 3005 ∷ pos 1497 ∷ pos 1210 ∷ pos 3987 ∷ pos 3506 ∷ pos 1790 ∷ pos 2212 ∷ [])
     (pos 0 ∷ minus 45 ∷ pos 5 ∷ pos 0 ∷ pos 64 ∷ minus 197 ∷ pos 0 ∷ pos 4 ∷ pos 69 ∷ [])
     (pos 0 ∷ pos 0 ∷ pos 0 ∷ minus 5 ∷ pos 97 ∷ minus 92 ∷ minus 51 ∷ minus 86 ∷ pos 149 ∷ [])
@@ -85,8 +85,8 @@ agreed =
     (pos 0 ∷ pos 0 ∷ pos 0 ∷ pos 245 ∷ pos 682 ∷ minus 547 ∷ minus 1138 ∷ minus 325 ∷ pos 959 ∷ [])
     (zeros 72)
     -- a step, and a run, that pass 2 stops
-    ∷ steps (steep (pos 2000)) none2 (sevens 16) (pos 6 ∷ pos 2 ∷ pos 0 ∷ pos 1 ∷ []) (pos 1000 ∷ pos 2000 ∷ []) none2 none2 (zeros 16)
-    ∷ runs (steep (pos 2000)) none2 3 (sevens 16) (pos 6 ∷ pos 2 ∷ pos 0 ∷ pos 1 ∷ pos 0 ∷ []) (pos 1000 ∷ pos 2000 ∷ []) none2 none2 (zeros 16)
+    ∷ steps (steep (pos 2000)) (zeros 2) (sevens 16) (pos 6 ∷ pos 2 ∷ pos 0 ∷ pos 1 ∷ []) (pos 1000 ∷ pos 2000 ∷ []) (zeros 2) (zeros 2) (zeros 16)
+    ∷ runs (steep (pos 2000)) (zeros 2) 3 (sevens 16) (pos 6 ∷ pos 2 ∷ pos 0 ∷ pos 1 ∷ pos 0 ∷ []) (pos 1000 ∷ pos 2000 ∷ []) (zeros 2) (zeros 2) (zeros 16)
     ∷ []
 
 -- ---- the paper's conditions on the weights, at six rows of unrelated numbers: 12 of (3.28), then 22 of (3.29), in the paper's order

@@ -9,9 +9,9 @@ use denote.Ref.{now}
 use denote.Triple.Clauses.{AtExit}
 use borrow.Fn.Kinds.{Dens, resT, endedOf}
 use lib.IntN.{ℤ}
-use Rattle.model.specs.State.{State}
+use Rattle.model.specs.State.{State, stateOf}
 use Rattle.model.specs.Promises.{TotalDepthPromise}
-use Rattle.basin.specs.Told.{stateIn, TendenciesTold, StepTold, RunTold, TotalTold, WriteTold, ReadTold, CompareTold}
+use Rattle.basin.specs.FromC.{parameters, TendenciesFromC, StepFromC, RunFromC, TotalFromC, WriteFromC, ReadFromC, CompareFromC}
 use Rattle.basin.proofs.basin_tendencies.Kinds as tendencies-kinds
 use Rattle.basin.proofs.basin_tendencies.Reads as tendencies-reads
 use Rattle.basin.proofs.basin_step.Kinds as step-kinds
@@ -40,14 +40,14 @@ pub record TendenciesCall : Type 0 where
   pub dv′ : List ℤ
   pub returned : ℕ
   pub answer : List ℕ
-  pub told : TendenciesTold state q dh du dv dh′ du′ dv′ returned answer
+  pub told : TendenciesFromC state q dh du dv dh′ du′ dv′ returned answer
 
 module _ (κs : Lfts 9) (a : Dens κs tendencies-kinds.ps) (returned : resT tendencies-kinds.r κs .Denot) (e : AtExit (endedOf 9 tendencies-kinds.ps tendencies-kinds.r) κs) where
   pub tendencies-call : tendencies-reads.Learnt κs a returned e → TendenciesCall
   tendencies-call told =
       let (w, (n, (kind, (g, (c, (r, (h, (b, (u, (v, (q, (dh, (du, (dv, (_, _))))))))))))))) = a in
       let (_, (_, (_, (_, (_, (_, (_, (_, (_, (_, (_, (dh′, (du′, (dv′, (answer′, _))))))))))))))) = e in
-      record { state = stateIn w n kind g c r (now h) (now b) (now u) (now v); q = now q; dh = now dh; du = now du; dv = now dv; dh′ = now dh′; du′ = now du′; dv′ = now dv′; returned = returned; answer = now answer′; told = told }
+      record { state = stateOf (parameters w n kind g c r) (now h) (now b) (now u) (now v); q = now q; dh = now dh; du = now du; dv = now dv; dh′ = now dh′; du′ = now du′; dv′ = now dv′; returned = returned; answer = now answer′; told = told }
 
 -- ---- `basin_step`
 
@@ -59,14 +59,14 @@ pub record StepCall : Type 0 where
   pub work′ : List ℤ
   pub returned : ℕ
   pub answer : List ℕ
-  pub told : StepTold before inflow work after work′ returned answer
+  pub told : StepFromC before inflow work after work′ returned answer
 
 module _ (κs : Lfts 7) (a : Dens κs step-kinds.ps) (returned : resT step-kinds.r κs .Denot) (e : AtExit (endedOf 7 step-kinds.ps step-kinds.r) κs) where
   pub step-call : step-reads.Learnt κs a returned e → StepCall
   step-call told =
       let (w, (n, (kind, (g, (c, (r, (h, (b, (u, (v, (inflow, (work, (_, _))))))))))))) = a in
       let (_, (_, (_, (_, (_, (_, (h′, (_, (u′, (v′, (_, (work′, (answer′, _))))))))))))) = e in
-      record { before = stateIn w n kind g c r (now h) (now b) (now u) (now v); after = stateIn w n kind g c r (now h′) (now b) (now u′) (now v′); inflow = now inflow; work = now work; work′ = now work′; returned = returned; answer = now answer′; told = told }
+      record { before = stateOf (parameters w n kind g c r) (now h) (now b) (now u) (now v); after = stateOf (parameters w n kind g c r) (now h′) (now b) (now u′) (now v′); inflow = now inflow; work = now work; work′ = now work′; returned = returned; answer = now answer′; told = told }
 
 -- ---- `basin_run`
 
@@ -79,14 +79,14 @@ pub record RunCall : Type 0 where
   pub steps : ℕ
   pub returned : ℕ
   pub answer : List ℕ
-  pub told : RunTold before inflow steps work after work′ returned answer
+  pub told : RunFromC before inflow steps work after work′ returned answer
 
 module _ (κs : Lfts 7) (a : Dens κs run-kinds.ps) (returned : resT run-kinds.r κs .Denot) (e : AtExit (endedOf 7 run-kinds.ps run-kinds.r) κs) where
   pub run-call : run-reads.Learnt κs a returned e → RunCall
   run-call told =
       let (w, (n, (kind, (g, (c, (r, (h, (b, (u, (v, (inflow, (steps, (work, (_, _)))))))))))))) = a in
       let (_, (_, (_, (_, (_, (_, (h′, (_, (u′, (v′, (_, (_, (work′, (answer′, _)))))))))))))) = e in
-      record { before = stateIn w n kind g c r (now h) (now b) (now u) (now v); after = stateIn w n kind g c r (now h′) (now b) (now u′) (now v′); inflow = now inflow; work = now work; work′ = now work′; steps = steps; returned = returned; answer = now answer′; told = told }
+      record { before = stateOf (parameters w n kind g c r) (now h) (now b) (now u) (now v); after = stateOf (parameters w n kind g c r) (now h′) (now b) (now u′) (now v′); inflow = now inflow; work = now work; work′ = now work′; steps = steps; returned = returned; answer = now answer′; told = told }
 
 -- ---- `basin_total_depth`
 
@@ -96,14 +96,14 @@ pub record DepthCall : Type 0 where
   pub total′ : ℤ
   pub returned : ℕ
   pub answer : List ℕ
-  pub told : TotalTold (TotalDepthPromise state) total total′ returned answer
+  pub told : TotalFromC (TotalDepthPromise state) total total′ returned answer
 
 module _ (κs : Lfts 6) (a : Dens κs depth-kinds.ps) (returned : resT depth-kinds.r κs .Denot) (e : AtExit (endedOf 6 depth-kinds.ps depth-kinds.r) κs) where
   pub depth-call : depth-reads.Learnt κs a returned e → DepthCall
   depth-call told =
       let (w, (n, (kind, (g, (c, (r, (h, (b, (u, (v, (total, (_, _)))))))))))) = a in
       let (_, (_, (_, (_, (_, (_, (_, (_, (_, (_, (total′, (answer′, _)))))))))))) = e in
-      record { state = stateIn w n kind g c r (now h) (now b) (now u) (now v); total = now total; total′ = now total′; returned = returned; answer = now answer′; told = told }
+      record { state = stateOf (parameters w n kind g c r) (now h) (now b) (now u) (now v); total = now total; total′ = now total′; returned = returned; answer = now answer′; told = told }
 
 -- ---- `basin_write`
 
@@ -114,14 +114,14 @@ pub record WriteCall : Type 0 where
   pub bytes′ : List ℕ
   pub returned : ℕ
   pub answer : List ℕ
-  pub told : WriteTold state timestamp bytes bytes′ returned answer
+  pub told : WriteFromC state timestamp bytes bytes′ returned answer
 
 module _ (κs : Lfts 6) (a : Dens κs write-kinds.ps) (returned : resT write-kinds.r κs .Denot) (e : AtExit (endedOf 6 write-kinds.ps write-kinds.r) κs) where
   pub write-call : write-reads.Learnt κs a returned e → WriteCall
   write-call told =
       let (w, (n, (kind, (g, (c, (r, (h, (b, (u, (v, (timestamp, (bytes, (_, _))))))))))))) = a in
       let (_, (_, (_, (_, (_, (_, (_, (_, (_, (_, (_, (bytes′, (answer′, _))))))))))))) = e in
-      record { state = stateIn w n kind g c r (now h) (now b) (now u) (now v); timestamp = timestamp; bytes = now bytes; bytes′ = now bytes′; returned = returned; answer = now answer′; told = told }
+      record { state = stateOf (parameters w n kind g c r) (now h) (now b) (now u) (now v); timestamp = timestamp; bytes = now bytes; bytes′ = now bytes′; returned = returned; answer = now answer′; told = told }
 
 -- ---- `basin_read`
 
@@ -139,7 +139,7 @@ pub record ReadCall : Type 0 where
   pub constants′ : List ℤ
   pub returned : ℕ
   pub answer : List ℕ
-  pub told : ReadTold bytes h b u v h′ b′ u′ v′ constants constants′ returned answer
+  pub told : ReadFromC bytes h b u v h′ b′ u′ v′ constants constants′ returned answer
 
 module _ (κs : Lfts 7) (a : Dens κs read-kinds.ps) (returned : resT read-kinds.r κs .Denot) (e : AtExit (endedOf 7 read-kinds.ps read-kinds.r) κs) where
   pub read-call : read-reads.Learnt κs a returned e → ReadCall
@@ -155,7 +155,7 @@ pub record CompareCall : Type 0 where
   pub second : List ℕ
   pub returned : ℕ
   pub answer : List ℕ
-  pub told : CompareTold first second returned answer
+  pub told : CompareFromC first second returned answer
 
 module _ (κs : Lfts 3) (a : Dens κs compare-kinds.ps) (returned : resT compare-kinds.r κs .Denot) (e : AtExit (endedOf 3 compare-kinds.ps compare-kinds.r) κs) where
   pub compare-call : compare-reads.Learnt κs a returned e → CompareCall

@@ -22,7 +22,7 @@ use Rattle.model.specs.declared.CompareAnswer.the-variants.{Same, FirstNewer, S
 use Rattle.theorems.specs.Theorems.{theorems}
 use Rattle.telling.specs.Told.{eight, orKept}
 use Rattle.reading.specs.Rooms.{Room}
-use Rattle.basin.specs.Told.{stateIn}
+use Rattle.basin.specs.FromC.{parameters}
 use Rattle.basin.proofs.Applied.{from-one}
 use Rattle.basin.proofs.Calls.{WriteCall, ReadCall, CompareCall}
 
@@ -59,8 +59,10 @@ abbrev pub readState : ReadCall → State
 readState g =
     let w = getD (g .answer) 1 0 in
     let n = getD (g .answer) 2 0 in
+    let kind = getD (g .answer) 3 0 in
+    let constant : ℕ → ℤ = λ k. getD (g .constants′) k (pos 0) in
     let m = w * n in
-    stateIn w n (getD (g .answer) 3 0) (getD (g .constants′) 0 (pos 0)) (getD (g .constants′) 1 (pos 0)) (getD (g .constants′) 2 (pos 0)) (take m (g .h′)) (take m (g .b′)) (take m (g .u′)) (take m (g .v′))
+    stateOf (parameters w n kind (constant 0) (constant 1) (constant 2)) (take m (g .h′)) (take m (g .b′)) (take m (g .u′)) (take m (g .v′))
 
 abbrev pub readTimestamp : ReadCall → Timestamp
 readTimestamp g = getD (g .answer) 4 0

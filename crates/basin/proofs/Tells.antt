@@ -9,8 +9,8 @@ use Rattle.model.specs.Promises.{TestPromise}
 use Rattle.model.specs.declared.Beside.{Beside}
 use Rattle.model.specs.declared.TestAnswer.{TestAnswer}
 use Rattle.telling.specs.Told.{Told}
-use Rattle.basin.specs.Told.{TestTold}
+use Rattle.basin.specs.FromC.{TestFromC}
 
 pub told-test : {s : State} {x : List ℤ} {beside : Beside} {t : TestAnswer} {exit : List ℕ} {k : ℕ}
-    → TestPromise s beside x t → Told (testNumbers t) k exit → TestTold s beside x k exit
+    → TestPromise s beside x t → Told (testNumbers t) k exit → TestFromC s beside x k exit
 told-test {exit = exit} {k} a e = subst (λ t. Told (testNumbers t) k exit) (a .answers) e

@@ -1,2 +1,2 @@
 -- what the C functions return, and what they leave in a lent answer
-pub mod Told
+pub mod FromC

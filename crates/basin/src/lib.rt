@@ -3,9 +3,10 @@
 // may come in.
 ghost use mathlib.Core.Path.{_≡_};
 ghost use mathlib.Core.List.{[]};
+ghost use Rattle.model.specs.State.{before, after};
 ghost use Rattle.model.specs.Promises.{TotalDepthPromise, TotalEnergyPromise};
 ghost use Rattle.model.specs.declared.Beside.the-variants.{Nothing, Vorticity, Inflow, Run};
-ghost use Rattle.basin.specs.Told.{TestTold, VorticityTold, TendenciesTold, StepTold, RunTold, TotalTold, WriteTold, ReadTold, CompareTold, stateIn, roundable, Rounded};
+ghost use Rattle.basin.specs.FromC.{TestFromC, VorticityFromC, TendenciesFromC, StepFromC, RunFromC, TotalFromC, WriteFromC, ReadFromC, CompareFromC, parameters, roundable, Rounded};
 use integers::Range;
 use model::Beside;
 use model::Parameters;
@@ -29,7 +30,9 @@ pub extern "C" fn basin_test_state(
     v: &[i64],
     answer: &mut [u64; 8],
 ) -> u64
-    ensures { λ k. ⌜ TestTold (stateIn w n kind g c r (now (h .entry)) (now (b .entry)) (now (u .entry)) (now (v .entry))) Nothing [] k (now (answer .exit)) ⌝ }
+    ensures { λ k. ⌜
+        TestFromC (before (parameters w n kind g c r) h b u v) Nothing [] k (now (answer .exit))
+        ⌝ }
 {
     let p = Parameters {
         w,
@@ -60,7 +63,10 @@ pub extern "C" fn basin_test_vorticity(
     q: &[i64],
     answer: &mut [u64; 8],
 ) -> u64
-    ensures { λ k. ⌜ TestTold (stateIn w n kind g c r (now (h .entry)) (now (b .entry)) (now (u .entry)) (now (v .entry))) Vorticity (now (q .entry)) k (now (answer .exit)) ⌝ }
+    ensures { λ k. ⌜
+        TestFromC (before (parameters w n kind g c r) h b u v) Vorticity (now (q .entry)) k
+        (now (answer .exit))
+        ⌝ }
 {
     let p = Parameters {
         w,
@@ -91,7 +97,10 @@ pub extern "C" fn basin_test_step(
     work: usize,
     answer: &mut [u64; 8],
 ) -> u64
-    ensures { λ k. ⌜ TestTold (stateIn w n kind g c r (now (h .entry)) (now (b .entry)) (now (u .entry)) (now (v .entry))) (Inflow work) (now (inflow .entry)) k (now (answer .exit)) ⌝ }
+    ensures { λ k. ⌜
+        TestFromC (before (parameters w n kind g c r) h b u v) (Inflow work) (now (inflow .entry)) k
+        (now (answer .exit))
+        ⌝ }
 {
     let p = Parameters {
         w,
@@ -123,7 +132,10 @@ pub extern "C" fn basin_test_run(
     work: usize,
     answer: &mut [u64; 8],
 ) -> u64
-    ensures { λ k. ⌜ TestTold (stateIn w n kind g c r (now (h .entry)) (now (b .entry)) (now (u .entry)) (now (v .entry))) (Run steps work) (now (inflow .entry)) k (now (answer .exit)) ⌝ }
+    ensures { λ k. ⌜
+        TestFromC (before (parameters w n kind g c r) h b u v) (Run steps work) (now (inflow .entry)) k
+        (now (answer .exit))
+        ⌝ }
 {
     let p = Parameters {
         w,
@@ -156,7 +168,10 @@ pub extern "C" fn basin_potential_vorticity(
     q: &mut [i64],
     answer: &mut [u64; 8],
 ) -> u64
-    ensures { λ k. ⌜ VorticityTold (stateIn w n kind g c r (now (h .entry)) (now (b .entry)) (now (u .entry)) (now (v .entry))) (now (q .entry)) (now (q .exit)) k (now (answer .exit)) ⌝ }
+    ensures { λ k. ⌜
+        VorticityFromC (before (parameters w n kind g c r) h b u v) (now (q .entry)) (now (q .exit)) k
+        (now (answer .exit))
+        ⌝ }
 {
     let p = Parameters {
         w,
@@ -188,7 +203,11 @@ pub extern "C" fn basin_tendencies(
     dv: &mut [i64],
     answer: &mut [u64; 8],
 ) -> u64
-    ensures { λ k. ⌜ TendenciesTold (stateIn w n kind g c r (now (h .entry)) (now (b .entry)) (now (u .entry)) (now (v .entry))) (now (q .entry)) (now (dh .entry)) (now (du .entry)) (now (dv .entry)) (now (dh .exit)) (now (du .exit)) (now (dv .exit)) k (now (answer .exit)) ⌝ }
+    ensures { λ k. ⌜
+        TendenciesFromC (before (parameters w n kind g c r) h b u v) (now (q .entry)) (now (dh .entry))
+        (now (du .entry)) (now (dv .entry)) (now (dh .exit)) (now (du .exit)) (now (dv .exit)) k
+        (now (answer .exit))
+        ⌝ }
 {
     let p = Parameters {
         w,
@@ -223,7 +242,10 @@ pub extern "C" fn basin_step(
     work: &mut [i64],
     answer: &mut [u64; 8],
 ) -> u64
-    ensures { λ k. ⌜ StepTold (stateIn w n kind g c r (now (h .entry)) (now (b .entry)) (now (u .entry)) (now (v .entry))) (now (inflow .entry)) (now (work .entry)) (stateIn w n kind g c r (now (h .exit)) (now (b .entry)) (now (u .exit)) (now (v .exit))) (now (work .exit)) k (now (answer .exit)) ⌝ }
+    ensures { λ k. ⌜
+        StepFromC (before (parameters w n kind g c r) h b u v) (now (inflow .entry)) (now (work .entry))
+        (after (parameters w n kind g c r) h b u v) (now (work .exit)) k (now (answer .exit))
+        ⌝ }
 {
     let p = Parameters {
         w,
@@ -254,7 +276,10 @@ pub extern "C" fn basin_run(
     work: &mut [i64],
     answer: &mut [u64; 8],
 ) -> u64
-    ensures { λ k. ⌜ RunTold (stateIn w n kind g c r (now (h .entry)) (now (b .entry)) (now (u .entry)) (now (v .entry))) (now (inflow .entry)) steps (now (work .entry)) (stateIn w n kind g c r (now (h .exit)) (now (b .entry)) (now (u .exit)) (now (v .exit))) (now (work .exit)) k (now (answer .exit)) ⌝ }
+    ensures { λ k. ⌜
+        RunFromC (before (parameters w n kind g c r) h b u v) (now (inflow .entry)) steps (now (work .entry))
+        (after (parameters w n kind g c r) h b u v) (now (work .exit)) k (now (answer .exit))
+        ⌝ }
 {
     let p = Parameters {
         w,
@@ -288,7 +313,10 @@ pub extern "C" fn basin_total_depth(
     total: &mut i64,
     answer: &mut [u64; 8],
 ) -> u64
-    ensures { λ k. ⌜ TotalTold (TotalDepthPromise (stateIn w n kind g c r (now (h .entry)) (now (b .entry)) (now (u .entry)) (now (v .entry)))) (now (total .entry)) (now (total .exit)) k (now (answer .exit)) ⌝ }
+    ensures { λ k. ⌜
+        TotalFromC (TotalDepthPromise (before (parameters w n kind g c r) h b u v)) (now (total .entry))
+        (now (total .exit)) k (now (answer .exit))
+        ⌝ }
 {
     let p = Parameters {
         w,
@@ -318,7 +346,10 @@ pub extern "C" fn basin_total_energy(
     total: &mut i64,
     answer: &mut [u64; 8],
 ) -> u64
-    ensures { λ k. ⌜ TotalTold (TotalEnergyPromise (stateIn w n kind g c r (now (h .entry)) (now (b .entry)) (now (u .entry)) (now (v .entry)))) (now (total .entry)) (now (total .exit)) k (now (answer .exit)) ⌝ }
+    ensures { λ k. ⌜
+        TotalFromC (TotalEnergyPromise (before (parameters w n kind g c r) h b u v)) (now (total .entry))
+        (now (total .exit)) k (now (answer .exit))
+        ⌝ }
 {
     let p = Parameters {
         w,
@@ -356,7 +387,10 @@ pub extern "C" fn basin_write(
     record: &mut [u8],
     answer: &mut [u64; 8],
 ) -> u64
-    ensures { λ k. ⌜ WriteTold (stateIn w n kind g c r (now (h .entry)) (now (b .entry)) (now (u .entry)) (now (v .entry))) timestamp (now («record» .entry)) (now («record» .exit)) k (now (answer .exit)) ⌝ }
+    ensures { λ k. ⌜
+        WriteFromC (before (parameters w n kind g c r) h b u v) timestamp (now («record» .entry))
+        (now («record» .exit)) k (now (answer .exit))
+        ⌝ }
 {
     let p = Parameters {
         w,
@@ -380,7 +414,11 @@ pub extern "C" fn basin_read(
     constants: &mut [i64; 3],
     answer: &mut [u64; 8],
 ) -> u64
-    ensures { λ k. ⌜ ReadTold (now («record» .entry)) (now (h .entry)) (now (b .entry)) (now (u .entry)) (now (v .entry)) (now (h .exit)) (now (b .exit)) (now (u .exit)) (now (v .exit)) (now (constants .entry)) (now (constants .exit)) k (now (answer .exit)) ⌝ }
+    ensures { λ k. ⌜
+        ReadFromC (now («record» .entry)) (now (h .entry)) (now (b .entry)) (now (u .entry)) (now (v .entry))
+        (now (h .exit)) (now (b .exit)) (now (u .exit)) (now (v .exit)) (now (constants .entry))
+        (now (constants .exit)) k (now (answer .exit))
+        ⌝ }
 {
     let x = reading::read(record, h, b, u, v);
     *constants = telling::constants_or(x, *constants);
@@ -389,7 +427,7 @@ pub extern "C" fn basin_read(
 
 #[no_mangle]
 pub extern "C" fn basin_compare(first: &[u8], second: &[u8], answer: &mut [u64; 8]) -> u64
-    ensures { λ k. ⌜ CompareTold (now (first .entry)) (now (second .entry)) k (now (answer .exit)) ⌝ }
+    ensures { λ k. ⌜ CompareFromC (now (first .entry)) (now (second .entry)) k (now (answer .exit)) ⌝ }
 {
     let x = comparing::compare(first, second);
     telling::tell(answer, telling::compare_numbers(x))

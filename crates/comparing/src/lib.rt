@@ -29,7 +29,10 @@ fn same_bytes(a: &[u8], b: &[u8]) -> bool
 // Whether a tag has the same value in two records.
 fn same_value(first: &[u8], p: &[usize; 8], second: &[u8], q: &[usize; 8], tag: usize) -> bool
     requires { ⌜ Placed (now first) (now p) × Placed (now second) (now q) × (1 ≤ tag) × (tag ≤ 7) ⌝ }
-    ensures { λ r. ⌜ r ≡ sameBy eqb (valueOf tag (partsIn (now (first .entry)))) (valueOf tag (partsIn (now (second .entry)))) ⌝ }
+    ensures { λ r. ⌜
+        r ≡ sameBy eqb (valueOf tag (partsIn (now (first .entry))))
+        (valueOf tag (partsIn (now (second .entry))))
+        ⌝ }
 {
     same_bytes(
         walking::value_of(first, p, tag),

@@ -83,7 +83,9 @@ fn bytes_right(rec: &[u8], at: &[usize; 8], m: usize) -> bool
 // The first cell that has the fault, in index order, of the numbers in a value: the loops end there.
 fn first_bad_in(w: usize, n: usize, value: &[u8], size: Size, t: Fault) -> Found
     requires { ⌜ length (now value) ≡ w * n * sizeOf size ⌝ }
-    ensures { λ r. ⌜ r ≡ foundBy (firstFrom (badIn t w (numbersBy size (w * n) (now (value .entry)))) (w * n) 0) ⌝ }
+    ensures { λ r. ⌜
+        r ≡ foundBy (firstFrom (badIn t w (numbersBy size (w * n) (now (value .entry)))) (w * n) 0)
+        ⌝ }
 {
     let each = wire::bytes_of(size);
     let columns = faults::columns_of(t, w);
@@ -113,7 +115,10 @@ fn then_cells_in(
     t: Fault,
 ) -> TestAnswer
     requires { ⌜ length (now value) ≡ w * n * sizeOf size ⌝ }
-    ensures { λ r. ⌜ r ≡ testAnswer (foundIn earlier then cellTest w n (numbersBy size (w * n) (now (value .entry))) field t) ⌝ }
+    ensures { λ r. ⌜
+        r ≡ testAnswer
+        (foundIn earlier then cellTest w n (numbersBy size (w * n) (now (value .entry))) field t)
+        ⌝ }
 {
     let TestAnswer::Passed = earlier else {
         return earlier;
@@ -134,7 +139,10 @@ fn then_field_in(
     field: Field,
 ) -> TestAnswer
     requires { ⌜ length (now value) ≡ w * n * sizeOf size ⌝ }
-    ensures { λ r. ⌜ r ≡ testAnswer (foundIn earlier then valueTest (record { field = field; count = w * n; limits = limitsOf field; numbers = numbersBy size (w * n) (now (value .entry)) } ∷ [])) ⌝ }
+    ensures { λ r. ⌜
+        r ≡ testAnswer
+        (foundIn earlier then valueTest (record { field = field; count = w * n; limits = limitsOf field; numbers = numbersBy size (w * n) (now (value .entry)) } ∷ []))
+        ⌝ }
 {
     then_cells_in(
         earlier,
@@ -196,7 +204,9 @@ fn then_edges_in(earlier: TestAnswer, rec: &[u8], at: &[usize; 8], p: Parameters
 // only once test 1 has passed.
 fn test_record(rec: &[u8], at: &[usize; 8], room: usize) -> TestAnswer
     requires { ⌜ Placed (now rec) (now at) ⌝ }
-    ensures { λ r. ⌜ r ≡ testAnswer (recordTest (stateRead (now (rec .entry))) (partsIn (now (rec .entry))) (room ∷ [])) ⌝ }
+    ensures { λ r. ⌜
+        r ≡ testAnswer (recordTest (stateRead (now (rec .entry))) (partsIn (now (rec .entry))) (room ∷ []))
+        ⌝ }
 {
     let p = parameters_in(rec, at);
     if !state::grid_known(p) {

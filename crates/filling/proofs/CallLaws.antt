@@ -17,7 +17,7 @@ use Rattle.model.specs.declared.Refusal.{Refusal}
 use Rattle.model.specs.declared.Refusal.the-variants.{Destination}
 use Rattle.model.specs.declared.TestAnswer.{TestAnswer}
 use Rattle.model.specs.declared.TestAnswer.the-variants.{Passed, Refused}
-use Rattle.model.specs.declared.FillAnswer.the-variants as F
+use Rattle.model.specs.declared.FillAnswer.the-variants as FillAnswer
 use Rattle.theorems.specs.Limits.{known-iff, accepted}
 use Rattle.theorems.specs.Tested.{passed-none, refused-some}
 use Rattle.state.specs.InOrder.{foundIn}
@@ -56,10 +56,10 @@ rooms-three m a b c = by (leb m a) (leb m b) (leb m c)
 -- ---- the promises
 
 module _ {o : Option Refusal} where
-  done : o ≡ none → F.Done ≡ fillAnswer o
+  done : o ≡ none → FillAnswer.Done ≡ fillAnswer o
   done e = sym (ap fillAnswer e)
 
-  refused : {r : Refusal} → o ≡ some r → F.Refused r ≡ fillAnswer o
+  refused : {r : Refusal} → o ≡ some r → FillAnswer.Refused r ≡ fillAnswer o
   refused e = sym (ap fillAnswer e)
 
   filled-in : {new d : List ℤ} (old : List ℤ) → o ≡ none → d ≡ new → d ≡ leftBy o new old
@@ -72,10 +72,10 @@ module _ (s : State) (d : List ℤ) where
   abbrev test : Option Refusal
   test = vorticityTest s (length d)
 
-  pub vorticity-done : {d′ : List ℤ} → Passed ≡ testAnswer test → d′ ≡ filled (cells s) (vorticity s) d → VorticityPromise s d F.Done d′
+  pub vorticity-done : {d′ : List ℤ} → Passed ≡ testAnswer test → d′ ≡ filled (cells s) (vorticity s) d → VorticityPromise s d FillAnswer.Done d′
   vorticity-done e f = let o = passed-none test e in record { answers = done o; tells = ap toldFill (done o); fills = filled-in d o f }
 
-  pub vorticity-refused : {r : Refusal} → Refused r ≡ testAnswer test → VorticityPromise s d (F.Refused r) d
+  pub vorticity-refused : {r : Refusal} → Refused r ≡ testAnswer test → VorticityPromise s d (FillAnswer.Refused r) d
   vorticity-refused {r} e = let o = refused-some test r e in record { answers = refused o; tells = ap toldFill (refused o); fills = kept (filled (cells s) (vorticity s) d) d o }
 
   -- a passed call is on a state within the limits, and its destinations have room
@@ -89,12 +89,12 @@ module _ (s : State) (q dh du dv : List ℤ) where
 
   pub tendencies-done : {dh′ du′ dv′ : List ℤ} → Passed ≡ testAnswer test-all
       → (dh′ ≡ filled (cells s) (hTendencies s) dh) × (du′ ≡ filled (cells s) (uTendencies s q) du) × (dv′ ≡ filled (cells s) (vTendencies s q) dv)
-      → TendenciesPromise s q dh du dv F.Done dh′ du′ dv′
+      → TendenciesPromise s q dh du dv FillAnswer.Done dh′ du′ dv′
   tendencies-done e f =
       let o = passed-none test-all e in
       record { answers = done o; tells = ap toldFill (done o); fills-h = filled-in dh o (f .0); fills-u = filled-in du o (f .1); fills-v = filled-in dv o (f .2) }
 
-  pub tendencies-refused : {r : Refusal} → Refused r ≡ testAnswer test-all → TendenciesPromise s q dh du dv (F.Refused r) dh du dv
+  pub tendencies-refused : {r : Refusal} → Refused r ≡ testAnswer test-all → TendenciesPromise s q dh du dv (FillAnswer.Refused r) dh du dv
   tendencies-refused {r} e =
       let o = refused-some test-all r e in
       record {

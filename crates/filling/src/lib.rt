@@ -7,7 +7,7 @@ ghost use lib.Dec.{T};
 ghost use lib.IntN.{ℤ, negℤ};
 ghost use lib.ListN.{length};
 ghost use Rattle.model.specs.Grid.{filled, previous};
-ghost use Rattle.model.specs.State.{stateOf, cells};
+ghost use Rattle.model.specs.State.{cells, stateOf, lent, before};
 ghost use Rattle.model.specs.Refusals.{gridKnown, roomTest};
 ghost use Rattle.model.specs.Scheme.{D, vorticity, tendencyU, tendencyV, hTendencies, uTendencies, vTendencies};
 ghost use Rattle.model.specs.Promises.{testAnswer, VorticityPromise, TendenciesPromise};
@@ -25,7 +25,10 @@ use model::TestAnswer;
 // cells.
 fn fill_vorticity(p: Parameters, h: &[i64], u: &[i64], v: &[i64], d: &mut [i64])
     requires { ⌜ VorticityReady p (now h) (now u) (now v) × (p .w * p .n ≤ length (now d)) ⌝ }
-    ensures { λ _. ⌜ now (d .exit) ≡ filled (p .w * p .n) (vorticity (stateOf p (now (h .entry)) [] (now (u .entry)) (now (v .entry)))) (now (d .entry)) ⌝ }
+    ensures { λ _. ⌜
+        now (d .exit) ≡ filled (p .w * p .n)
+        (vorticity (stateOf p (now (h .entry)) [] (now (u .entry)) (now (v .entry)))) (now (d .entry))
+        ⌝ }
 {
     for j in 0..p.n {
         for i in 0..p.w {
@@ -45,7 +48,7 @@ pub fn potential_vorticity(
     v: &[i64],
     d: &mut [i64],
 ) -> FillAnswer
-    ensures { λ r. ⌜ VorticityPromise (stateOf p (now (h .entry)) (now (b .entry)) (now (u .entry)) (now (v .entry))) (now (d .entry)) r (now (d .exit)) ⌝ }
+    ensures { λ r. ⌜ VorticityPromise (before p h b u v) (now (d .entry)) r (now (d .exit)) ⌝ }
 {
     // the last argument stands for a further field, which nothing looks at here
     let tested = state::test_state(p, h, b, u, v, Beside::Nothing, h);
@@ -75,8 +78,21 @@ fn fill_row(
     du: &mut [i64],
     dv: &mut [i64],
 )
-    requires { ⌜ (let s = stateOf p (now h) (now b) (now u) (now v) in TendenciesReady s (now q) × (j < p .n) × HandedNorth s (now q) (previous (p .n) j) (now handed) × Room (cells s) (now dh) (now du) (now dv)) ⌝ }
-    ensures { λ _. ⌜ (let s = stateOf p (now (h .entry)) (now (b .entry)) (now (u .entry)) (now (v .entry)) in let q₀ = now (q .entry) in RowWriting (p .w) (p .n) (λ i j. negℤ (D s i j)) 0 j (now (dh .entry)) (p .w) (now (dh .exit)) × RowWriting (p .w) (p .n) (tendencyU s q₀) 0 j (now (du .entry)) (p .w) (now (du .exit)) × RowWriting (p .w) (p .n) (tendencyV s q₀) 0 j (now (dv .entry)) (p .w) (now (dv .exit)) × HandedNorth s q₀ j (now (handed .exit))) ⌝ }
+    requires { ⌜
+        (let s = lent p h b u v in
+        TendenciesReady s (now q)
+        × (j < p .n)
+        × HandedNorth s (now q) (previous (p .n) j) (now handed)
+        × Room (cells s) (now dh) (now du) (now dv))
+        ⌝ }
+    ensures { λ _. ⌜
+        (let s = before p h b u v in
+        let q₀ = now (q .entry) in
+        RowWriting (p .w) (p .n) (λ i j. negℤ (D s i j)) 0 j (now (dh .entry)) (p .w) (now (dh .exit))
+        × RowWriting (p .w) (p .n) (tendencyU s q₀) 0 j (now (du .entry)) (p .w) (now (du .exit))
+        × RowWriting (p .w) (p .n) (tendencyV s q₀) 0 j (now (dv .entry)) (p .w) (now (dv .exit))
+        × HandedNorth s q₀ j (now (handed .exit)))
+        ⌝ }
 {
     let last = scheme::shares_at(p, h, b, u, v, q, p.w - 1, j);
     let mut from_west = last.east;
@@ -107,8 +123,10 @@ pub fn hand_north(
     q: &[i64],
     handed: &mut [i64],
 )
-    requires { ⌜ TendenciesReady (stateOf p (now h) (now b) (now u) (now v)) (now q) × (p .w ≤ length (now handed)) ⌝ }
-    ensures { λ _. ⌜ HandedNorth (stateOf p (now (h .entry)) (now (b .entry)) (now (u .entry)) (now (v .entry))) (now (q .entry)) (previous (p .n) 0) (now (handed .exit)) ⌝ }
+    requires { ⌜ TendenciesReady (lent p h b u v) (now q) × (p .w ≤ length (now handed)) ⌝ }
+    ensures { λ _. ⌜
+        HandedNorth (before p h b u v) (now (q .entry)) (previous (p .n) 0) (now (handed .exit))
+        ⌝ }
 {
     let j = p.n - 1;
     for i in 0..p.w {
@@ -130,8 +148,18 @@ fn fill_tendencies(
     du: &mut [i64],
     dv: &mut [i64],
 )
-    requires { ⌜ (let s = stateOf p (now h) (now b) (now u) (now v) in TendenciesReady s (now q) × Room (cells s) (now dh) (now du) (now dv)) ⌝ }
-    ensures { λ _. ⌜ (let s = stateOf p (now (h .entry)) (now (b .entry)) (now (u .entry)) (now (v .entry)) in let q₀ = now (q .entry) in (now (dh .exit) ≡ filled (cells s) (hTendencies s) (now (dh .entry))) × (now (du .exit) ≡ filled (cells s) (uTendencies s q₀) (now (du .entry))) × (now (dv .exit) ≡ filled (cells s) (vTendencies s q₀) (now (dv .entry)))) ⌝ }
+    requires { ⌜
+        (let s = lent p h b u v in
+        TendenciesReady s (now q)
+        × Room (cells s) (now dh) (now du) (now dv))
+        ⌝ }
+    ensures { λ _. ⌜
+        (let s = before p h b u v in
+        let q₀ = now (q .entry) in
+        (now (dh .exit) ≡ filled (cells s) (hTendencies s) (now (dh .entry)))
+        × (now (du .exit) ≡ filled (cells s) (uTendencies s q₀) (now (du .entry)))
+        × (now (dv .exit) ≡ filled (cells s) (vTendencies s q₀) (now (dv .entry))))
+        ⌝ }
 {
     // a row has 64 cells at most
     let mut handed = [0; 64];
@@ -143,7 +171,9 @@ fn fill_tendencies(
 
 // Test 8 of the three destinations, by their lengths.
 fn test_rooms(p: Parameters, dh: usize, du: usize, dv: usize) -> TestAnswer
-    ensures { λ r. ⌜ ((h b u v : List ℤ) → T (gridKnown (stateOf p h b u v)) → r ≡ testAnswer (roomTest (p .w * p .n) (dh ∷ du ∷ dv ∷ []))) ⌝ }
+    ensures { λ r. ⌜
+        ((h b u v : List ℤ) → T (gridKnown (stateOf p h b u v)) → r ≡ testAnswer (roomTest (p .w * p .n) (dh ∷ du ∷ dv ∷ [])))
+        ⌝ }
 {
     let first = state::test_room(p, dh);
     let second = state::test_room(p, du);
@@ -164,7 +194,10 @@ pub fn tendencies(
     du: &mut [i64],
     dv: &mut [i64],
 ) -> FillAnswer
-    ensures { λ r. ⌜ TendenciesPromise (stateOf p (now (h .entry)) (now (b .entry)) (now (u .entry)) (now (v .entry))) (now (q .entry)) (now (dh .entry)) (now (du .entry)) (now (dv .entry)) r (now (dh .exit)) (now (du .exit)) (now (dv .exit)) ⌝ }
+    ensures { λ r. ⌜
+        TendenciesPromise (before p h b u v) (now (q .entry)) (now (dh .entry)) (now (du .entry))
+        (now (dv .entry)) r (now (dh .exit)) (now (du .exit)) (now (dv .exit))
+        ⌝ }
 {
     let tested = state::test_state(p, h, b, u, v, Beside::Vorticity, q);
     let rooms = test_rooms(p, dh.len(), du.len(), dv.len());

@@ -15,14 +15,14 @@ use Rattle.model.specs.declared.TotalAnswer.{TotalAnswer}
 use Rattle.model.specs.declared.WriteAnswer.{WriteAnswer}
 use Rattle.model.specs.declared.ReadAnswer.{ReadAnswer}
 use Rattle.model.specs.declared.CompareAnswer.{CompareAnswer}
-use Rattle.model.specs.declared.TestAnswer.the-variants as Q
-use Rattle.model.specs.declared.FillAnswer.the-variants as F
-use Rattle.model.specs.declared.StepAnswer.the-variants as S
-use Rattle.model.specs.declared.RunAnswer.the-variants as R
-use Rattle.model.specs.declared.TotalAnswer.the-variants as T
-use Rattle.model.specs.declared.WriteAnswer.the-variants as W
-use Rattle.model.specs.declared.ReadAnswer.the-variants as D
-use Rattle.model.specs.declared.CompareAnswer.the-variants as C
+use Rattle.model.specs.declared.TestAnswer.the-variants as TestAnswer
+use Rattle.model.specs.declared.FillAnswer.the-variants as FillAnswer
+use Rattle.model.specs.declared.StepAnswer.the-variants as StepAnswer
+use Rattle.model.specs.declared.RunAnswer.the-variants as RunAnswer
+use Rattle.model.specs.declared.TotalAnswer.the-variants as TotalAnswer
+use Rattle.model.specs.declared.WriteAnswer.the-variants as WriteAnswer
+use Rattle.model.specs.declared.ReadAnswer.the-variants as ReadAnswer
+use Rattle.model.specs.declared.CompareAnswer.the-variants as CompareAnswer
 
 -- h, b, u, v, q, s
 abbrev pub fieldNumber : Field → ℕ
@@ -65,81 +65,81 @@ told r = whole (refusalNumbers r)
 
 -- of the tests by themselves, and of a call that fills
 abbrev pub testNumbers : TestAnswer → List ℕ
-testNumbers Q.Passed = 0 ∷ []
-testNumbers (Q.Refused r) = refusalNumbers r
+testNumbers TestAnswer.Passed = 0 ∷ []
+testNumbers (TestAnswer.Refused r) = refusalNumbers r
 
 abbrev pub toldTest : TestAnswer → List ℤ
 toldTest a = whole (testNumbers a)
 
 abbrev pub fillNumbers : FillAnswer → List ℕ
-fillNumbers F.Done = 0 ∷ []
-fillNumbers (F.Refused r) = refusalNumbers r
+fillNumbers FillAnswer.Done = 0 ∷ []
+fillNumbers (FillAnswer.Refused r) = refusalNumbers r
 
 abbrev pub toldFill : FillAnswer → List ℤ
 toldFill a = whole (fillNumbers a)
 
 -- refusal 6: pass, field, cell
 abbrev pub stepNumbers : StepAnswer → List ℕ
-stepNumbers S.Done = 0 ∷ []
-stepNumbers (S.Refused r) = refusalNumbers r
-stepNumbers (S.OutOfBounds p f k) = 6 ∷ p ∷ fieldNumber f ∷ k ∷ []
+stepNumbers StepAnswer.Done = 0 ∷ []
+stepNumbers (StepAnswer.Refused r) = refusalNumbers r
+stepNumbers (StepAnswer.OutOfBounds p f k) = 6 ∷ p ∷ fieldNumber f ∷ k ∷ []
 
 abbrev pub toldStep : StepAnswer → List ℤ
 toldStep a = whole (stepNumbers a)
 
 -- the number of steps done; beside it the refusal 6 that stopped the run
 abbrev pub runNumbers : RunAnswer → List ℕ
-runNumbers (R.Finished m) = 0 ∷ m ∷ []
-runNumbers (R.Refused r) = refusalNumbers r
-runNumbers (R.Stopped m p f k) = 6 ∷ p ∷ fieldNumber f ∷ k ∷ m ∷ []
+runNumbers (RunAnswer.Finished m) = 0 ∷ m ∷ []
+runNumbers (RunAnswer.Refused r) = refusalNumbers r
+runNumbers (RunAnswer.Stopped m p f k) = 6 ∷ p ∷ fieldNumber f ∷ k ∷ m ∷ []
 
 abbrev pub toldRun : RunAnswer → List ℤ
 toldRun a = whole (runNumbers a)
 
 -- a total has a sign, so a caller of the C interface reads it beside the numbers
 abbrev pub totalNumbers : TotalAnswer → List ℕ
-totalNumbers (T.Total x) = 0 ∷ []
-totalNumbers (T.Refused r) = refusalNumbers r
+totalNumbers (TotalAnswer.Total x) = 0 ∷ []
+totalNumbers (TotalAnswer.Refused r) = refusalNumbers r
 
 abbrev pub totalIn : TotalAnswer → List ℤ
-totalIn (T.Total x) = x ∷ []
-totalIn (T.Refused r) = []
+totalIn (TotalAnswer.Total x) = x ∷ []
+totalIn (TotalAnswer.Refused r) = []
 
 abbrev pub toldTotal : TotalAnswer → List ℤ
 toldTotal a = whole (totalNumbers a) ++ totalIn a
 
 abbrev pub writeNumbers : WriteAnswer → List ℕ
-writeNumbers (W.Written m) = 0 ∷ m ∷ []
-writeNumbers (W.Refused r) = refusalNumbers r
+writeNumbers (WriteAnswer.Written m) = 0 ∷ m ∷ []
+writeNumbers (WriteAnswer.Refused r) = refusalNumbers r
 
 abbrev pub toldWrite : WriteAnswer → List ℤ
 toldWrite a = whole (writeNumbers a)
 
 -- w, n, kind and the timestamp; G, c and R have a sign, so they stand beside the numbers, as a total does
 abbrev pub readNumbers : ReadAnswer → List ℕ
-readNumbers (D.Read p t) = 0 ∷ p .w ∷ p .n ∷ p .kind ∷ t ∷ []
-readNumbers (D.Refused r) = refusalNumbers r
+readNumbers (ReadAnswer.Read p t) = 0 ∷ p .w ∷ p .n ∷ p .kind ∷ t ∷ []
+readNumbers (ReadAnswer.Refused r) = refusalNumbers r
 
 abbrev pub constantsIn : ReadAnswer → List ℤ
-constantsIn (D.Read p t) = p .g ∷ p .c ∷ p .r ∷ []
-constantsIn (D.Refused r) = []
+constantsIn (ReadAnswer.Read p t) = p .g ∷ p .c ∷ p .r ∷ []
+constantsIn (ReadAnswer.Refused r) = []
 
 -- in 01's order: w, n, kind, G, c, R and the timestamp
 abbrev pub toldRead : ReadAnswer → List ℤ
-toldRead (D.Read p t) = pos 0 ∷ pos (p .w) ∷ pos (p .n) ∷ pos (p .kind) ∷ p .g ∷ p .c ∷ p .r ∷ pos t ∷ []
-toldRead (D.Refused r) = told r
+toldRead (ReadAnswer.Read p t) = pos 0 ∷ pos (p .w) ∷ pos (p .n) ∷ pos (p .kind) ∷ p .g ∷ p .c ∷ p .r ∷ pos t ∷ []
+toldRead (ReadAnswer.Refused r) = told r
 
 -- which record is refused stands straight after the number
 abbrev pub refusalNumbersOf : ℕ → Refusal → List ℕ
 refusalNumbersOf k r = number r ∷ k ∷ values r
 
 abbrev pub compareNumbers : CompareAnswer → List ℕ
-compareNumbers C.Same = 0 ∷ 0 ∷ []
-compareNumbers C.FirstNewer = 0 ∷ 1 ∷ []
-compareNumbers C.SecondNewer = 0 ∷ 2 ∷ []
-compareNumbers C.Conflict = 0 ∷ 3 ∷ []
-compareNumbers (C.FirstRefused r) = refusalNumbersOf 1 r
-compareNumbers (C.SecondRefused r) = refusalNumbersOf 2 r
+compareNumbers CompareAnswer.Same = 0 ∷ 0 ∷ []
+compareNumbers CompareAnswer.FirstNewer = 0 ∷ 1 ∷ []
+compareNumbers CompareAnswer.SecondNewer = 0 ∷ 2 ∷ []
+compareNumbers CompareAnswer.Conflict = 0 ∷ 3 ∷ []
+compareNumbers (CompareAnswer.FirstRefused r) = refusalNumbersOf 1 r
+compareNumbers (CompareAnswer.SecondRefused r) = refusalNumbersOf 2 r
 
 abbrev pub toldCompare : CompareAnswer → List ℤ
 toldCompare a = whole (compareNumbers a)

@@ -9,7 +9,7 @@ use lib.Dec.{T}
 use lib.IntN.{ℤ, pos, negℤ, natAbs, _+ℤ_, _-ℤ_, _*ℤ_}
 use lib.ListN.{length, getD, take, drop, replicate}
 use lib.Signed.{_≤ℤ_}
-use Rattle.model.specs.Numbers.{rnd, vorticityLimits, all}
+use Rattle.model.specs.Numbers.{rnd, vorticityLimits, inflowLimits, tendencyScale, divergenceScale, all}
 use Rattle.model.specs.Grid.{at, byCell, filled, firstFrom}
 use Rattle.model.specs.State.{State, stateOf, parametersOf, withFlow, cells, closedWest, closedSouth, WithinLimits, FieldWithin, OpenEverywhere}
 use Rattle.model.specs.Answers.{number}
@@ -17,7 +17,7 @@ use Rattle.model.specs.Refusals.{Place, Taken, fieldsOf, besideTaken, ru
 use Rattle.model.specs.Scheme.{vorticityAt, vorticity, D, tendencyU, tendencyV}
 use Rattle.model.specs.Rates.{energyRate, enstrophyRate}
 use Rattle.model.specs.Totals.{totalDepth, energy4}
-use Rattle.model.specs.Step.{pass, leaves, moved, stuck, twoPass, stepTest, stepAnswer, cleared}
+use Rattle.model.specs.Step.{pass, leaves, moved, stuck, twoPass, stepTest, stepAnswer, cleared, workLeft}
 use Rattle.model.specs.Record.{Timestamp, Part, valueOf, tagAt, sizeAt, partAt, stateIn, timestampIn, recordLength, rising, decode, accepted, refused}
 use Rattle.model.specs.Program.{programCells, programWork, outputRoom, programOutput}
 use Rattle.model.specs.Promises.{TestPromise, VorticityPromise, TendenciesPromise, StepPromise, RunPromise, TotalDepthPromise, TotalEnergyPromise, WritePromise, ReadPromise, ComparePromise}
@@ -28,7 +28,7 @@ use Rattle.model.specs.declared.Field.the-variants.{VelocityU, VelocityV
 use Rattle.model.specs.declared.Refusal.{Refusal}
 use Rattle.model.specs.declared.Refusal.the-variants.{Grid, Lengths, Constants, Value, ClosedEdge, Record, Destination}
 use Rattle.model.specs.declared.Beside.{Beside}
-use Rattle.model.specs.declared.Beside.the-variants.{Nothing, Vorticity}
+use Rattle.model.specs.declared.Beside.the-variants.{Nothing, Vorticity, Inflow, Run}
 use Rattle.model.specs.declared.TestAnswer.{TestAnswer}
 use Rattle.model.specs.declared.FillAnswer.{FillAnswer}
 use Rattle.model.specs.declared.StepAnswer.{StepAnswer}
@@ -37,13 +37,13 @@ use Rattle.model.specs.declared.TotalAnswer.{TotalAnswer}
 use Rattle.model.specs.declared.WriteAnswer.{WriteAnswer}
 use Rattle.model.specs.declared.ReadAnswer.{ReadAnswer}
 use Rattle.model.specs.declared.CompareAnswer.{CompareAnswer}
-use Rattle.model.specs.declared.TestAnswer.the-variants as Q
-use Rattle.model.specs.declared.FillAnswer.the-variants as F
-use Rattle.model.specs.declared.StepAnswer.the-variants as S
-use Rattle.model.specs.declared.RunAnswer.the-variants as R
-use Rattle.model.specs.declared.TotalAnswer.the-variants as A
-use Rattle.model.specs.declared.WriteAnswer.the-variants as W
-use Rattle.model.specs.declared.ReadAnswer.the-variants as G
+use Rattle.model.specs.declared.TestAnswer.the-variants as TestAnswer
+use Rattle.model.specs.declared.FillAnswer.the-variants as FillAnswer
+use Rattle.model.specs.declared.StepAnswer.the-variants as StepAnswer
+use Rattle.model.specs.declared.RunAnswer.the-variants as RunAnswer
+use Rattle.model.specs.declared.TotalAnswer.the-variants as TotalAnswer
+use Rattle.model.specs.declared.WriteAnswer.the-variants as WriteAnswer
+use Rattle.model.specs.declared.ReadAnswer.the-variants as ReadAnswer
 use Rattle.model.specs.declared.CompareAnswer.the-variants.{Same, FirstNewer, SecondNewer, Conflict, FirstRefused, SecondRefused}
 
 -- ==== demand 1: the full result, or a refusal where its cause holds and only there
@@ -110,8 +110,8 @@ Cause s beside x r =
 -- the tests by themselves pass exactly where all is within its limits, and refuse with r exactly where r's cause holds
 pub record TestClaim : Type 0 where
   pub passed : (s : State) (beside : Beside) (x : List ℤ)
-      → TestPromise s beside x Q.Passed ↔ (WithinLimits s × EachWithin (besideTaken (cells s) beside x) × T (runShort beside) × T (workEnough (cells s) beside))
-  pub refused : (s : State) (beside : Beside) (x : List ℤ) (r : Refusal) → TestPromise s beside x (Q.Refused r) ↔ Cause s beside x r
+      → TestPromise s beside x TestAnswer.Passed ↔ (WithinLimits s × EachWithin (besideTaken (cells s) beside x) × T (runShort beside) × T (workEnough (cells s) beside))
+  pub refused : (s : State) (beside : Beside) (x : List ℤ) (r : Refusal) → TestPromise s beside x (TestAnswer.Refused r) ↔ Cause s beside x r
 
 -- why a call that fills m places of each destination refuses with r, where the destinations have these lengths (`rooms`):
 -- a cause of 1 to 5, the same as for the tests by themselves; or none of these, and 8: not each destination has m places
@@ -122,12 +122,30 @@ FillCause s beside x m rooms r =
 
 -- potential vorticity, tendencies and the writer refuse with r exactly where r's cause holds, and leave each destination as it was
 pub record RoomClaim : Type 0 where
-  pub vorticity : (s : State) (d d′ : List ℤ) (r : Refusal) → VorticityPromise s d (F.Refused r) d′ ↔ (FillCause s Nothing [] (cells s) (length d ∷ []) r × (d′ ≡ d))
+  pub vorticity : (s : State) (d d′ : List ℤ) (r : Refusal) → VorticityPromise s d (FillAnswer.Refused r) d′ ↔ (FillCause s Nothing [] (cells s) (length d ∷ []) r × (d′ ≡ d))
   pub tendencies : (s : State) (q dh du dv dh′ du′ dv′ : List ℤ) (r : Refusal)
-      → TendenciesPromise s q dh du dv (F.Refused r) dh′ du′ dv′
+      → TendenciesPromise s q dh du dv (FillAnswer.Refused r) dh′ du′ dv′
       ↔ (FillCause s Vorticity q (cells s) (length dh ∷ length du ∷ length dv ∷ []) r × (dh′ ≡ dh) × (du′ ≡ du) × (dv′ ≡ dv))
   pub write : (s : State) (t : Timestamp) (d d′ : List ℕ) (r : Refusal)
-      → WritePromise s t d (W.Refused r) d′ ↔ (FillCause s Nothing [] (recordLength s) (length d ∷ []) r × (d′ ≡ d))
+      → WritePromise s t d (WriteAnswer.Refused r) d′ ↔ (FillCause s Nothing [] (recordLength s) (length d ∷ []) r × (d′ ≡ d))
+
+-- what a step takes, with nothing wrong
+abbrev pub StepTaken : State → (inflow work : List ℤ) → Type 0
+StepTaken s inflow work = WithinLimits s × FieldWithin inflowLimits (cells s) inflow × (workLength s ≤ length work)
+
+-- the totals, step and run refuse with r exactly where r's cause holds; a step is stuck with 6, or done, exactly where the two passes are
+pub record CallCausesClaim : Type 0 where
+  pub depth : (s : State) (r : Refusal) → TotalDepthPromise s (TotalAnswer.Refused r) ↔ Cause s Nothing [] r
+  pub energy : (s : State) (r : Refusal) → TotalEnergyPromise s (TotalAnswer.Refused r) ↔ Cause s Nothing [] r
+  pub step : (s s′ : State) (inflow work work′ : List ℤ) (r : Refusal)
+      → StepPromise s inflow work (StepAnswer.Refused r) s′ work′ ↔ (Cause s (Inflow (length work)) inflow r × (s′ ≡ s) × (work′ ≡ workLeft (some r) s work))
+  pub run : (s s′ : State) (inflow : List ℤ) (m : ℕ) (work work′ : List ℤ) (r : Refusal)
+      → RunPromise s inflow m work (RunAnswer.Refused r) s′ work′ ↔ (Cause s (Run m (length work)) inflow r × (s′ ≡ s) × (work′ ≡ workLeft (some r) s work))
+  pub step-6 : (s s′ : State) (inflow work work′ : List ℤ) (p k : ℕ) (f : Field)
+      → StepPromise s inflow work (StepAnswer.OutOfBounds p f k) s′ work′
+      ↔ (StepTaken s inflow work × (twoPass s inflow ≡ stuck p (record { field = f; cell = k })) × (s′ ≡ s) × (work′ ≡ cleared s work))
+  pub step-done : (s s′ : State) (inflow work work′ : List ℤ)
+      → StepPromise s inflow work StepAnswer.Done s′ work′ ↔ (StepTaken s inflow work × (twoPass s inflow ≡ moved s′) × (work′ ≡ cleared s work))
 
 -- ---- why a record is refused: 7, then 1, 2, 8, 3, 4, 5
 
@@ -206,10 +224,10 @@ pub record ReadCausesClaim : Type 0 where
   pub refuses : (rec rooms : List ℕ) (r : Refusal) → (decode rec rooms ≡ refused r) ↔ ReadCause rec rooms r
   pub accepts : (rec rooms : List ℕ) (s : State) (t : Timestamp) → (decode rec rooms ≡ accepted s t) ↔ Readable rec rooms s t
   pub read-refuses : (rec : List ℕ) (h b u v h′ b′ u′ v′ : List ℤ) (r : Refusal)
-      → ReadPromise rec h b u v (G.Refused r) h′ b′ u′ v′
+      → ReadPromise rec h b u v (ReadAnswer.Refused r) h′ b′ u′ v′
       ↔ (ReadCause rec (length h ∷ length b ∷ length u ∷ length v ∷ []) r × (h′ ≡ h) × (b′ ≡ b) × (u′ ≡ u) × (v′ ≡ v))
   pub read-accepts : (rec : List ℕ) (h b u v h′ b′ u′ v′ : List ℤ) (p : Parameters) (t : Timestamp)
-      → ReadPromise rec h b u v (G.Read p t) h′ b′ u′ v′
+      → ReadPromise rec h b u v (ReadAnswer.Read p t) h′ b′ u′ v′
       ↔ ((s : State) × Readable rec (length h ∷ length b ∷ length u ∷ length v ∷ []) s t × (p ≡ parametersOf s)
       × (h′ ≡ filled (cells s) (s .h) h) × (b′ ≡ filled (cells s) (s .b) b) × (u′ ≡ filled (cells s) (s .u) u) × (v′ ≡ filled (cells s) (s .v) v))
 
@@ -225,6 +243,8 @@ pub record MetClaim : Type 0 where
   pub write : (s : State) (t : Timestamp) (d : List ℕ) → (a : WriteAnswer) × (d′ : List ℕ) × WritePromise s t d a d′
   pub read : (rec : List ℕ) (h b u v : List ℤ) → (a : ReadAnswer) × (h′ : List ℤ) × (b′ : List ℤ) × (u′ : List ℤ) × (v′ : List ℤ) × ReadPromise rec h b u v a h′ b′ u′ v′
   pub compare : (first second : List ℕ) → (a : CompareAnswer) × ComparePromise first second a
+  -- any list of calls can be made from any state
+  pub history : (s : State) (calls : List Call) → (t : State) × History s calls t
 
 -- and leaves nothing free: not the answer, and no lent number afterwards
 pub record FixedClaim : Type 0 where
@@ -240,17 +260,19 @@ pub record FixedClaim : Type 0 where
   pub read : (rec : List ℕ) (h b u v h′ b′ u′ v′ h″ b″ u″ v″ : List ℤ) (a c : ReadAnswer) → ReadPromise rec h b u v a h′ b′ u′ v′ → ReadPromise rec h b u v c h″ b″ u″ v″
       → (a ≡ c) × (h′ ≡ h″) × (b′ ≡ b″) × (u′ ≡ u″) × (v′ ≡ v″)
   pub compare : (first second : List ℕ) (a b : CompareAnswer) → ComparePromise first second a → ComparePromise first second b → a ≡ b
+  -- and the state that it leaves is one alone
+  pub history : (s x y : State) (calls : List Call) → History s calls x → History s calls y → x ≡ y
 
 -- a refused call leaves everything but its work space as it was
 pub record RefusedClaim : Type 0 where
-  pub vorticity : (s : State) (d d′ : List ℤ) (r : Refusal) → VorticityPromise s d (F.Refused r) d′ → d′ ≡ d
-  pub tendencies : (s : State) (q dh du dv dh′ du′ dv′ : List ℤ) (r : Refusal) → TendenciesPromise s q dh du dv (F.Refused r) dh′ du′ dv′
+  pub vorticity : (s : State) (d d′ : List ℤ) (r : Refusal) → VorticityPromise s d (FillAnswer.Refused r) d′ → d′ ≡ d
+  pub tendencies : (s : State) (q dh du dv dh′ du′ dv′ : List ℤ) (r : Refusal) → TendenciesPromise s q dh du dv (FillAnswer.Refused r) dh′ du′ dv′
       → (dh′ ≡ dh) × (du′ ≡ du) × (dv′ ≡ dv)
-  pub step : (s s′ : State) (inflow work work′ : List ℤ) (r : Refusal) → StepPromise s inflow work (S.Refused r) s′ work′ → s′ ≡ s
-  pub step-6 : (s s′ : State) (inflow work work′ : List ℤ) (p k : ℕ) (f : Field) → StepPromise s inflow work (S.OutOfBounds p f k) s′ work′ → s′ ≡ s
-  pub run : (s s′ : State) (inflow work work′ : List ℤ) (m : ℕ) (r : Refusal) → RunPromise s inflow m work (R.Refused r) s′ work′ → s′ ≡ s
-  pub write : (s : State) (t : ℕ) (d d′ : List ℕ) (r : Refusal) → WritePromise s t d (W.Refused r) d′ → d′ ≡ d
-  pub read : (rec : List ℕ) (h b u v h′ b′ u′ v′ : List ℤ) (r : Refusal) → ReadPromise rec h b u v (G.Refused r) h′ b′ u′ v′
+  pub step : (s s′ : State) (inflow work work′ : List ℤ) (r : Refusal) → StepPromise s inflow work (StepAnswer.Refused r) s′ work′ → s′ ≡ s
+  pub step-6 : (s s′ : State) (inflow work work′ : List ℤ) (p k : ℕ) (f : Field) → StepPromise s inflow work (StepAnswer.OutOfBounds p f k) s′ work′ → s′ ≡ s
+  pub run : (s s′ : State) (inflow work work′ : List ℤ) (m : ℕ) (r : Refusal) → RunPromise s inflow m work (RunAnswer.Refused r) s′ work′ → s′ ≡ s
+  pub write : (s : State) (t : ℕ) (d d′ : List ℕ) (r : Refusal) → WritePromise s t d (WriteAnswer.Refused r) d′ → d′ ≡ d
+  pub read : (rec : List ℕ) (h b u v h′ b′ u′ v′ : List ℤ) (r : Refusal) → ReadPromise rec h b u v (ReadAnswer.Refused r) h′ b′ u′ v′
       → (h′ ≡ h) × (b′ ≡ b) × (u′ ≡ u) × (v′ ≡ v)
 
 -- step and run refuse with 1 to 6 alone. After 1 and 2 the work space is untouched; in every other outcome its first 8w·n numbers are
@@ -259,14 +281,14 @@ abbrev pub RefusedWork : Refusal → State → List ℤ → List ℤ → Type 0
 RefusedWork r s work work′ = (number r ≤ 5) × (number r ≤ 2 → work′ ≡ work) × (2 < number r → work′ ≡ cleared s work)
 
 abbrev pub StepWork : StepAnswer → State → List ℤ → List ℤ → Type 0
-StepWork S.Done s work work′ = work′ ≡ cleared s work
-StepWork (S.Refused r) s work work′ = RefusedWork r s work work′
-StepWork (S.OutOfBounds p f k) s work work′ = work′ ≡ cleared s work
+StepWork StepAnswer.Done s work work′ = work′ ≡ cleared s work
+StepWork (StepAnswer.Refused r) s work work′ = RefusedWork r s work work′
+StepWork (StepAnswer.OutOfBounds p f k) s work work′ = work′ ≡ cleared s work
 
 abbrev pub RunWork : RunAnswer → State → List ℤ → List ℤ → Type 0
-RunWork (R.Finished m) s work work′ = work′ ≡ cleared s work
-RunWork (R.Refused r) s work work′ = RefusedWork r s work work′
-RunWork (R.Stopped m p f k) s work work′ = work′ ≡ cleared s work
+RunWork (RunAnswer.Finished m) s work work′ = work′ ≡ cleared s work
+RunWork (RunAnswer.Refused r) s work work′ = RefusedWork r s work work′
+RunWork (RunAnswer.Stopped m p f k) s work work′ = work′ ≡ cleared s work
 
 pub record WorkClaim : Type 0 where
   pub step : (s s′ : State) (inflow work work′ : List ℤ) (answer : StepAnswer) → StepPromise s inflow work answer s′ work′ → StepWork answer s work work′
@@ -289,17 +311,17 @@ OwnVorticityClaim = (s : State) → WithinLimits s → FieldWithin vorticityLimi
 
 -- an accepted potential vorticity call fills it in, and it may then be lent to the tendency call
 abbrev pub VorticityClaim : Type 0
-VorticityClaim = (s : State) (d d′ : List ℤ) → VorticityPromise s d F.Done d′
+VorticityClaim = (s : State) (d d′ : List ℤ) → VorticityPromise s d FillAnswer.Done d′
     → Holds s d′ (vorticityAt s) × FieldWithin vorticityLimits (cells s) (take (cells s) d′) × (drop (cells s) d′ ≡ drop (cells s) d)
 
 -- the tendency call accepts any state within the limits, any q within its bound and destinations that have room, and these alone
 abbrev pub TendenciesAcceptedClaim : Type 0
 TendenciesAcceptedClaim = (s : State) (q dh du dv dh′ du′ dv′ : List ℤ) (answer : FillAnswer) → TendenciesPromise s q dh du dv answer dh′ du′ dv′
-    → (answer ≡ F.Done) ↔ (WithinLimits s × FieldWithin vorticityLimits (cells s) q × (cells s ≤ length dh) × (cells s ≤ length du) × (cells s ≤ length dv))
+    → (answer ≡ FillAnswer.Done) ↔ (WithinLimits s × FieldWithin vorticityLimits (cells s) q × (cells s ≤ length dh) × (cells s ≤ length du) × (cells s ≤ length dv))
 
 -- it then fills in -D, Tu and Tv
 abbrev pub TendenciesClaim : Type 0
-TendenciesClaim = (s : State) (q dh du dv dh′ du′ dv′ : List ℤ) → TendenciesPromise s q dh du dv F.Done dh′ du′ dv′
+TendenciesClaim = (s : State) (q dh du dv dh′ du′ dv′ : List ℤ) → TendenciesPromise s q dh du dv FillAnswer.Done dh′ du′ dv′
     → Holds s dh′ (λ i j. negℤ (D s i j)) × Holds s du′ (tendencyU s q) × Holds s dv′ (tendencyV s q)
     × (drop (cells s) dh′ ≡ drop (cells s) dh) × (drop (cells s) du′ ≡ drop (cells s) du) × (drop (cells s) dv′ ≡ drop (cells s) dv)
 
@@ -312,13 +334,13 @@ pub record Given (s : State) (du dv : List ℤ) : Type 0 where
   pub du₀ : List ℤ
   pub dv₀ : List ℤ
   pub dh : List ℤ
-  pub vorticity : VorticityPromise s d F.Done q
-  pub tendencies : TendenciesPromise s (take (cells s) q) dh₀ du₀ dv₀ F.Done dh du dv
+  pub vorticity : VorticityPromise s d FillAnswer.Done q
+  pub tendencies : TendenciesPromise s (take (cells s) q) dh₀ du₀ dv₀ FillAnswer.Done dh du dv
 
 abbrev pub PassClaim : Type 0
 PassClaim = (base given : State) (inflow du dv : List ℤ) → given .w ≡ base .w → given .n ≡ base .n → Given given du dv
-    → Holds base (pass base given inflow .u) (λ i j. at (base .w) (base .u) i j +ℤ rnd (at (base .w) du i j) (pos 3145728 *ℤ given .R))
-    × Holds base (pass base given inflow .v) (λ i j. at (base .w) (base .v) i j +ℤ rnd (at (base .w) dv i j) (pos 3145728 *ℤ given .R))
+    → Holds base (pass base given inflow .u) (λ i j. at (base .w) (base .u) i j +ℤ rnd (at (base .w) du i j) (tendencyScale *ℤ given .R))
+    × Holds base (pass base given inflow .v) (λ i j. at (base .w) (base .v) i j +ℤ rnd (at (base .w) dv i j) (tendencyScale *ℤ given .R))
 
 -- of a state within the limits: a step leads on exactly where both passes keep the limits, to pass 2's result; so inside a run only
 -- refusal 6 can stop it. It is stuck in pass 1, or else in pass 2, at the first place that this pass leaves
@@ -336,9 +358,9 @@ pub data Steps (inflow : List ℤ) : ℕ → State → State → Type 0 where
 
 -- why a run of m steps ended at t: it was refused, its length was reached, or the next step is refused with the 6 that it tells
 abbrev pub Ended : List ℤ → ℕ → RunAnswer → State → Type 0
-Ended inflow m (R.Refused r) t = Unit
-Ended inflow m (R.Finished k) t = k ≡ m
-Ended inflow m (R.Stopped k p f c) t = (k < m) × (twoPass t inflow ≡ stuck p (record { field = f; cell = c }))
+Ended inflow m (RunAnswer.Refused r) t = Unit
+Ended inflow m (RunAnswer.Finished k) t = k ≡ m
+Ended inflow m (RunAnswer.Stopped k p f c) t = (k < m) × (twoPass t inflow ≡ stuck p (record { field = f; cell = c }))
 
 -- the number that a run answers is the number of definition steps that lead to the state left
 abbrev pub RunClaim : Type 0
@@ -347,19 +369,19 @@ RunClaim = (s s′ : State) (inflow work work′ : List ℤ) (m : ℕ) (answer :
 
 -- a run that is not refused leaves what as many public step calls leave; where it stopped, the next one answers the 6 that it tells
 abbrev pub NextStep : List ℤ → (room : ℕ) → RunAnswer → State → Type 0
-NextStep inflow room (R.Refused r) t = Unit
-NextStep inflow room (R.Finished k) t = Unit
-NextStep inflow room (R.Stopped k p f c) t = stepAnswer t inflow room ≡ S.OutOfBounds p f c
+NextStep inflow room (RunAnswer.Refused r) t = Unit
+NextStep inflow room (RunAnswer.Finished k) t = Unit
+NextStep inflow room (RunAnswer.Stopped k p f c) t = stepAnswer t inflow room ≡ StepAnswer.OutOfBounds p f c
 
 abbrev pub RunStepsClaim : Type 0
 RunStepsClaim = (s s′ : State) (inflow work work′ lent : List ℤ) (m : ℕ) (answer : RunAnswer) → RunPromise s inflow m work answer s′ work′
-    → ((r : Refusal) → answer ≡ R.Refused r → ⊥) → workLength s ≤ length lent
+    → ((r : Refusal) → answer ≡ RunAnswer.Refused r → ⊥) → workLength s ≤ length lent
     → History s (replicate (runCount answer) (step inflow lent)) s′ × NextStep inflow (length lent) answer s′
 
 -- on a state within the limits the totals are the sums that 01 says
 pub record TotalsClaim : Type 0 where
-  pub depth : (s : State) (answer : TotalAnswer) → WithinLimits s → TotalDepthPromise s answer → answer ≡ A.Total (totalDepth s)
-  pub energy : (s : State) (answer : TotalAnswer) → WithinLimits s → TotalEnergyPromise s answer → answer ≡ A.Total (energy4 s)
+  pub depth : (s : State) (answer : TotalAnswer) → WithinLimits s → TotalDepthPromise s answer → answer ≡ TotalAnswer.Total (totalDepth s)
+  pub energy : (s : State) (answer : TotalAnswer) → WithinLimits s → TotalEnergyPromise s answer → answer ≡ TotalAnswer.Total (energy4 s)
 
 -- ---- the record
 
@@ -370,12 +392,12 @@ RoundTripClaim = (s : State) (t : ℕ) (d d′ : List ℕ) (written : WriteAnswe
     → recordLength s ≤ length d → WritePromise s t d written d′
     → cells s ≤ length h → cells s ≤ length b → cells s ≤ length u → cells s ≤ length v
     → ReadPromise (take (recordLength s) d′) h b u v answer h′ b′ u′ v′
-    → (written ≡ W.Written (recordLength s)) × (answer ≡ G.Read (parametersOf s) t)
+    → (written ≡ WriteAnswer.Written (recordLength s)) × (answer ≡ ReadAnswer.Read (parametersOf s) t)
     × (stateOf (parametersOf s) (take (cells s) h′) (take (cells s) b′) (take (cells s) u′) (take (cells s) v′) ≡ s)
 
 -- what an accepted read fills in is a state within the limits
 abbrev pub ReadClaim : Type 0
-ReadClaim = (rec : List ℕ) (h b u v h′ b′ u′ v′ : List ℤ) (p : Parameters) (t : ℕ) → ReadPromise rec h b u v (G.Read p t) h′ b′ u′ v′
+ReadClaim = (rec : List ℕ) (h b u v h′ b′ u′ v′ : List ℤ) (p : Parameters) (t : ℕ) → ReadPromise rec h b u v (ReadAnswer.Read p t) h′ b′ u′ v′
     → let m = p .w * p .n in WithinLimits (stateOf p (take m h′) (take m b′) (take m u′) (take m v′))
 
 -- the step program's own step passes every test: it is refused by the reader, or with 6
@@ -394,9 +416,9 @@ Bytes rec = (k : ℕ) → getD rec k 0 < 256
 -- an accepted record whose tags rise, read and written again: the same bytes
 abbrev pub RewriteClaim : Type 0
 RewriteClaim = (rec d d′ : List ℕ) (h b u v h′ b′ u′ v′ : List ℤ) (p : Parameters) (t : ℕ) (written : WriteAnswer)
-    → Bytes rec → T (rising rec) → ReadPromise rec h b u v (G.Read p t) h′ b′ u′ v′
+    → Bytes rec → T (rising rec) → ReadPromise rec h b u v (ReadAnswer.Read p t) h′ b′ u′ v′
     → let m = p .w * p .n in WritePromise (stateOf p (take m h′) (take m b′) (take m u′) (take m v′)) t d written d′
-    → length rec ≤ length d → (written ≡ W.Written (length rec)) × (take (length rec) d′ ≡ rec)
+    → length rec ≤ length d → (written ≡ WriteAnswer.Written (length rec)) × (take (length rec) d′ ≡ rec)
 
 -- same exactly where both records are accepted, with one state and one timestamp
 pub record BothAre (first second : List ℕ) : Type 0 where
@@ -435,7 +457,7 @@ pub record CompareClaim : Type 0 where
 abbrev pub changed : State → ℤ → (dh du dv : List ℤ) → State
 changed s e dh du dv =
     withFlow s
-    (byCell (s .w) (s .n) (λ i j. at (s .w) (s .h) i j +ℤ e *ℤ (pos 1572864 *ℤ at (s .w) dh i j)))
+    (byCell (s .w) (s .n) (λ i j. at (s .w) (s .h) i j +ℤ e *ℤ (divergenceScale *ℤ at (s .w) dh i j)))
     (byCell (s .w) (s .n) (λ i j. at (s .w) (s .u) i j +ℤ e *ℤ at (s .w) du i j))
     (byCell (s .w) (s .n) (λ i j. at (s .w) (s .v) i j +ℤ e *ℤ at (s .w) dv i j))
 
@@ -445,23 +467,23 @@ EnergyRateClaim = (s : State) (dh du dv : List ℤ) (e : ℤ)
 
 -- the scaled energy rate is zero, for all three kinds, at every accepted tendency call
 abbrev pub EnergyClaim : Type 0
-EnergyClaim = (s : State) (q dh du dv dh′ du′ dv′ : List ℤ) → TendenciesPromise s q dh du dv F.Done dh′ du′ dv′ → energyRate s dh′ du′ dv′ ≡ pos 0
+EnergyClaim = (s : State) (q dh du dv dh′ du′ dv′ : List ℤ) → TendenciesPromise s q dh du dv FillAnswer.Done dh′ du′ dv′ → energyRate s dh′ du′ dv′ ≡ pos 0
 
 -- the scaled enstrophy rate is zero where the grid wraps both ways: no edge is closed
 abbrev pub EnstrophyClaim : Type 0
-EnstrophyClaim = (s : State) (q dh du dv dh′ du′ dv′ : List ℤ) → OpenEverywhere s → TendenciesPromise s q dh du dv F.Done dh′ du′ dv′
+EnstrophyClaim = (s : State) (q dh du dv dh′ du′ dv′ : List ℤ) → OpenEverywhere s → TendenciesPromise s q dh du dv FillAnswer.Done dh′ du′ dv′
     → enstrophyRate s dh′ du′ dv′ q ≡ pos 0
 
 -- which is kind 0
 abbrev pub PeriodicEnstrophyClaim : Type 0
-PeriodicEnstrophyClaim = (s : State) (q dh du dv dh′ du′ dv′ : List ℤ) → s .kind ≡ 0 → TendenciesPromise s q dh du dv F.Done dh′ du′ dv′
+PeriodicEnstrophyClaim = (s : State) (q dh du dv dh′ du′ dv′ : List ℤ) → s .kind ≡ 0 → TendenciesPromise s q dh du dv FillAnswer.Done dh′ du′ dv′
     → enstrophyRate s dh′ du′ dv′ q ≡ pos 0
 
 -- over any list of step and run calls from any state, total depth answers after the list what it answered before, plus the inflow
 -- due; a refusal stays the same refusal
 abbrev pub raised : ℤ → TotalAnswer → TotalAnswer
-raised due (A.Total x) = A.Total (x +ℤ due)
-raised due (A.Refused r) = A.Refused r
+raised due (TotalAnswer.Total x) = TotalAnswer.Total (x +ℤ due)
+raised due (TotalAnswer.Refused r) = TotalAnswer.Refused r
 
 abbrev pub BalanceClaim : Type 0
 BalanceClaim = (s t : State) (calls : List Call) (before after : TotalAnswer) → History s calls t → TotalDepthPromise s before → TotalDepthPromise t after

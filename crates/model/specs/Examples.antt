@@ -85,14 +85,9 @@ holds (prints input output) = sameBy eqb (programOutput input) (text output)
 abbrev pub minus : ℕ → ℤ
 minus x = negℤ (pos x)
 
-abbrev pub accepted : List ℤ
-accepted = pos 0 ∷ []
-
-abbrev none : List ℤ
-none = pos 0 ∷ []
-
-abbrev pub none2 : List ℤ
-none2 = pos 0 ∷ pos 0 ∷ []
+-- 01's number 0: nothing is refused
+abbrev pub done : List ℤ
+done = pos 0 ∷ []
 
 abbrev just : ℤ → List ℤ
 just x = x ∷ []
@@ -169,8 +164,8 @@ abbrev timestamped : ℕ → ℕ → List ℕ
 timestamped t h = take 24 dock ++ bytes 8 t ++ (4 ∷ 0 ∷ 4 ∷ []) ++ bytes 4 h ++ drop 39 dock
 
 -- read into four fields of one number, a record is refused with 7 and this offset
-abbrev damaged : List ℕ → ℕ → Example
-damaged rec k = reads rec none none none none (pos 7 ∷ pos k ∷ []) none none none none
+abbrev breaksAt : List ℕ → ℕ → Example
+breaksAt rec k = reads rec (zeros 1) (zeros 1) (zeros 1) (zeros 1) (pos 7 ∷ pos k ∷ []) (zeros 1) (zeros 1) (zeros 1) (zeros 1)
 
 -- three columns and two rows, a channel: its record, and the state that it holds
 abbrev six : List ℕ
@@ -223,37 +218,37 @@ workedExamples =
     ∷ rounds (pos 7) (pos 3) (pos 2)
     ∷ rounds (pos 0) (pos 9) (pos 0)
     -- 2
-    ∷ vorticities (one (pos 2000)) none accepted (just (pos 328))
-    ∷ tends (one (pos 2000)) (just (pos 328)) none none none accepted none (just (minus 1574400000)) (just (minus 3148800000))
+    ∷ vorticities (one (pos 2000)) (zeros 1) done (just (pos 328))
+    ∷ tends (one (pos 2000)) (just (pos 328)) (zeros 1) (zeros 1) (zeros 1) done (zeros 1) (just (minus 1574400000)) (just (minus 3148800000))
     ∷ energy (one (pos 2000)) (pos 0 ∷ pos 78530000000 ∷ [])
     -- 3
-    ∷ steps (one (pos 2000)) none (sevens 8) accepted (just (pos 2000)) (just (pos 99)) (just (minus 51)) (zeros 8)
+    ∷ steps (one (pos 2000)) (zeros 1) (sevens 8) done (just (pos 2000)) (just (pos 99)) (just (minus 51)) (zeros 8)
     -- 4
-    ∷ tends (two 0 (pos 1000)) none2 none2 none2 none2 accepted (pos 50000 ∷ minus 50000 ∷ []) (pos 30859591680000 ∷ minus 30859591680000 ∷ []) none2
+    ∷ tends (two 0 (pos 1000)) (zeros 2) (zeros 2) (zeros 2) (zeros 2) done (pos 50000 ∷ minus 50000 ∷ []) (pos 30859591680000 ∷ minus 30859591680000 ∷ []) (zeros 2)
     ∷ energy (two 0 (pos 1000)) (pos 0 ∷ pos 255060500000 ∷ [])
     -- 5
-    ∷ steps (two 0 (pos 100000)) none2 (sevens 16) accepted (pos 2005 ∷ pos 2995 ∷ []) (pos 108 ∷ minus 98 ∷ []) none2 (zeros 16)
+    ∷ steps (two 0 (pos 100000)) (zeros 2) (sevens 16) done (pos 2005 ∷ pos 2995 ∷ []) (pos 108 ∷ minus 98 ∷ []) (zeros 2) (zeros 16)
     -- 6: refusal 5, field u, cell 0
-    ∷ tends (two 2 (pos 1000)) none2 none2 none2 none2 (pos 5 ∷ pos 2 ∷ pos 0 ∷ []) none2 none2 none2
+    ∷ tends (two 2 (pos 1000)) (zeros 2) (zeros 2) (zeros 2) (zeros 2) (pos 5 ∷ pos 2 ∷ pos 0 ∷ []) (zeros 2) (zeros 2) (zeros 2)
     -- 7: refusal 4, field h, cell 0; and accepted
-    ∷ vorticities (one (pos 999)) none (pos 4 ∷ pos 0 ∷ pos 0 ∷ []) none
-    ∷ tends (one (pos 999)) (just (pos 328)) none none none (pos 4 ∷ pos 0 ∷ pos 0 ∷ []) none none none
+    ∷ vorticities (one (pos 999)) (zeros 1) (pos 4 ∷ pos 0 ∷ pos 0 ∷ []) (zeros 1)
+    ∷ tends (one (pos 999)) (just (pos 328)) (zeros 1) (zeros 1) (zeros 1) (pos 4 ∷ pos 0 ∷ pos 0 ∷ []) (zeros 1) (zeros 1) (zeros 1)
     ∷ energy (one (pos 999)) (pos 4 ∷ pos 0 ∷ pos 0 ∷ [])
     ∷ depth (one (pos 1000)) (pos 0 ∷ pos 1000 ∷ [])
-    ∷ vorticities (one (pos 1000)) none accepted (just (pos 655))
-    ∷ tends (one (pos 1000)) (just (pos 655)) none none none accepted none (just (minus 1572000000)) (just (minus 3144000000))
+    ∷ vorticities (one (pos 1000)) (zeros 1) done (just (pos 655))
+    ∷ tends (one (pos 1000)) (just (pos 655)) (zeros 1) (zeros 1) (zeros 1) done (zeros 1) (just (minus 1572000000)) (just (minus 3144000000))
     ∷ energy (one (pos 1000)) (pos 0 ∷ pos 19645000000 ∷ [])
     -- 8: q(0,0), and the other three
-    ∷ vorticities four (zeros 4) accepted (pos 1966080 ∷ pos 0 ∷ pos 0 ∷ pos 655360 ∷ [])
+    ∷ vorticities four (zeros 4) done (pos 1966080 ∷ pos 0 ∷ pos 0 ∷ pos 655360 ∷ [])
     -- 9
-    ∷ steps (one (pos 2000)) none (sevens 7) (just (pos 2)) (just (pos 2000)) (just (pos 100)) (just (minus 50)) (sevens 7)
-    ∷ runs (one (pos 2000)) none 0 (sevens 9) (pos 0 ∷ pos 0 ∷ []) (just (pos 2000)) (just (pos 100)) (just (minus 50)) (zeros 8 ++ sevens 1)
+    ∷ steps (one (pos 2000)) (zeros 1) (sevens 7) (just (pos 2)) (just (pos 2000)) (just (pos 100)) (just (minus 50)) (sevens 7)
+    ∷ runs (one (pos 2000)) (zeros 1) 0 (sevens 9) (pos 0 ∷ pos 0 ∷ []) (just (pos 2000)) (just (pos 100)) (just (minus 50)) (zeros 8 ++ sevens 1)
     ∷ runs (one (pos 100000)) (just (pos 1)) 10001 (sevens 9) (just (pos 1)) (just (pos 100000)) (just (pos 100)) (just (minus 50)) (sevens 9)
     ∷ runs (one (pos 100000)) (just (pos 1)) 10000 (sevens 7) (just (pos 2)) (just (pos 100000)) (just (pos 100)) (just (minus 50)) (sevens 7)
     -- 10: the program, and its input as a record
     ∷ prints dock "total 2000\n0 0 2000 99 -51\n"
     ∷ writes (one (pos 2000)) 0 (replicate 57 7) (pos 0 ∷ pos 56 ∷ []) (dock ++ (7 ∷ []))
-    ∷ reads dock (sevens 2) none none none (pos 0 ∷ pos 1 ∷ pos 1 ∷ pos 0 ∷ pos 9810 ∷ pos 10 ∷ pos 1000 ∷ pos 0 ∷ []) (pos 2000 ∷ pos 7 ∷ []) none (just (pos 100)) (just (minus 50))
+    ∷ reads dock (sevens 2) (zeros 1) (zeros 1) (zeros 1) (pos 0 ∷ pos 1 ∷ pos 1 ∷ pos 0 ∷ pos 9810 ∷ pos 10 ∷ pos 1000 ∷ pos 0 ∷ []) (pos 2000 ∷ pos 7 ∷ []) (zeros 1) (just (pos 100)) (just (minus 50))
     ∷ []
 
 -- ---- what 01's cases leave open: which of two causes is told, and what a refusal leaves
@@ -261,77 +256,77 @@ workedExamples =
 abbrev pub orders : List Example
 orders =
     -- 1 before 2 before 3 before 4 before 5 before 8
-    vorticities (faulty 65 (pos 0) (just (pos 999)) [] (just (pos 1)) none) [] (just (pos 1)) []
-    ∷ vorticities (faulty 1 (pos 0) (just (pos 999)) [] (just (pos 1)) none) [] (just (pos 2)) []
-    ∷ vorticities (faulty 1 (pos 0) (just (pos 999)) none (just (pos 1)) none) [] (just (pos 3)) []
-    ∷ vorticities (faulty 1 (pos 1) (just (pos 999)) none (just (pos 1)) none) [] (pos 4 ∷ pos 0 ∷ pos 0 ∷ []) []
-    ∷ vorticities (faulty 1 (pos 1) (just (pos 1000)) none (just (pos 1)) none) [] (pos 5 ∷ pos 2 ∷ pos 0 ∷ []) []
-    ∷ vorticities (faulty 1 (pos 1) (just (pos 1000)) none none none) [] (just (pos 8)) []
+    vorticities (faulty 65 (pos 0) (just (pos 999)) [] (just (pos 1)) (zeros 1)) [] (just (pos 1)) []
+    ∷ vorticities (faulty 1 (pos 0) (just (pos 999)) [] (just (pos 1)) (zeros 1)) [] (just (pos 2)) []
+    ∷ vorticities (faulty 1 (pos 0) (just (pos 999)) (zeros 1) (just (pos 1)) (zeros 1)) [] (just (pos 3)) []
+    ∷ vorticities (faulty 1 (pos 1) (just (pos 999)) (zeros 1) (just (pos 1)) (zeros 1)) [] (pos 4 ∷ pos 0 ∷ pos 0 ∷ []) []
+    ∷ vorticities (faulty 1 (pos 1) (just (pos 1000)) (zeros 1) (just (pos 1)) (zeros 1)) [] (pos 5 ∷ pos 2 ∷ pos 0 ∷ []) []
+    ∷ vorticities (faulty 1 (pos 1) (just (pos 1000)) (zeros 1) (zeros 1) (zeros 1)) [] (just (pos 8)) []
     -- 4 by h, b, u, v, then q; then lowest cell
-    ∷ tends (faulty 2 (pos 1) (pos 1000 ∷ pos 999 ∷ []) (minus 1 ∷ pos 0 ∷ []) none2 none2) none2 none2 none2 none2 (pos 4 ∷ pos 0 ∷ pos 1 ∷ []) none2 none2 none2
-    ∷ tends (faulty 2 (pos 1) (replicate 2 (pos 1000)) none2 (pos 0 ∷ pos 5001 ∷ []) (pos 5001 ∷ pos 0 ∷ [])) none2 none2 none2 none2 (pos 4 ∷ pos 2 ∷ pos 1 ∷ []) none2 none2 none2
-    ∷ tends (faulty 2 (pos 1) (replicate 2 (pos 1000)) none2 none2 none2) (replicate 2 (pos 2000001)) none2 none2 none2 (pos 4 ∷ pos 4 ∷ pos 0 ∷ []) none2 none2 none2
-    ∷ tends (faulty 2 (pos 1) (replicate 2 (pos 1000)) none2 (pos 0 ∷ pos 1 ∷ []) (pos 0 ∷ pos 1 ∷ [])) none2 none2 none2 none2 (pos 5 ∷ pos 3 ∷ pos 1 ∷ []) none2 none2 none2
+    ∷ tends (faulty 2 (pos 1) (pos 1000 ∷ pos 999 ∷ []) (minus 1 ∷ pos 0 ∷ []) (zeros 2) (zeros 2)) (zeros 2) (zeros 2) (zeros 2) (zeros 2) (pos 4 ∷ pos 0 ∷ pos 1 ∷ []) (zeros 2) (zeros 2) (zeros 2)
+    ∷ tends (faulty 2 (pos 1) (replicate 2 (pos 1000)) (zeros 2) (pos 0 ∷ pos 5001 ∷ []) (pos 5001 ∷ pos 0 ∷ [])) (zeros 2) (zeros 2) (zeros 2) (zeros 2) (pos 4 ∷ pos 2 ∷ pos 1 ∷ []) (zeros 2) (zeros 2) (zeros 2)
+    ∷ tends (faulty 2 (pos 1) (replicate 2 (pos 1000)) (zeros 2) (zeros 2) (zeros 2)) (replicate 2 (pos 2000001)) (zeros 2) (zeros 2) (zeros 2) (pos 4 ∷ pos 4 ∷ pos 0 ∷ []) (zeros 2) (zeros 2) (zeros 2)
+    ∷ tends (faulty 2 (pos 1) (replicate 2 (pos 1000)) (zeros 2) (pos 0 ∷ pos 1 ∷ []) (pos 0 ∷ pos 1 ∷ [])) (zeros 2) (zeros 2) (zeros 2) (zeros 2) (pos 5 ∷ pos 3 ∷ pos 1 ∷ []) (zeros 2) (zeros 2) (zeros 2)
     -- 4 and 5 by field, whatever the cell
-    ∷ tends (faulty 2 (pos 1) (replicate 2 (pos 1000)) (pos 0 ∷ minus 1 ∷ []) (pos 5001 ∷ pos 0 ∷ []) none2) none2 none2 none2 none2 (pos 4 ∷ pos 1 ∷ pos 1 ∷ []) none2 none2 none2
-    ∷ tends (faulty 2 (pos 1) (replicate 2 (pos 1000)) none2 none2 (pos 0 ∷ pos 5001 ∷ [])) (replicate 2 (pos 2000001)) none2 none2 none2 (pos 4 ∷ pos 3 ∷ pos 1 ∷ []) none2 none2 none2
-    ∷ tends (faulty 1 (pos 1) (just (pos 1000)) none (just (pos 1)) none) (just (pos 2000001)) none none none (pos 4 ∷ pos 4 ∷ pos 0 ∷ []) none none none
-    ∷ depth (faulty 1 (pos 1) (just (pos 1000)) none (just (pos 1)) (just (pos 1))) (pos 5 ∷ pos 2 ∷ pos 0 ∷ [])
+    ∷ tends (faulty 2 (pos 1) (replicate 2 (pos 1000)) (pos 0 ∷ minus 1 ∷ []) (pos 5001 ∷ pos 0 ∷ []) (zeros 2)) (zeros 2) (zeros 2) (zeros 2) (zeros 2) (pos 4 ∷ pos 1 ∷ pos 1 ∷ []) (zeros 2) (zeros 2) (zeros 2)
+    ∷ tends (faulty 2 (pos 1) (replicate 2 (pos 1000)) (zeros 2) (zeros 2) (pos 0 ∷ pos 5001 ∷ [])) (replicate 2 (pos 2000001)) (zeros 2) (zeros 2) (zeros 2) (pos 4 ∷ pos 3 ∷ pos 1 ∷ []) (zeros 2) (zeros 2) (zeros 2)
+    ∷ tends (faulty 1 (pos 1) (just (pos 1000)) (zeros 1) (just (pos 1)) (zeros 1)) (just (pos 2000001)) (zeros 1) (zeros 1) (zeros 1) (pos 4 ∷ pos 4 ∷ pos 0 ∷ []) (zeros 1) (zeros 1) (zeros 1)
+    ∷ depth (faulty 1 (pos 1) (just (pos 1000)) (zeros 1) (just (pos 1)) (just (pos 1))) (pos 5 ∷ pos 2 ∷ pos 0 ∷ [])
     -- 8 of each destination
-    ∷ tends (faulty 1 (pos 1) (just (pos 1000)) none none none) none [] none none (just (pos 8)) [] none none
-    ∷ tends (faulty 1 (pos 1) (just (pos 1000)) none none none) none none [] none (just (pos 8)) none [] none
-    ∷ tends (faulty 1 (pos 1) (just (pos 1000)) none none none) none none none [] (just (pos 8)) none none []
+    ∷ tends (faulty 1 (pos 1) (just (pos 1000)) (zeros 1) (zeros 1) (zeros 1)) (zeros 1) [] (zeros 1) (zeros 1) (just (pos 8)) [] (zeros 1) (zeros 1)
+    ∷ tends (faulty 1 (pos 1) (just (pos 1000)) (zeros 1) (zeros 1) (zeros 1)) (zeros 1) (zeros 1) [] (zeros 1) (just (pos 8)) (zeros 1) [] (zeros 1)
+    ∷ tends (faulty 1 (pos 1) (just (pos 1000)) (zeros 1) (zeros 1) (zeros 1)) (zeros 1) (zeros 1) (zeros 1) [] (just (pos 8)) (zeros 1) (zeros 1) []
     ∷ writes (one (pos 2000)) 0 (replicate 55 7) (just (pos 8)) (replicate 55 7)
     -- the tests by themselves, by what a call takes beside its state
-    ∷ tests (one (pos 2000)) Nothing [] accepted
+    ∷ tests (one (pos 2000)) Nothing [] done
     ∷ tests (two 2 (pos 1000)) Nothing [] (pos 5 ∷ pos 2 ∷ pos 0 ∷ [])
-    ∷ tests (one (pos 2000)) Vorticity (just (pos 2000000)) accepted
+    ∷ tests (one (pos 2000)) Vorticity (just (pos 2000000)) done
     ∷ tests (one (pos 2000)) Vorticity (just (pos 2000001)) (pos 4 ∷ pos 4 ∷ pos 0 ∷ [])
     ∷ tests (one (pos 2000)) Vorticity [] (just (pos 2))
-    ∷ tests (one (pos 2000)) (Inflow 8) none accepted
-    ∷ tests (one (pos 2000)) (Inflow 7) none (just (pos 2))
+    ∷ tests (one (pos 2000)) (Inflow 8) (zeros 1) done
+    ∷ tests (one (pos 2000)) (Inflow 7) (zeros 1) (just (pos 2))
     ∷ tests (one (pos 2000)) (Inflow 8) (just (pos 1001)) (pos 4 ∷ pos 5 ∷ pos 0 ∷ [])
-    ∷ tests (one (pos 2000)) (Run 10000 8) none accepted
+    ∷ tests (one (pos 2000)) (Run 10000 8) (zeros 1) done
     ∷ tests (one (pos 2000)) (Run 10001 0) [] (just (pos 1))
-    ∷ tests (one (pos 999)) (Run 10000 7) none (just (pos 2))
+    ∷ tests (one (pos 999)) (Run 10000 7) (zeros 1) (just (pos 2))
     ∷ tests (one (pos 999)) (Run 10000 8) (just (pos 1001)) (pos 4 ∷ pos 0 ∷ pos 0 ∷ [])
     -- a channel has a wall in the south and none in the west
     ∷ depth (cell 1 (pos 1) (pos 0) (pos 1000) (pos 1000) (pos 0) (pos 1) (pos 0)) (pos 0 ∷ pos 1000 ∷ [])
     ∷ depth (cell 1 (pos 1) (pos 0) (pos 1000) (pos 1000) (pos 0) (pos 0) (pos 1)) (pos 5 ∷ pos 3 ∷ pos 0 ∷ [])
     ∷ depth (cell 1 (pos 1) (pos 0) (pos 1000) (pos 1000) (pos 0) (pos 0) (pos 0)) (pos 0 ∷ pos 1000 ∷ [])
     -- 3, 4 and 6 clear the work space; 6 keeps the state
-    ∷ steps (faulty 1 (pos 0) (just (pos 1000)) none none none) none (sevens 9) (just (pos 3)) (just (pos 1000)) none none (zeros 8 ++ sevens 1)
-    ∷ steps (faulty 1 (pos 1) (just (pos 1000)) none none none) (just (pos 1001)) (sevens 8) (pos 4 ∷ pos 5 ∷ pos 0 ∷ []) (just (pos 1000)) none none (zeros 8)
-    ∷ steps (faulty 1 (pos 1) (just (pos 1000)) none none none) (just (minus 1)) (sevens 8) (pos 6 ∷ pos 1 ∷ pos 0 ∷ pos 0 ∷ []) (just (pos 1000)) none none (zeros 8)
+    ∷ steps (faulty 1 (pos 0) (just (pos 1000)) (zeros 1) (zeros 1) (zeros 1)) (zeros 1) (sevens 9) (just (pos 3)) (just (pos 1000)) (zeros 1) (zeros 1) (zeros 8 ++ sevens 1)
+    ∷ steps (faulty 1 (pos 1) (just (pos 1000)) (zeros 1) (zeros 1) (zeros 1)) (just (pos 1001)) (sevens 8) (pos 4 ∷ pos 5 ∷ pos 0 ∷ []) (just (pos 1000)) (zeros 1) (zeros 1) (zeros 8)
+    ∷ steps (faulty 1 (pos 1) (just (pos 1000)) (zeros 1) (zeros 1) (zeros 1)) (just (minus 1)) (sevens 8) (pos 6 ∷ pos 1 ∷ pos 0 ∷ pos 0 ∷ []) (just (pos 1000)) (zeros 1) (zeros 1) (zeros 8)
     -- 6 by h, u, v: a pass that all three leave, one that u and v leave, one that v alone leaves
     ∷ steps (cell 0 (pos 1) (pos 10000) (pos 1000) (pos 1000) (pos 0) (pos 5000) (pos 5000)) (just (minus 1)) (sevens 8) (pos 6 ∷ pos 1 ∷ pos 0 ∷ pos 0 ∷ []) (just (pos 1000)) (just (pos 5000)) (just (pos 5000)) (zeros 8)
-    ∷ steps (cell 0 (pos 1) (pos 10000) (pos 1000) (pos 1000) (pos 0) (pos 5000) (pos 5000)) none (sevens 8) (pos 6 ∷ pos 1 ∷ pos 2 ∷ pos 0 ∷ []) (just (pos 1000)) (just (pos 5000)) (just (pos 5000)) (zeros 8)
-    ∷ steps (cell 0 (pos 1) (pos 10000) (pos 1000) (pos 1000) (pos 0) (pos 5000) (pos 0)) none (sevens 8) (pos 6 ∷ pos 1 ∷ pos 3 ∷ pos 0 ∷ []) (just (pos 1000)) (just (pos 5000)) none (zeros 8)
+    ∷ steps (cell 0 (pos 1) (pos 10000) (pos 1000) (pos 1000) (pos 0) (pos 5000) (pos 5000)) (zeros 1) (sevens 8) (pos 6 ∷ pos 1 ∷ pos 2 ∷ pos 0 ∷ []) (just (pos 1000)) (just (pos 5000)) (just (pos 5000)) (zeros 8)
+    ∷ steps (cell 0 (pos 1) (pos 10000) (pos 1000) (pos 1000) (pos 0) (pos 5000) (pos 0)) (zeros 1) (sevens 8) (pos 6 ∷ pos 1 ∷ pos 3 ∷ pos 0 ∷ []) (just (pos 1000)) (just (pos 5000)) (zeros 1) (zeros 8)
     -- 1 of a run before 2; 2 of the work space before 3; a run refused with 4
-    ∷ runs (faulty 1 (pos 1) (just (pos 1000)) [] none none) none 10001 (sevens 8) (just (pos 1)) (just (pos 1000)) none none (sevens 8)
+    ∷ runs (faulty 1 (pos 1) (just (pos 1000)) [] (zeros 1) (zeros 1)) (zeros 1) 10001 (sevens 8) (just (pos 1)) (just (pos 1000)) (zeros 1) (zeros 1) (sevens 8)
     ∷ runs (one (pos 100000)) (just (pos 1)) 10001 (sevens 7) (just (pos 1)) (just (pos 100000)) (just (pos 100)) (just (minus 50)) (sevens 7)
-    ∷ runs (one (pos 2000)) none 1 (sevens 7) (just (pos 2)) (just (pos 2000)) (just (pos 100)) (just (minus 50)) (sevens 7)
-    ∷ steps (faulty 1 (pos 0) (just (pos 1000)) none none none) none (sevens 7) (just (pos 2)) (just (pos 1000)) none none (sevens 7)
-    ∷ runs (faulty 1 (pos 1) (just (pos 999)) none none none) none 1 (sevens 8) (pos 4 ∷ pos 0 ∷ pos 0 ∷ []) (just (pos 999)) none none (zeros 8)
+    ∷ runs (one (pos 2000)) (zeros 1) 1 (sevens 7) (just (pos 2)) (just (pos 2000)) (just (pos 100)) (just (minus 50)) (sevens 7)
+    ∷ steps (faulty 1 (pos 0) (just (pos 1000)) (zeros 1) (zeros 1) (zeros 1)) (zeros 1) (sevens 7) (just (pos 2)) (just (pos 1000)) (zeros 1) (zeros 1) (sevens 7)
+    ∷ runs (faulty 1 (pos 1) (just (pos 999)) (zeros 1) (zeros 1) (zeros 1)) (zeros 1) 1 (sevens 8) (pos 4 ∷ pos 0 ∷ pos 0 ∷ []) (just (pos 999)) (zeros 1) (zeros 1) (zeros 8)
     -- a run that its third step stops, at cell 0 and at cell 1
-    ∷ runs (faulty 2 (pos 1) (replicate 2 (pos 1500)) none2 none2 none2) (pos 0 ∷ minus 200 ∷ []) 5 (sevens 16) (pos 6 ∷ pos 1 ∷ pos 0 ∷ pos 1 ∷ pos 2 ∷ []) (pos 1500 ∷ pos 1100 ∷ []) none2 none2 (zeros 16)
-    ∷ runs (faulty 1 (pos 1) (just (pos 1500)) none none none) (just (minus 200)) 5 (sevens 8) (pos 6 ∷ pos 1 ∷ pos 0 ∷ pos 0 ∷ pos 2 ∷ []) (just (pos 1100)) none none (zeros 8)
+    ∷ runs (faulty 2 (pos 1) (replicate 2 (pos 1500)) (zeros 2) (zeros 2) (zeros 2)) (pos 0 ∷ minus 200 ∷ []) 5 (sevens 16) (pos 6 ∷ pos 1 ∷ pos 0 ∷ pos 1 ∷ pos 2 ∷ []) (pos 1500 ∷ pos 1100 ∷ []) (zeros 2) (zeros 2) (zeros 16)
+    ∷ runs (faulty 1 (pos 1) (just (pos 1500)) (zeros 1) (zeros 1) (zeros 1)) (just (minus 200)) 5 (sevens 8) (pos 6 ∷ pos 1 ∷ pos 0 ∷ pos 0 ∷ pos 2 ∷ []) (just (pos 1100)) (zeros 1) (zeros 1) (zeros 8)
     -- 7 at a tag: 1 or 2 bytes left; unknown tag; repeated tag; value past the end; wrong length; then a tag missing
-    ∷ damaged (dock ++ (1 ∷ [])) 56
-    ∷ damaged (dock ++ (1 ∷ 0 ∷ [])) 56
-    ∷ damaged (dock ++ (8 ∷ 0 ∷ 0 ∷ [])) 56
-    ∷ damaged (dock ++ (0 ∷ 0 ∷ 0 ∷ [])) 56
-    ∷ damaged (dock ++ (7 ∷ 0 ∷ 2 ∷ 0 ∷ 0 ∷ [])) 56
-    ∷ damaged (take 55 dock) 51
-    ∷ damaged (1 ∷ 0 ∷ 2 ∷ 1 ∷ 1 ∷ drop 6 dock) 0
-    ∷ damaged (take 51 dock) 51
-    ∷ damaged [] 0
+    ∷ breaksAt (dock ++ (1 ∷ [])) 56
+    ∷ breaksAt (dock ++ (1 ∷ 0 ∷ [])) 56
+    ∷ breaksAt (dock ++ (8 ∷ 0 ∷ 0 ∷ [])) 56
+    ∷ breaksAt (dock ++ (0 ∷ 0 ∷ 0 ∷ [])) 56
+    ∷ breaksAt (dock ++ (7 ∷ 0 ∷ 2 ∷ 0 ∷ 0 ∷ [])) 56
+    ∷ breaksAt (take 55 dock) 51
+    ∷ breaksAt (1 ∷ 0 ∷ 2 ∷ 1 ∷ 1 ∷ drop 6 dock) 0
+    ∷ breaksAt (take 51 dock) 51
+    ∷ breaksAt [] 0
     -- reading: 7 before 1 before 2 before 8 before 3
     ∷ reads (drop 51 dock ++ take 51 (1 ∷ 0 ∷ 3 ∷ 1 ∷ 1 ∷ 3 ∷ drop 6 dock)) [] [] [] [] (just (pos 1)) [] [] [] []
     ∷ reads (take 3 dock ++ (1 ∷ 1 ∷ 3 ∷ []) ++ take 45 (drop 6 dock) ++ (7 ∷ 0 ∷ 1 ∷ 0 ∷ [])) [] [] [] [] (just (pos 1)) [] [] [] []
     ∷ reads (take 51 dock ++ (7 ∷ 0 ∷ 1 ∷ 0 ∷ [])) [] [] [] [] (just (pos 2)) [] [] [] []
-    ∷ reads (take 9 dock ++ replicate 12 0 ++ drop 21 dock) none none none [] (just (pos 8)) none none none []
-    ∷ reads (take 9 dock ++ replicate 12 0 ++ drop 21 dock) none none none none (just (pos 3)) none none none none
+    ∷ reads (take 9 dock ++ replicate 12 0 ++ drop 21 dock) (zeros 1) (zeros 1) (zeros 1) [] (just (pos 8)) (zeros 1) (zeros 1) (zeros 1) []
+    ∷ reads (take 9 dock ++ replicate 12 0 ++ drop 21 dock) (zeros 1) (zeros 1) (zeros 1) (zeros 1) (just (pos 3)) (zeros 1) (zeros 1) (zeros 1) (zeros 1)
     -- a record of six cells, written and read
     ∷ writes sixState 258 (replicate 117 7) (pos 0 ∷ pos 116 ∷ []) (six ++ (7 ∷ []))
     ∷ reads six (sevens 7) (sevens 7) (sevens 7) (sevens 7) (pos 0 ∷ pos 3 ∷ pos 2 ∷ pos 1 ∷ pos 9810 ∷ pos 10 ∷ pos 1000000 ∷ pos 258 ∷ [])
@@ -394,14 +389,14 @@ bounds =
     ∷ depth (cell 0 (pos 1) (pos 0) (pos 1000) (pos 1000) (pos 0) (pos 0) (pos 5000)) (pos 0 ∷ pos 1000 ∷ [])
     ∷ depth (cell 0 (pos 1) (pos 0) (pos 1000) (pos 1000) (pos 0) (pos 0) (pos 5001)) (pos 4 ∷ pos 3 ∷ pos 0 ∷ [])
     -- 4: q and inflow
-    ∷ tends (cell 0 (pos 1) (pos 0) (pos 1000) (pos 1000) (pos 0) (pos 0) (pos 0)) (just (minus 2000000)) none none none accepted none none none
-    ∷ tends (cell 0 (pos 1) (pos 0) (pos 1000) (pos 1000) (pos 0) (pos 0) (pos 0)) (just (minus 2000001)) none none none (pos 4 ∷ pos 4 ∷ pos 0 ∷ []) none none none
-    ∷ tends (cell 0 (pos 1) (pos 0) (pos 1000) (pos 1000) (pos 0) (pos 0) (pos 0)) (just (pos 2000000)) none none none accepted none none none
-    ∷ tends (cell 0 (pos 1) (pos 0) (pos 1000) (pos 1000) (pos 0) (pos 0) (pos 0)) (just (pos 2000001)) none none none (pos 4 ∷ pos 4 ∷ pos 0 ∷ []) none none none
-    ∷ steps (cell 0 (pos 1) (pos 0) (pos 1000) (pos 50000) (pos 0) (pos 0) (pos 0)) (just (minus 1000)) (sevens 8) accepted (just (pos 49000)) none none (zeros 8)
-    ∷ steps (cell 0 (pos 1) (pos 0) (pos 1000) (pos 50000) (pos 0) (pos 0) (pos 0)) (just (minus 1001)) (sevens 8) (pos 4 ∷ pos 5 ∷ pos 0 ∷ []) (just (pos 50000)) none none (zeros 8)
-    ∷ steps (cell 0 (pos 1) (pos 0) (pos 1000) (pos 50000) (pos 0) (pos 0) (pos 0)) (just (pos 1000)) (sevens 8) accepted (just (pos 51000)) none none (zeros 8)
-    ∷ steps (cell 0 (pos 1) (pos 0) (pos 1000) (pos 50000) (pos 0) (pos 0) (pos 0)) (just (pos 1001)) (sevens 8) (pos 4 ∷ pos 5 ∷ pos 0 ∷ []) (just (pos 50000)) none none (zeros 8)
+    ∷ tends (cell 0 (pos 1) (pos 0) (pos 1000) (pos 1000) (pos 0) (pos 0) (pos 0)) (just (minus 2000000)) (zeros 1) (zeros 1) (zeros 1) done (zeros 1) (zeros 1) (zeros 1)
+    ∷ tends (cell 0 (pos 1) (pos 0) (pos 1000) (pos 1000) (pos 0) (pos 0) (pos 0)) (just (minus 2000001)) (zeros 1) (zeros 1) (zeros 1) (pos 4 ∷ pos 4 ∷ pos 0 ∷ []) (zeros 1) (zeros 1) (zeros 1)
+    ∷ tends (cell 0 (pos 1) (pos 0) (pos 1000) (pos 1000) (pos 0) (pos 0) (pos 0)) (just (pos 2000000)) (zeros 1) (zeros 1) (zeros 1) done (zeros 1) (zeros 1) (zeros 1)
+    ∷ tends (cell 0 (pos 1) (pos 0) (pos 1000) (pos 1000) (pos 0) (pos 0) (pos 0)) (just (pos 2000001)) (zeros 1) (zeros 1) (zeros 1) (pos 4 ∷ pos 4 ∷ pos 0 ∷ []) (zeros 1) (zeros 1) (zeros 1)
+    ∷ steps (cell 0 (pos 1) (pos 0) (pos 1000) (pos 50000) (pos 0) (pos 0) (pos 0)) (just (minus 1000)) (sevens 8) done (just (pos 49000)) (zeros 1) (zeros 1) (zeros 8)
+    ∷ steps (cell 0 (pos 1) (pos 0) (pos 1000) (pos 50000) (pos 0) (pos 0) (pos 0)) (just (minus 1001)) (sevens 8) (pos 4 ∷ pos 5 ∷ pos 0 ∷ []) (just (pos 50000)) (zeros 1) (zeros 1) (zeros 8)
+    ∷ steps (cell 0 (pos 1) (pos 0) (pos 1000) (pos 50000) (pos 0) (pos 0) (pos 0)) (just (pos 1000)) (sevens 8) done (just (pos 51000)) (zeros 1) (zeros 1) (zeros 8)
+    ∷ steps (cell 0 (pos 1) (pos 0) (pos 1000) (pos 50000) (pos 0) (pos 0) (pos 0)) (just (pos 1001)) (sevens 8) (pos 4 ∷ pos 5 ∷ pos 0 ∷ []) (just (pos 50000)) (zeros 1) (zeros 1) (zeros 8)
     ∷ []
 
 pub all-hold : T (all holds (workedExamples ++ (bounds ++ orders)))

@@ -8,9 +8,9 @@ use Rattle.model.specs.State.{State}
 use Rattle.model.specs.Step.{stepAnswer, stepState, runOf}
 use Rattle.model.specs.Promises.{StepPromise, RunPromise}
 use Rattle.model.specs.declared.StepAnswer.{StepAnswer}
-use Rattle.model.specs.declared.StepAnswer.the-variants as S
+use Rattle.model.specs.declared.StepAnswer.the-variants as StepAnswer
 use Rattle.model.specs.declared.RunAnswer.{RunAnswer}
-use Rattle.model.specs.declared.RunAnswer.the-variants as R
+use Rattle.model.specs.declared.RunAnswer.the-variants as RunAnswer
 
 -- a call with its own inflow, run length and work space, which may be ones that are refused
 pub data Call : Type 0 where
@@ -25,15 +25,15 @@ inflowOf (run inflow m work) = inflow
 
 -- a refused step does none, any other step one
 abbrev pub stepCount : StepAnswer → ℕ
-stepCount S.Done = 1
-stepCount (S.Refused r) = 0
-stepCount (S.OutOfBounds p f k) = 0
+stepCount StepAnswer.Done = 1
+stepCount (StepAnswer.Refused r) = 0
+stepCount (StepAnswer.OutOfBounds p f k) = 0
 
 -- a run refused with a number other than 6 does none; any other run does the steps that it counts
 abbrev pub runCount : RunAnswer → ℕ
-runCount (R.Finished m) = m
-runCount (R.Refused r) = 0
-runCount (R.Stopped m p f k) = m
+runCount (RunAnswer.Finished m) = m
+runCount (RunAnswer.Refused r) = 0
+runCount (RunAnswer.Stopped m p f k) = m
 
 abbrev pub stepsDone : State → Call → ℕ
 stepsDone s (step inflow work) = stepCount (stepAnswer s inflow (length work))

@@ -72,6 +72,24 @@ pub record Within (l : Limits) (x : ℤ) : Type 0 where
   pub low : l .least ≤ℤ x
   pub high : x ≤ℤ l .most
 
+-- ---- scales, so that every term is a whole number
+
+-- q is potential vorticity times spacing times 65,536; H is four times a depth, so Z is multiplied by four times that
+abbrev pub vorticityScale : ℤ
+vorticityScale = pos 262144
+
+-- Tu and Tv are rates times spacing times this: q's 65,536, the weights' 24, and the 2 of U and V
+abbrev pub tendencyScale : ℤ
+tendencyScale = pos 3145728
+
+-- B is four times the Bernoulli function, so in Tu and Tv its difference is multiplied by a quarter of that
+abbrev pub bernoulliScale : ℤ
+bernoulliScale = pos 786432
+
+-- -D is a rate times 2 spacings, so half of that brings it to the scale of Tu and Tv
+abbrev pub divergenceScale : ℤ
+divergenceScale = pos 1572864
+
 -- ---- tests
 
 abbrev pub eqℤ : ℤ → ℤ → Bool

@@ -18,7 +18,7 @@ use Rattle.model.specs.Record.{Decoded, accepted, refused, decode}
 use Rattle.model.specs.Promises.{readInto}
 use Rattle.model.specs.declared.Refusal.the-variants.{Record}
 use Rattle.model.specs.declared.StepAnswer.{StepAnswer}
-use Rattle.model.specs.declared.StepAnswer.the-variants as S
+use Rattle.model.specs.declared.StepAnswer.the-variants as StepAnswer
 
 -- ---- text, as bytes
 
@@ -63,9 +63,9 @@ abbrev pub stateLines : State → List ℕ
 stateLines s = lines (totalLine (totalDepth s) ∷ tabulate (cells s) (cellLine (s .w) (s .h) (s .u) (s .v)))
 
 abbrev pub stepLines : StepAnswer → State → List ℕ
-stepLines S.Done s = stateLines s
-stepLines (S.Refused r) s = refusedLine (number r)
-stepLines (S.OutOfBounds p f k) s = refusedLine 6
+stepLines StepAnswer.Done s = stateLines s
+stepLines (StepAnswer.Refused r) s = refusedLine (number r)
+stepLines (StepAnswer.OutOfBounds p f k) s = refusedLine 6
 
 -- ---- a record read and stepped, over any lent arrays
 

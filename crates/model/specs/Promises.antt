@@ -26,11 +26,11 @@ use Rattle.model.specs.declared.TotalAnswer.{TotalAnswer}
 use Rattle.model.specs.declared.WriteAnswer.{WriteAnswer}
 use Rattle.model.specs.declared.ReadAnswer.{ReadAnswer}
 use Rattle.model.specs.declared.CompareAnswer.{CompareAnswer}
-use Rattle.model.specs.declared.TestAnswer.the-variants as Q
-use Rattle.model.specs.declared.FillAnswer.the-variants as F
-use Rattle.model.specs.declared.TotalAnswer.the-variants as T
-use Rattle.model.specs.declared.WriteAnswer.the-variants as W
-use Rattle.model.specs.declared.ReadAnswer.the-variants as R
+use Rattle.model.specs.declared.TestAnswer.the-variants as TestAnswer
+use Rattle.model.specs.declared.FillAnswer.the-variants as FillAnswer
+use Rattle.model.specs.declared.TotalAnswer.the-variants as TotalAnswer
+use Rattle.model.specs.declared.WriteAnswer.the-variants as WriteAnswer
+use Rattle.model.specs.declared.ReadAnswer.the-variants as ReadAnswer
 
 -- a refusal leaves a destination as it was
 abbrev pub leftBy : {A : Type 0} → Option Refusal → List A → List A → List A
@@ -47,8 +47,8 @@ testOf s (Inflow m) x = stepTest s x m
 testOf s (Run k m) x = runTest s x k m
 
 abbrev pub testAnswer : Option Refusal → TestAnswer
-testAnswer none = Q.Passed
-testAnswer (some r) = Q.Refused r
+testAnswer none = TestAnswer.Passed
+testAnswer (some r) = TestAnswer.Refused r
 
 -- It rules out, for instance: 4 told before 3; the last bad cell instead of the first.
 pub record TestPromise (s : State) (beside : Beside) (x : List ℤ) (answer : TestAnswer) : Type 0 where
@@ -58,8 +58,8 @@ pub record TestPromise (s : State) (beside : Beside) (x : List ℤ) (answer : Te
 -- ---- potential vorticity, into d: 1, 2, 3, 4, 5, 8
 
 abbrev pub fillAnswer : Option Refusal → FillAnswer
-fillAnswer none = F.Done
-fillAnswer (some r) = F.Refused r
+fillAnswer none = FillAnswer.Done
+fillAnswer (some r) = FillAnswer.Refused r
 
 unfoldable pub vorticityTest : State → ℕ → Option Refusal
 vorticityTest s room = callTest s [] (cells s) (room ∷ [])
@@ -105,8 +105,8 @@ unfoldable pub totalTest : State → Option Refusal
 totalTest s = stateTest s [] none none
 
 abbrev pub totalAnswer : Option Refusal → ℤ → TotalAnswer
-totalAnswer none x = T.Total x
-totalAnswer (some r) x = T.Refused r
+totalAnswer none x = TotalAnswer.Total x
+totalAnswer (some r) x = TotalAnswer.Refused r
 
 -- They rule out: a total that leaves a cell out; the total of a state that is to be refused.
 pub record TotalDepthPromise (s : State) (answer : TotalAnswer) : Type 0 where
@@ -123,8 +123,8 @@ unfoldable pub writeTest : State → ℕ → Option Refusal
 writeTest s room = callTest s [] (recordLength s) (room ∷ [])
 
 abbrev pub writeAnswer : Option Refusal → ℕ → WriteAnswer
-writeAnswer none m = W.Written m
-writeAnswer (some r) m = W.Refused r
+writeAnswer none m = WriteAnswer.Written m
+writeAnswer (some r) m = WriteAnswer.Refused r
 
 -- It rules out: a field little-endian; a byte written past the record.
 pub record WritePromise (s : State) (timestamp : Timestamp) (d : List ℕ) (answer : WriteAnswer) (d′ : List ℕ) : Type 0 where
@@ -135,8 +135,8 @@ pub record WritePromise (s : State) (timestamp : Timestamp) (d : List ℕ) (answ
 -- ---- record reader, into h, b, u, v: 7, 1, 2, 8, 3, 4, 5
 
 abbrev pub readAnswer : Decoded → ReadAnswer
-readAnswer (accepted s t) = R.Read (parametersOf s) t
-readAnswer (refused r) = R.Refused r
+readAnswer (accepted s t) = ReadAnswer.Read (parametersOf s) t
+readAnswer (refused r) = ReadAnswer.Refused r
 
 -- what a reader leaves in the destination d of a field
 abbrev pub readInto : (State → List ℤ) → Decoded → List ℤ → List ℤ

@@ -12,7 +12,7 @@ use Rattle.model.specs.State.{State, cells, known, boundaryOf, closedWes
 use Rattle.model.specs.declared.Field.{Field}
 use Rattle.model.specs.declared.Field.the-variants.{Depth, Bottom, VelocityU, VelocityV, Vorticity, Inflow}
 use Rattle.model.specs.declared.Beside.{Beside}
-use Rattle.model.specs.declared.Beside.the-variants as B
+use Rattle.model.specs.declared.Beside.the-variants as Beside
 use Rattle.model.specs.declared.Refusal.{Refusal}
 use Rattle.model.specs.declared.Refusal.the-variants.{Grid, Lengths, Constants, Value, ClosedEdge, Destination}
 
@@ -84,26 +84,34 @@ inflowTaken s inflow = inflowField (cells s) inflow ∷ []
 
 -- what a call takes beside its state of m cells: its further field x, whether its run is short enough, and its work space long enough
 abbrev pub besideTaken : ℕ → Beside → List ℤ → List Taken
-besideTaken m B.Nothing x = []
-besideTaken m B.Vorticity x = vorticityField m x ∷ []
-besideTaken m (B.Inflow work) x = inflowField m x ∷ []
-besideTaken m (B.Run steps work) x = inflowField m x ∷ []
+besideTaken m Beside.Nothing x = []
+besideTaken m Beside.Vorticity x = vorticityField m x ∷ []
+besideTaken m (Beside.Inflow work) x = inflowField m x ∷ []
+besideTaken m (Beside.Run steps work) x = inflowField m x ∷ []
+
+-- a run of m steps is short enough
+abbrev pub shortRun : ℕ → Bool
+shortRun m = leb m longestRun
 
 abbrev pub runShort : Beside → Bool
-runShort B.Nothing = true
-runShort B.Vorticity = true
-runShort (B.Inflow work) = true
-runShort (B.Run steps work) = leb steps longestRun
+runShort Beside.Nothing = true
+runShort Beside.Vorticity = true
+runShort (Beside.Inflow work) = true
+runShort (Beside.Run steps work) = shortRun steps
 
 -- the numbers of work space that step and run need
 abbrev pub workFor : ℕ → ℕ
 workFor m = 8 * m
 
+-- a work space of so many numbers is enough for m cells
+abbrev pub enoughWork : (m work : ℕ) → Bool
+enoughWork m work = leb (workFor m) work
+
 abbrev pub workEnough : ℕ → Beside → Bool
-workEnough m B.Nothing = true
-workEnough m B.Vorticity = true
-workEnough m (B.Inflow work) = leb (workFor m) work
-workEnough m (B.Run steps work) = leb (workFor m) work
+workEnough m Beside.Nothing = true
+workEnough m Beside.Vorticity = true
+workEnough m (Beside.Inflow work) = enoughWork m work
+workEnough m (Beside.Run steps work) = enoughWork m work
 
 -- the first place outside: fields in their order, then lowest cell
 abbrev pub outside : Taken → ℕ → Bool
@@ -124,7 +132,7 @@ gridTest s = must (gridKnown s) Grid
 
 -- 1: run too long
 unfoldable pub runLengthTest : ℕ → Option Refusal
-runLengthTest m = must (leb m longestRun) Grid
+runLengthTest m = must (shortRun m) Grid
 
 -- 2: a field's length is not w·n
 abbrev pub long : Taken → Bool
@@ -138,7 +146,7 @@ abbrev pub workLength : State → ℕ
 workLength s = workFor (cells s)
 
 unfoldable pub workTest : State → ℕ → Option Refusal
-workTest s m = must (leb (workLength s) m) Lengths
+workTest s m = must (enoughWork (cells s) m) Lengths
 
 -- 3: G, c or R outside
 unfoldable pub constantsWithin : State → Bool

@@ -6,6 +6,8 @@ use Prim.Native.Nat.{ℕ, _*_, _≤_, _<_}
 use lib.Dec.{T, eqb}
 use lib.IntN.{ℤ, pos}
 use lib.ListN.{length, getD}
+use denote.Ref.{RefT, now}
+use denote.Triple.Both.{Both}
 use Rattle.model.specs.Numbers.{Limits, Within, depthLimits, bottomLimits, velocityLimits, gravityLimits, coriolisLimits, ratioLimits, longestSide}
 use Rattle.model.specs.Grid.{at}
 use Rattle.model.specs.declared.Parameters.{Parameters}
@@ -30,6 +32,16 @@ pub record State : Type 0 where
 -- the state that a call takes as parameters and four slices, and its parameters
 abbrev pub stateOf : Parameters → List ℤ → List ℤ → List ℤ → List ℤ → State
 stateOf p h b u v = record { w = p .w; n = p .n; kind = p .kind; G = p .g; c = p .c; R = p .r; h = h; b = b; u = u; v = v }
+
+-- the same of references: as a `requires` names them; at entry, as an `ensures` does; and at exit, of a call that steps h, u and v
+abbrev pub lent : Parameters → (h b u v : RefT (List ℤ)) → State
+lent p h b u v = stateOf p (now h) (now b) (now u) (now v)
+
+abbrev pub before : {H B U W : Type 0} → Parameters → Both (RefT (List ℤ)) H → Both (RefT (List ℤ)) B → Both (RefT (List ℤ)) U → Both (RefT (List ℤ)) W → State
+before p h b u v = lent p (h .entry) (b .entry) (u .entry) (v .entry)
+
+abbrev pub after : {B : Type 0} → Parameters → Both (RefT (List ℤ)) (RefT (List ℤ)) → Both (RefT (List ℤ)) B → Both (RefT (List ℤ)) (RefT (List ℤ)) → Both (RefT (List ℤ)) (RefT (List ℤ)) → State
+after p h b u v = lent p (h .exit) (b .entry) (u .exit) (v .exit)
 
 abbrev pub parametersOf : State → Parameters
 parametersOf s = record { w = s .w; n = s .n; kind = s .kind; g = s .G; c = s .c; r = s .R }

@@ -5,7 +5,7 @@ use mathlib.Core.Option.{Option, none, some}
 use Prim.Native.Nat.{ℕ, zero, suc}
 use lib.IntN.{ℤ, pos, _+ℤ_, _-ℤ_, _*ℤ_}
 use lib.ListN.{replicate}
-use Rattle.model.specs.Numbers.{rnd}
+use Rattle.model.specs.Numbers.{rnd, tendencyScale}
 use Rattle.model.specs.Grid.{at, byCell, filled}
 use Rattle.model.specs.State.{State, withFlow}
 use Rattle.model.specs.Refusals.{Place, depthOf, uOf, vOf, firstOutside, inflowTaken, runLengthTest, workLength, workTest, stateTest}
@@ -13,9 +13,9 @@ use Rattle.model.specs.Scheme.{fluxU, fluxV, toEast, toNorth, vorticity,
 use Rattle.model.specs.declared.Refusal.{Refusal}
 use Rattle.model.specs.declared.Refusal.the-variants.{Grid, Lengths, Constants, Value, ClosedEdge, Record, Destination}
 use Rattle.model.specs.declared.StepAnswer.{StepAnswer}
-use Rattle.model.specs.declared.StepAnswer.the-variants as S
+use Rattle.model.specs.declared.StepAnswer.the-variants as StepAnswer
 use Rattle.model.specs.declared.RunAnswer.{RunAnswer}
-use Rattle.model.specs.declared.RunAnswer.the-variants as R
+use Rattle.model.specs.declared.RunAnswer.the-variants as RunAnswer
 
 -- ---- a pass from a base state with the tendencies of a given state
 
@@ -36,10 +36,10 @@ module _ (given : State) where
 
     -- q is the given state's own potential vorticity
     unfoldable pub newU : List ℤ → ℕ → ℕ → ℤ
-    newU q i j = at (base .w) (base .u) i j +ℤ rnd (tendencyU given q i j) (pos 3145728 *ℤ given .R)
+    newU q i j = at (base .w) (base .u) i j +ℤ rnd (tendencyU given q i j) (tendencyScale *ℤ given .R)
 
     unfoldable pub newV : List ℤ → ℕ → ℕ → ℤ
-    newV q i j = at (base .w) (base .v) i j +ℤ rnd (tendencyV given q i j) (pos 3145728 *ℤ given .R)
+    newV q i j = at (base .w) (base .v) i j +ℤ rnd (tendencyV given q i j) (tendencyScale *ℤ given .R)
 
 unfoldable pub pass : State → State → List ℤ → State
 pass base given inflow =
@@ -76,9 +76,9 @@ twoPass s inflow = let r = pass s s inflow in passed (leaves r) 1 (second s r in
 unfoldable pub stepTest : State → List ℤ → ℕ → Option Refusal
 stepTest s inflow room = stateTest s (inflowTaken s inflow) none (workTest s room)
 
-abbrev pub stepTold : Outcome → StepAnswer
-stepTold (moved t) = S.Done
-stepTold (stuck p x) = S.OutOfBounds p (x .field) (x .cell)
+abbrev pub outcomeAnswer : Outcome → StepAnswer
+outcomeAnswer (moved t) = StepAnswer.Done
+outcomeAnswer (stuck p x) = StepAnswer.OutOfBounds p (x .field) (x .cell)
 
 -- refusal 6 leaves the state before that step
 abbrev pub afterStep : State → Outcome → State
@@ -86,8 +86,8 @@ afterStep s (moved t) = t
 afterStep s (stuck p x) = s
 
 abbrev pub stepAnswerBy : Option Refusal → Outcome → StepAnswer
-stepAnswerBy none o = stepTold o
-stepAnswerBy (some r) o = S.Refused r
+stepAnswerBy none o = outcomeAnswer o
+stepAnswerBy (some r) o = StepAnswer.Refused r
 
 abbrev pub stepStateBy : Option Refusal → State → Outcome → State
 stepStateBy none s o = afterStep s o
@@ -109,11 +109,11 @@ pub record Ran : Type 0 where
 -- by what the next step comes to, after `done` steps
 abbrev pub runOn : (State → Ran) → ℕ → State → Outcome → Ran
 runOn more done s (moved t) = more t
-runOn more done s (stuck p x) = record { answer = R.Stopped done p (x .field) (x .cell); state = s }
+runOn more done s (stuck p x) = record { answer = RunAnswer.Stopped done p (x .field) (x .cell); state = s }
 
 -- m steps more, from a state after `done` steps
 unfoldable pub runFrom : ℕ → ℕ → State → List ℤ → Ran
-runFrom zero done s inflow = record { answer = R.Finished done; state = s }
+runFrom zero done s inflow = record { answer = RunAnswer.Finished done; state = s }
 runFrom (suc m) done s inflow = runOn (λ t. runFrom m (suc done) t inflow) done s (twoPass s inflow)
 
 unfoldable pub runTest : State → List ℤ → ℕ → ℕ → Option Refusal
@@ -121,7 +121,7 @@ runTest s inflow m room = stateTest s (inflowTaken s inflow) (runLengthTest m) (
 
 abbrev pub runBy : Option Refusal → State → Ran → Ran
 runBy none s r = r
-runBy (some x) s r = record { answer = R.Refused x; state = s }
+runBy (some x) s r = record { answer = RunAnswer.Refused x; state = s }
 
 -- a run of m steps
 unfoldable pub runOf : State → List ℤ → ℕ → ℕ → Ran

@@ -5,7 +5,7 @@ ghost use mathlib.Core.List.{[]};
 ghost use Prim.Native.Nat.{_*_, _<_, _≤_};
 ghost use lib.ListN.{length};
 ghost use Rattle.model.specs.Grid.{previous, byCell};
-ghost use Rattle.model.specs.State.{stateOf};
+ghost use Rattle.model.specs.State.{stateOf, lent, before};
 ghost use Rattle.model.specs.Scheme.{vorticity};
 ghost use Rattle.model.specs.Step;
 ghost use Rattle.model.specs.Step.{X, Y, newU, newV};
@@ -41,7 +41,15 @@ const FLOW_Y: usize = 5;
 // The flows X and Y and the potential vorticity of the given state, into banks 4, 5 and 6.
 fn fill_edges(p: Parameters, h: &[i64], u: &[i64], v: &[i64], work: &mut [i64])
     requires { ⌜ EdgesReady p (now h) (now u) (now v) × (8 * (p .w * p .n) ≤ length (now work)) ⌝ }
-    ensures { λ _. ⌜ (let s = stateOf p (now (h .entry)) [] (now (u .entry)) (now (v .entry)) in let m = p .w * p .n in let d = now (work .exit) in (part (4 * m) m d ≡ byCell (p .w) (p .n) (X s)) × (part (5 * m) m d ≡ byCell (p .w) (p .n) (Y s)) × (part (6 * m) m d ≡ vorticity s) × Elsewhere (4 * m) (7 * m) (now (work .entry)) d) ⌝ }
+    ensures { λ _. ⌜
+        (let s = stateOf p (now (h .entry)) [] (now (u .entry)) (now (v .entry)) in
+        let m = p .w * p .n in
+        let d = now (work .exit) in
+        (part (4 * m) m d ≡ byCell (p .w) (p .n) (X s))
+        × (part (5 * m) m d ≡ byCell (p .w) (p .n) (Y s))
+        × (part (6 * m) m d ≡ vorticity s)
+        × Elsewhere (4 * m) (7 * m) (now (work .entry)) d)
+        ⌝ }
 {
     let m = p.w * p.n;
     for j in 0..p.n {
@@ -76,7 +84,11 @@ fn new_depth(p: Parameters, inflow: &[i64], work: &[i64], i: usize, j: usize) ->
 // The depths after the pass, into bank 3.
 fn fill_depth(p: Parameters, inflow: &[i64], work: &mut [i64])
     requires { ⌜ DepthReady p (now inflow) (now work) ⌝ }
-    ensures { λ _. ⌜ (let m = p .w * p .n in (part (3 * m) m (now (work .exit)) ≡ byCell (p .w) (p .n) (depthFrom p (now (inflow .entry)) (now (work .entry)))) × Elsewhere (3 * m) (4 * m) (now (work .entry)) (now (work .exit))) ⌝ }
+    ensures { λ _. ⌜
+        (let m = p .w * p .n in
+        (part (3 * m) m (now (work .exit)) ≡ byCell (p .w) (p .n) (depthFrom p (now (inflow .entry)) (now (work .entry))))
+        × Elsewhere (3 * m) (4 * m) (now (work .entry)) (now (work .exit)))
+        ⌝ }
 {
     let m = p.w * p.n;
     for j in 0..p.n {
@@ -102,8 +114,25 @@ fn velocity_row(
     handed: &mut [i64],
     work: &mut [i64],
 )
-    requires { ⌜ (let s = stateOf p (now h) (now b) (now u) (now v) in let m = p .w * p .n in VelocityReady s (now work) × (j < p .n) × HandedNorth s (part (6 * m) m (now work)) (previous (p .n) j) (now handed)) ⌝ }
-    ensures { λ _. ⌜ (let s = stateOf p (now (h .entry)) (now (b .entry)) (now (u .entry)) (now (v .entry)) in let m = p .w * p .n in let d = now (work .entry) in let e = now (work .exit) in let q = part (6 * m) m d in let base = baseIn p (now (b .entry)) d in RowWriting (p .w) (p .n) (newU s base q) 0 j (part (4 * m) m d) (p .w) (part (4 * m) m e) × RowWriting (p .w) (p .n) (newV s base q) 0 j (part (5 * m) m d) (p .w) (part (5 * m) m e) × HandedNorth s q j (now (handed .exit)) × Elsewhere (4 * m) (6 * m) d e) ⌝ }
+    requires { ⌜
+        (let s = lent p h b u v in
+        let m = p .w * p .n in
+        VelocityReady s (now work)
+        × (j < p .n)
+        × HandedNorth s (part (6 * m) m (now work)) (previous (p .n) j) (now handed))
+        ⌝ }
+    ensures { λ _. ⌜
+        (let s = before p h b u v in
+        let m = p .w * p .n in
+        let d = now (work .entry) in
+        let e = now (work .exit) in
+        let q = part (6 * m) m d in
+        let base = baseIn p (now (b .entry)) d in
+        RowWriting (p .w) (p .n) (newU s base q) 0 j (part (4 * m) m d) (p .w) (part (4 * m) m e)
+        × RowWriting (p .w) (p .n) (newV s base q) 0 j (part (5 * m) m d) (p .w) (part (5 * m) m e)
+        × HandedNorth s q j (now (handed .exit))
+        × Elsewhere (4 * m) (6 * m) d e)
+        ⌝ }
 {
     let m = p.w * p.n;
     let last = scheme::shares_at(
@@ -135,8 +164,18 @@ fn velocity_row(
 
 // The velocities after the pass, into banks 4 and 5.
 fn fill_velocity(p: Parameters, h: &[i64], b: &[i64], u: &[i64], v: &[i64], work: &mut [i64])
-    requires { ⌜ VelocityReady (stateOf p (now h) (now b) (now u) (now v)) (now work) ⌝ }
-    ensures { λ _. ⌜ (let s = stateOf p (now (h .entry)) (now (b .entry)) (now (u .entry)) (now (v .entry)) in let m = p .w * p .n in let d = now (work .entry) in let e = now (work .exit) in let q = part (6 * m) m d in let base = baseIn p (now (b .entry)) d in (part (4 * m) m e ≡ byCell (p .w) (p .n) (newU s base q)) × (part (5 * m) m e ≡ byCell (p .w) (p .n) (newV s base q)) × Elsewhere (4 * m) (6 * m) d e) ⌝ }
+    requires { ⌜ VelocityReady (lent p h b u v) (now work) ⌝ }
+    ensures { λ _. ⌜
+        (let s = before p h b u v in
+        let m = p .w * p .n in
+        let d = now (work .entry) in
+        let e = now (work .exit) in
+        let q = part (6 * m) m d in
+        let base = baseIn p (now (b .entry)) d in
+        (part (4 * m) m e ≡ byCell (p .w) (p .n) (newU s base q))
+        × (part (5 * m) m e ≡ byCell (p .w) (p .n) (newV s base q))
+        × Elsewhere (4 * m) (6 * m) d e)
+        ⌝ }
 {
     // a row has 64 cells at most
     let mut handed = [0; 64];
@@ -168,8 +207,14 @@ pub fn pass(
     inflow: &[i64],
     work: &mut [i64],
 )
-    requires { ⌜ PassReady (stateOf p (now h) (now b) (now u) (now v)) (now inflow) (now work) ⌝ }
-    ensures { λ _. ⌜ (let m = p .w * p .n in let d = now (work .entry) in let e = now (work .exit) in (resultIn p (now (b .entry)) e ≡ Step.pass (baseIn p (now (b .entry)) d) (stateOf p (now (h .entry)) (now (b .entry)) (now (u .entry)) (now (v .entry))) (now (inflow .entry))) × Elsewhere (3 * m) (7 * m) d e) ⌝ }
+    requires { ⌜ PassReady (lent p h b u v) (now inflow) (now work) ⌝ }
+    ensures { λ _. ⌜
+        (let m = p .w * p .n in
+        let d = now (work .entry) in
+        let e = now (work .exit) in
+        (resultIn p (now (b .entry)) e ≡ Step.pass (baseIn p (now (b .entry)) d) (before p h b u v) (now (inflow .entry)))
+        × Elsewhere (3 * m) (7 * m) d e)
+        ⌝ }
 {
     fill_edges(p, h, u, v, work);
     fill_depth(p, inflow, work);

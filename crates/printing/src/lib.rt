@@ -48,7 +48,9 @@ fn put_digits(out: &mut [u8], at: usize, x: u64) -> usize
 
 // A number, and a byte that ends it.
 fn put_word(out: &mut [u8], at: usize, x: i64, end: u8) -> usize
-    ensures { λ r. ⌜ sink r (now (out .exit)) ≡ puts (decimal x ++ (end ∷ [])) (sink at (now (out .entry))) ⌝ }
+    ensures { λ r. ⌜
+        sink r (now (out .exit)) ≡ puts (decimal x ++ (end ∷ [])) (sink at (now (out .entry)))
+        ⌝ }
 {
     let signed = put_sign(out, at, x);
     let after = put_digits(out, signed, integers::magnitude(x));
@@ -59,7 +61,10 @@ fn put_word(out: &mut [u8], at: usize, x: i64, end: u8) -> usize
 
 // A cell: i, j, h, u and v.
 fn put_cell(out: &mut [u8], at: usize, i: i64, j: i64, h: i64, u: i64, v: i64) -> usize
-    ensures { λ r. ⌜ sink r (now (out .exit)) ≡ puts (line (decimal i ∷ decimal j ∷ decimal h ∷ decimal u ∷ decimal v ∷ [])) (sink at (now (out .entry))) ⌝ }
+    ensures { λ r. ⌜
+        sink r (now (out .exit)) ≡ puts
+        (line (decimal i ∷ decimal j ∷ decimal h ∷ decimal u ∷ decimal v ∷ [])) (sink at (now (out .entry)))
+        ⌝ }
 {
     let column = put_word(out, at, i, b' ');
     let row = put_word(out, column, j, b' ');
@@ -70,8 +75,17 @@ fn put_cell(out: &mut [u8], at: usize, i: i64, j: i64, h: i64, u: i64, v: i64) -
 
 // The cells of a grid of w columns, by rising index. It rules out, for instance: a row told before its column; a line without its end.
 pub fn put_cells(out: &mut [u8], at: usize, w: usize, h: &[i64], u: &[i64], v: &[i64]) -> usize
-    requires { ⌜ (0 < w) × (length (now h) ≤ 4096) × (length (now u) ≡ length (now h)) × (length (now v) ≡ length (now h)) ⌝ }
-    ensures { λ r. ⌜ (let f = cellLine w (now (h .entry)) (now (u .entry)) (now (v .entry)) in sink r (now (out .exit)) ≡ puts (lines (tabulate (length (now (h .entry))) f)) (sink at (now (out .entry)))) ⌝ }
+    requires { ⌜
+        (0 < w)
+        × (length (now h) ≤ 4096)
+        × (length (now u) ≡ length (now h))
+        × (length (now v) ≡ length (now h))
+        ⌝ }
+    ensures { λ r. ⌜
+        (let f = cellLine w (now (h .entry)) (now (u .entry)) (now (v .entry)) in
+        sink r (now (out .exit)) ≡ puts (lines (tabulate (length (now (h .entry))) f))
+        (sink at (now (out .entry))))
+        ⌝ }
 {
     let mut after = at;
     for k in 0..h.len() {
@@ -82,7 +96,10 @@ pub fn put_cells(out: &mut [u8], at: usize, w: usize, h: &[i64], u: &[i64], v: &
 
 // A word and a number, at the front.
 fn put_named(out: &mut [u8], name: &[u8], x: i64) -> usize
-    ensures { λ r. ⌜ sink r (now (out .exit)) ≡ puts (line (now (name .entry) ∷ decimal x ∷ [])) (sink 0 (now (out .entry))) ⌝ }
+    ensures { λ r. ⌜
+        sink r (now (out .exit)) ≡ puts (line (now (name .entry) ∷ decimal x ∷ []))
+        (sink 0 (now (out .entry)))
+        ⌝ }
 {
     let named = put_text(out, 0, name);
     let spaced = put(out, named, b' ');

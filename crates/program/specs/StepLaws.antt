@@ -15,7 +15,7 @@ use Rattle.model.specs.declared.Refusal.{Refusal}
 use Rattle.model.specs.declared.TotalAnswer.{TotalAnswer}
 use Rattle.model.specs.declared.TotalAnswer.the-variants.{Total, Refused}
 use Rattle.model.specs.declared.StepAnswer.{StepAnswer}
-use Rattle.model.specs.declared.StepAnswer.the-variants as S
+use Rattle.model.specs.declared.StepAnswer.the-variants as StepAnswer
 use Rattle.grid.specs.Cells.{cells-most}
 use Rattle.theorems.specs.Tests.{differ}
 use Rattle.theorems.specs.Stepping.{step-leaves}
@@ -57,11 +57,11 @@ module _ {s s′ : State} {inflow work work′ : List ℤ} {a : StepAnswer} (p :
     stepped : (x : StepAnswer) → a ≡ x → Printed (stepLines x s′) out r out′ → Stepped s inflow work s′ work′ out r out′
     stepped x e q = record { steps = p .steps; clears = p .clears; prints = subst (λ l. Printed l out r out′) (ap₂ stepLines (sym e ∙ p .answers) (p .steps)) q }
 
-    pub step-done : a ≡ S.Done → Printed (stateLines s′) out r out′ → Stepped s inflow work s′ work′ out r out′
-    step-done e q = stepped S.Done e q
+    pub step-done : a ≡ StepAnswer.Done → Printed (stateLines s′) out r out′ → Stepped s inflow work s′ work′ out r out′
+    step-done e q = stepped StepAnswer.Done e q
 
-    pub step-refused : {x : Refusal} {n : ℕ} → a ≡ S.Refused x → n ≡ number x → Printed (refusedLine n) out r out′ → Stepped s inflow work s′ work′ out r out′
-    step-refused {x} e m q = stepped (S.Refused x) e (subst (λ k. Printed (refusedLine k) out r out′) m q)
+    pub step-refused : {x : Refusal} {n : ℕ} → a ≡ StepAnswer.Refused x → n ≡ number x → Printed (refusedLine n) out r out′ → Stepped s inflow work s′ work′ out r out′
+    step-refused {x} e m q = stepped (StepAnswer.Refused x) e (subst (λ k. Printed (refusedLine k) out r out′) m q)
 
-    pub step-outside : {k c : ℕ} {f : Field} → a ≡ S.OutOfBounds k f c → Printed (refusedLine 6) out r out′ → Stepped s inflow work s′ work′ out r out′
-    step-outside {k} {c} {f} e q = stepped (S.OutOfBounds k f c) e q
+    pub step-outside : {k c : ℕ} {f : Field} → a ≡ StepAnswer.OutOfBounds k f c → Printed (refusedLine 6) out r out′ → Stepped s inflow work s′ work′ out r out′
+    step-outside {k} {c} {f} e q = stepped (StepAnswer.OutOfBounds k f c) e q

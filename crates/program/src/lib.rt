@@ -3,7 +3,7 @@
 ghost use mathlib.Core.Path.{_≡_};
 ghost use Prim.Native.Nat.{_≤_, min};
 ghost use lib.ListN.{length, take};
-ghost use Rattle.model.specs.State.{stateOf, WithinLimits};
+ghost use Rattle.model.specs.State.{WithinLimits, lent, before, after};
 ghost use Rattle.model.specs.Program.{stateLines, programOutput, Printed, ProgramPromise};
 ghost use Rattle.program.specs.Stepped.{Ready, Stepped, SteppedParts};
 use model::Parameters;
@@ -13,8 +13,8 @@ use model::TotalAnswer;
 
 // Prints a state: its total depth, then each cell.
 fn print_state(p: Parameters, h: &[i64], b: &[i64], u: &[i64], v: &[i64], out: &mut [u8]) -> usize
-    requires { ⌜ WithinLimits (stateOf p (now h) (now b) (now u) (now v)) ⌝ }
-    ensures { λ r. ⌜ Printed (stateLines (stateOf p (now (h .entry)) (now (b .entry)) (now (u .entry)) (now (v .entry)))) (now (out .entry)) r (now (out .exit)) ⌝ }
+    requires { ⌜ WithinLimits (lent p h b u v) ⌝ }
+    ensures { λ r. ⌜ Printed (stateLines (before p h b u v)) (now (out .entry)) r (now (out .exit)) ⌝ }
 {
     match totals::total_depth(p, h, b, u, v) {
         TotalAnswer::Total(sum) => {
@@ -37,8 +37,12 @@ fn step_state(
     work: &mut [i64],
     out: &mut [u8],
 ) -> usize
-    requires { ⌜ WithinLimits (stateOf p (now h) (now b) (now u) (now v)) ⌝ }
-    ensures { λ r. ⌜ (let s = stateOf p (now (h .entry)) (now (b .entry)) (now (u .entry)) (now (v .entry)) in Stepped s (now (inflow .entry)) (now (work .entry)) (stateOf p (now (h .exit)) (now (b .entry)) (now (u .exit)) (now (v .exit))) (now (work .exit)) (now (out .entry)) r (now (out .exit))) ⌝ }
+    requires { ⌜ WithinLimits (lent p h b u v) ⌝ }
+    ensures { λ r. ⌜
+        (let s = before p h b u v in
+        Stepped s (now (inflow .entry)) (now (work .entry)) (after p h b u v) (now (work .exit))
+        (now (out .entry)) r (now (out .exit)))
+        ⌝ }
 {
     match stepping::step(p, h, b, u, v, inflow, work) {
         StepAnswer::Done => print_state(p, h, b, u, v, out),
@@ -70,7 +74,11 @@ fn step_parts(
     out: &mut [u8],
 ) -> usize
     requires { ⌜ Ready p (now h) (now b) (now u) (now v) ⌝ }
-    ensures { λ r. ⌜ SteppedParts p (now (h .entry)) (now (b .entry)) (now (u .entry)) (now (v .entry)) (now (inflow .entry)) (now (work .entry)) (now (out .entry)) r (now (h .exit)) (now (u .exit)) (now (v .exit)) (now (work .exit)) (now (out .exit)) ⌝ }
+    ensures { λ r. ⌜
+        SteppedParts p (now (h .entry)) (now (b .entry)) (now (u .entry)) (now (v .entry))
+        (now (inflow .entry)) (now (work .entry)) (now (out .entry)) r (now (h .exit)) (now (u .exit))
+        (now (v .exit)) (now (work .exit)) (now (out .exit))
+        ⌝ }
 {
     let m = p.w * p.n;
     let k = less(m, inflow.len());
@@ -99,7 +107,11 @@ pub fn print_step(
     work: &mut [i64],
     out: &mut [u8],
 ) -> usize
-    ensures { λ r. ⌜ ProgramPromise (now (input .entry)) (now (h .entry)) (now (b .entry)) (now (u .entry)) (now (v .entry)) (now (inflow .entry)) (now (work .entry)) (now (out .entry)) r (now (h .exit)) (now (b .exit)) (now (u .exit)) (now (v .exit)) (now (work .exit)) (now (out .exit)) ⌝ }
+    ensures { λ r. ⌜
+        ProgramPromise (now (input .entry)) (now (h .entry)) (now (b .entry)) (now (u .entry))
+        (now (v .entry)) (now (inflow .entry)) (now (work .entry)) (now (out .entry)) r (now (h .exit))
+        (now (b .exit)) (now (u .exit)) (now (v .exit)) (now (work .exit)) (now (out .exit))
+        ⌝ }
 {
     if input.len() >= 65536 {
         return printing::put_refused(out, 7);
@@ -137,7 +149,10 @@ pub fn output(input: &[u8], out: &mut [u8]) -> usize
 
 // All that the program prints, in an array that has room for it (`OutputClaim`).
 fn whole_output(input: &[u8], out: &mut [u8; 32768]) -> usize
-    ensures { λ r. ⌜ (r ≤ length (now (out .exit))) × (take r (now (out .exit)) ≡ programOutput (now (input .entry))) ⌝ }
+    ensures { λ r. ⌜
+        (r ≤ length (now (out .exit)))
+        × (take r (now (out .exit)) ≡ programOutput (now (input .entry)))
+        ⌝ }
 {
     output(input, out)
 }

@@ -19,8 +19,19 @@ fn fill(
     u: &mut [i64],
     v: &mut [i64],
 )
-    requires { ⌜ (let s = stateRead (now rec) in Sized (now rec) (now at) (parametersOf s) × (cells s ≡ m) × Room m (now h) (now b) (now u) (now v)) ⌝ }
-    ensures { λ _. ⌜ (let s = stateRead (now (rec .entry)) in (now (h .exit) ≡ filled m (s .h) (now (h .entry))) × (now (b .exit) ≡ filled m (s .b) (now (b .entry))) × (now (u .exit) ≡ filled m (s .u) (now (u .entry))) × (now (v .exit) ≡ filled m (s .v) (now (v .entry)))) ⌝ }
+    requires { ⌜
+        (let s = stateRead (now rec) in
+        Sized (now rec) (now at) (parametersOf s)
+        × (cells s ≡ m)
+        × Room m (now h) (now b) (now u) (now v))
+        ⌝ }
+    ensures { λ _. ⌜
+        (let s = stateRead (now (rec .entry)) in
+        (now (h .exit) ≡ filled m (s .h) (now (h .entry)))
+        × (now (b .exit) ≡ filled m (s .b) (now (b .entry)))
+        × (now (u .exit) ≡ filled m (s .u) (now (u .entry)))
+        × (now (v .exit) ≡ filled m (s .v) (now (v .entry))))
+        ⌝ }
 {
     wire::read_numbers(walking::value_of(rec, at, 4), m, h, Size::Four);
     wire::read_numbers(walking::value_of(rec, at, 5), m, b, Size::Four);
@@ -38,7 +49,10 @@ fn less(a: usize, b: usize) -> usize
 // The state of a record into the first w·n places of h, b, u and v, and its parameters and timestamp. Refusals: 7, 1, 2, 8, 3, 4, 5.
 // It rules out, for instance: fields filled before test 5; the sign of a velocity lost.
 pub fn read(rec: &[u8], h: &mut [i64], b: &mut [i64], u: &mut [i64], v: &mut [i64]) -> ReadAnswer
-    ensures { λ r. ⌜ ReadPromise (now (rec .entry)) (now (h .entry)) (now (b .entry)) (now (u .entry)) (now (v .entry)) r (now (h .exit)) (now (b .exit)) (now (u .exit)) (now (v .exit)) ⌝ }
+    ensures { λ r. ⌜
+        ReadPromise (now (rec .entry)) (now (h .entry)) (now (b .entry)) (now (u .entry)) (now (v .entry)) r
+        (now (h .exit)) (now (b .exit)) (now (u .exit)) (now (v .exit))
+        ⌝ }
 {
     let mut at = [rec.len(); 8];
     let room = less(less(h.len(), b.len()), less(u.len(), v.len()));

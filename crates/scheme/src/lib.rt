@@ -10,8 +10,8 @@ ghost use mathlib.Core.List.{[]};
 ghost use Prim.Native.Nat.{_<_};
 ghost use lib.IntN.{pos, negℤ, _+ℤ_, _-ℤ_, _*ℤ_};
 ghost use lib.ListN.{length, getD};
-ghost use Rattle.model.specs.Numbers.{rnd, Within, gravityLimits, coriolisLimits, ratioLimits, depthLimits, bottomLimits, velocityLimits};
-ghost use Rattle.model.specs.State.{stateOf, FieldWithin};
+ghost use Rattle.model.specs.Numbers.{rnd, bernoulliScale, tendencyScale, Within, gravityLimits, coriolisLimits, ratioLimits, depthLimits, bottomLimits, velocityLimits};
+ghost use Rattle.model.specs.State.{FieldWithin, stateOf, lent, before};
 ghost use Rattle.model.specs.Weights.{weightAt};
 ghost use Rattle.model.specs.Scheme.{vorticityAt, toWest, toSouth};
 ghost use Rattle.model.specs.Step.{X, Y};
@@ -21,20 +21,44 @@ ghost use Rattle.scheme.specs.Shares.{mostFlux, mostBernoulli, mostShare
 use grid::Stencil;
 use model::Parameters;
 
+// The scales of the model (Numbers.antt): of Tu and Tv, of the Bernoulli function in them, and of potential vorticity.
+const TENDENCY_SCALE: i64 = 3145728;
+
+const BERNOULLI_SCALE: i64 = 786432;
+
+const VORTICITY_SCALE: i64 = 262144;
+
 // ---- potential vorticity
 
 // The depth of the four cells around a corner: 01's H.
 fn depth_around(h: &[i64], here: usize, west: usize, south: usize, southwest: usize) -> i64
-    requires { ⌜ ReadsAt depthLimits (now h) here × ReadsAt depthLimits (now h) west × ReadsAt depthLimits (now h) south × ReadsAt depthLimits (now h) southwest ⌝ }
-    ensures { λ r. ⌜ r ≡ getD (now (h .entry)) here (pos 0) +ℤ getD (now (h .entry)) west (pos 0) +ℤ getD (now (h .entry)) south (pos 0) +ℤ getD (now (h .entry)) southwest (pos 0) ⌝ }
+    requires { ⌜
+        ReadsAt depthLimits (now h) here
+        × ReadsAt depthLimits (now h) west
+        × ReadsAt depthLimits (now h) south
+        × ReadsAt depthLimits (now h) southwest
+        ⌝ }
+    ensures { λ r. ⌜
+        r ≡ getD (now (h .entry)) here (pos 0) +ℤ getD (now (h .entry)) west (pos 0) +ℤ getD
+        (now (h .entry)) south (pos 0) +ℤ getD (now (h .entry)) southwest (pos 0)
+        ⌝ }
 {
     h[here] + h[west] + h[south] + h[southwest]
 }
 
 // The absolute vorticity at a corner, times spacing: 01's Z.
 fn absolute_vorticity(c: i64, u: &[i64], v: &[i64], here: usize, west: usize, south: usize) -> i64
-    requires { ⌜ Within coriolisLimits c × ReadsAt velocityLimits (now v) here × ReadsAt velocityLimits (now v) west × ReadsAt velocityLimits (now u) south × ReadsAt velocityLimits (now u) here ⌝ }
-    ensures { λ r. ⌜ r ≡ c +ℤ getD (now (v .entry)) here (pos 0) -ℤ getD (now (v .entry)) west (pos 0) +ℤ getD (now (u .entry)) south (pos 0) -ℤ getD (now (u .entry)) here (pos 0) ⌝ }
+    requires { ⌜
+        Within coriolisLimits c
+        × ReadsAt velocityLimits (now v) here
+        × ReadsAt velocityLimits (now v) west
+        × ReadsAt velocityLimits (now u) south
+        × ReadsAt velocityLimits (now u) here
+        ⌝ }
+    ensures { λ r. ⌜
+        r ≡ c +ℤ getD (now (v .entry)) here (pos 0) -ℤ getD (now (v .entry)) west (pos 0) +ℤ getD
+        (now (u .entry)) south (pos 0) -ℤ getD (now (u .entry)) here (pos 0)
+        ⌝ }
 {
     c + v[here] - v[west] + u[south] - u[here]
 }
@@ -48,7 +72,7 @@ pub fn vorticity_at(p: Parameters, h: &[i64], u: &[i64], v: &[i64], i: usize, j:
     let a = grid::around(p.w, p.n, i, j);
     let z = absolute_vorticity(p.c, u, v, a.here, a.west, a.south);
     let depth = depth_around(h, a.here, a.west, a.south, a.southwest);
-    integers::rnd(262144 * z, depth)
+    integers::rnd(VORTICITY_SCALE * z, depth)
 }
 
 // ---- weights
@@ -74,8 +98,18 @@ pub struct Corners {
 
 // Each is held at the southwest corner of its cell.
 fn corners_at(q: &[i64], ne: usize, nw: usize, sw: usize, se: usize) -> Corners
-    requires { ⌜ (ne < length (now q)) × (nw < length (now q)) × (sw < length (now q)) × (se < length (now q)) ⌝ }
-    ensures { λ r. ⌜ (r .ne ≡ getD (now (q .entry)) ne (pos 0)) × (r .nw ≡ getD (now (q .entry)) nw (pos 0)) × (r .sw ≡ getD (now (q .entry)) sw (pos 0)) × (r .se ≡ getD (now (q .entry)) se (pos 0)) ⌝ }
+    requires { ⌜
+        (ne < length (now q))
+        × (nw < length (now q))
+        × (sw < length (now q))
+        × (se < length (now q))
+        ⌝ }
+    ensures { λ r. ⌜
+        (r .ne ≡ getD (now (q .entry)) ne (pos 0))
+        × (r .nw ≡ getD (now (q .entry)) nw (pos 0))
+        × (r .sw ≡ getD (now (q .entry)) sw (pos 0))
+        × (r .se ≡ getD (now (q .entry)) se (pos 0))
+        ⌝ }
 {
     Corners {
         ne: q[ne],
@@ -107,7 +141,12 @@ pub struct Weights {
 
 fn weights_of(c: Corners) -> Weights
     requires { ⌜ CornersWithin c ⌝ }
-    ensures { λ r. ⌜ (r .p ≡ weightedBy 0 c) × (r .m ≡ weightedBy 1 c) × (r .e ≡ weightedBy 2 c) × (r .f ≡ weightedBy 3 c) ⌝ }
+    ensures { λ r. ⌜
+        (r .p ≡ weightedBy 0 c)
+        × (r .m ≡ weightedBy 1 c)
+        × (r .e ≡ weightedBy 2 c)
+        × (r .f ≡ weightedBy 3 c)
+        ⌝ }
 {
     Weights {
         p: weighted(0, c),
@@ -121,7 +160,11 @@ fn weights_of(c: Corners) -> Weights
 
 // The mass flux through an edge, from the velocity x there and the depths of the cells k and l beside it.
 fn flux_at(x: &[i64], h: &[i64], k: usize, l: usize) -> i64
-    requires { ⌜ ReadsAt velocityLimits (now x) k × ReadsAt depthLimits (now h) l × ReadsAt depthLimits (now h) k ⌝ }
+    requires { ⌜
+        ReadsAt velocityLimits (now x) k
+        × ReadsAt depthLimits (now h) l
+        × ReadsAt depthLimits (now h) k
+        ⌝ }
     ensures { λ r. ⌜ r ≡ fluxAt (now (x .entry)) (now (h .entry)) k l ⌝ }
 {
     x[k] * (h[l] + h[k])
@@ -138,7 +181,12 @@ pub struct Fluxes {
 // The functions that read around a cell take no w and n: the cells are counted by the length of h.
 fn fluxes_at(h: &[i64], u: &[i64], v: &[i64], a: Stencil) -> Fluxes
     requires { ⌜ Flow (length (now h)) (now h) (now u) (now v) a ⌝ }
-    ensures { λ r. ⌜ (r .west ≡ fluxAt (now (u .entry)) (now (h .entry)) (a .here) (a .west)) × (r .east ≡ fluxAt (now (u .entry)) (now (h .entry)) (a .east) (a .here)) × (r .south ≡ fluxAt (now (v .entry)) (now (h .entry)) (a .here) (a .south)) × (r .north ≡ fluxAt (now (v .entry)) (now (h .entry)) (a .north) (a .here)) ⌝ }
+    ensures { λ r. ⌜
+        (r .west ≡ fluxAt (now (u .entry)) (now (h .entry)) (a .here) (a .west))
+        × (r .east ≡ fluxAt (now (u .entry)) (now (h .entry)) (a .east) (a .here))
+        × (r .south ≡ fluxAt (now (v .entry)) (now (h .entry)) (a .here) (a .south))
+        × (r .north ≡ fluxAt (now (v .entry)) (now (h .entry)) (a .north) (a .here))
+        ⌝ }
 {
     Fluxes {
         west: flux_at(u, h, a.here, a.west),
@@ -150,7 +198,12 @@ fn fluxes_at(h: &[i64], u: &[i64], v: &[i64], a: Stencil) -> Fluxes
 
 // What flows into a cell: 01's -D.
 fn convergence(f: Fluxes) -> i64
-    requires { ⌜ Abs (f .west) mostFlux × Abs (f .east) mostFlux × Abs (f .south) mostFlux × Abs (f .north) mostFlux ⌝ }
+    requires { ⌜
+        Abs (f .west) mostFlux
+        × Abs (f .east) mostFlux
+        × Abs (f .south) mostFlux
+        × Abs (f .north) mostFlux
+        ⌝ }
     ensures { λ r. ⌜ r ≡ negℤ (f .east -ℤ f .west +ℤ f .north -ℤ f .south) ⌝ }
 {
     -(f.east - f.west + f.north - f.south)
@@ -178,8 +231,15 @@ fn geopotential(g: i64, h: &[i64], b: &[i64], k: usize) -> i64
 
 // 01's B of a cell.
 fn bernoulli_at(g: i64, h: &[i64], b: &[i64], u: &[i64], v: &[i64], a: Stencil) -> i64
-    requires { ⌜ Within gravityLimits g × Flow (length (now h)) (now h) (now u) (now v) a × FieldWithin bottomLimits (length (now h)) (now b) ⌝ }
-    ensures { λ r. ⌜ r ≡ squaresAt (now (u .entry)) (a .here) (a .east) +ℤ squaresAt (now (v .entry)) (a .here) (a .north) +ℤ geopotentialAt g (now (h .entry)) (now (b .entry)) (a .here) ⌝ }
+    requires { ⌜
+        Within gravityLimits g
+        × Flow (length (now h)) (now h) (now u) (now v) a
+        × FieldWithin bottomLimits (length (now h)) (now b)
+        ⌝ }
+    ensures { λ r. ⌜
+        r ≡ squaresAt (now (u .entry)) (a .here) (a .east) +ℤ squaresAt (now (v .entry)) (a .here)
+        (a .north) +ℤ geopotentialAt g (now (h .entry)) (now (b .entry)) (a .here)
+        ⌝ }
 {
     squares(u, a.here, a.east) + squares(v, a.here, a.north) + geopotential(g, h, b, a.here)
 }
@@ -225,10 +285,10 @@ pub struct Shares {
 }
 
 fn shares_of(w: Weights, f: Fluxes, bernoulli: i64) -> Shares
-    requires { ⌜ Fit w f (pos 786432 *ℤ bernoulli) × Abs bernoulli mostBernoulli ⌝ }
-    ensures { λ r. ⌜ AreShares w f (pos 786432 *ℤ bernoulli) r ⌝ }
+    requires { ⌜ Fit w f (bernoulliScale *ℤ bernoulli) × Abs bernoulli mostBernoulli ⌝ }
+    ensures { λ r. ⌜ AreShares w f (bernoulliScale *ℤ bernoulli) r ⌝ }
 {
-    let head = 786432 * bernoulli;
+    let head = BERNOULLI_SCALE * bernoulli;
     Shares {
         depth: convergence(f),
         west: west_share(w, f, head),
@@ -249,8 +309,8 @@ pub fn shares_at(
     i: usize,
     j: usize,
 ) -> Shares
-    requires { ⌜ TendenciesReady (stateOf p (now h) (now b) (now u) (now v)) (now q) × (i < p .w) × (j < p .n) ⌝ }
-    ensures { λ r. ⌜ IsShares (stateOf p (now (h .entry)) (now (b .entry)) (now (u .entry)) (now (v .entry))) (now (q .entry)) i j r ⌝ }
+    requires { ⌜ TendenciesReady (lent p h b u v) (now q) × (i < p .w) × (j < p .n) ⌝ }
+    ensures { λ r. ⌜ IsShares (before p h b u v) (now (q .entry)) i j r ⌝ }
 {
     let a = grid::around(p.w, p.n, i, j);
     let weights = weights_of(corners_at(q, a.northeast, a.north, a.here, a.east));
@@ -294,8 +354,15 @@ pub fn tendencies_at(
     west: i64,
     south: i64,
 ) -> CellTendencies
-    requires { ⌜ (let s = stateOf p (now h) (now b) (now u) (now v) in TendenciesReady s (now q) × (i < p .w) × (j < p .n) × (west ≡ eastShareAt s (now q) (toWest s i) j) × (south ≡ northShareAt s (now q) i (toSouth s j))) ⌝ }
-    ensures { λ r. ⌜ AreTendencies (stateOf p (now (h .entry)) (now (b .entry)) (now (u .entry)) (now (v .entry))) (now (q .entry)) i j r ⌝ }
+    requires { ⌜
+        (let s = lent p h b u v in
+        TendenciesReady s (now q)
+        × (i < p .w)
+        × (j < p .n)
+        × (west ≡ eastShareAt s (now q) (toWest s i) j)
+        × (south ≡ northShareAt s (now q) i (toSouth s j)))
+        ⌝ }
+    ensures { λ r. ⌜ AreTendencies (before p h b u v) (now (q .entry)) i j r ⌝ }
 {
     let e = grid::boundary_of(p.kind);
     let own = shares_at(p, h, b, u, v, q, i, j);
@@ -312,7 +379,12 @@ pub fn tendencies_at(
 
 // The flow through an edge over the time step, rounded, from the velocity x there and the depths of the cells k and l beside it.
 fn flow_at(r: i64, x: &[i64], h: &[i64], k: usize, l: usize) -> i64
-    requires { ⌜ Within ratioLimits r × ReadsAt velocityLimits (now x) k × ReadsAt depthLimits (now h) l × ReadsAt depthLimits (now h) k ⌝ }
+    requires { ⌜
+        Within ratioLimits r
+        × ReadsAt velocityLimits (now x) k
+        × ReadsAt depthLimits (now h) l
+        × ReadsAt depthLimits (now h) k
+        ⌝ }
     ensures { λ y. ⌜ y ≡ rnd (fluxAt (now (x .entry)) (now (h .entry)) k l) (pos 2 *ℤ r) ⌝ }
 {
     integers::rnd(flux_at(x, h, k, l), 2 * r)
@@ -344,7 +416,7 @@ pub fn flow_south(p: Parameters, h: &[i64], v: &[i64], i: usize, j: usize) -> i6
 // the tendency subtracted.
 pub fn moved_velocity(x: i64, t: i64, r: i64) -> i64
     requires { ⌜ Within velocityLimits x × Abs t mostTendency × Within ratioLimits r ⌝ }
-    ensures { λ y. ⌜ y ≡ x +ℤ rnd t (pos 3145728 *ℤ r) ⌝ }
+    ensures { λ y. ⌜ y ≡ x +ℤ rnd t (tendencyScale *ℤ r) ⌝ }
 {
-    x + integers::rnd(t, 3145728 * r)
+    x + integers::rnd(t, TENDENCY_SCALE * r)
 }

@@ -8,7 +8,7 @@ ghost use lib.Dec.{T, leb, eqb};
 ghost use lib.IntN.{ℤ};
 ghost use lib.ListN.{length};
 ghost use Rattle.model.specs.Numbers.{all, longestSide};
-ghost use Rattle.model.specs.State.{stateOf};
+ghost use Rattle.model.specs.State.{stateOf, lent, before};
 ghost use Rattle.model.specs.Refusals.{_then_, fieldsOf, besideTaken, runShort, workEnough, long, gridKnown, constantsWithin, valueTest, edgeTest, roomTest};
 ghost use Rattle.model.specs.Promises.{testAnswer, TestPromise};
 ghost use Rattle.faults.specs.Faults.{limitsOf, cellTest};
@@ -49,7 +49,10 @@ fn then_cells(
 // Test 4 of one field: its numbers and their bounds.
 fn then_field(earlier: TestAnswer, w: usize, n: usize, f: &[i64], field: Field) -> TestAnswer
     requires { ⌜ length (now f) ≡ w * n ⌝ }
-    ensures { λ r. ⌜ r ≡ testAnswer (foundIn earlier then valueTest (record { field = field; count = w * n; limits = limitsOf field; numbers = now (f .entry) } ∷ [])) ⌝ }
+    ensures { λ r. ⌜
+        r ≡ testAnswer
+        (foundIn earlier then valueTest (record { field = field; count = w * n; limits = limitsOf field; numbers = now (f .entry) } ∷ []))
+        ⌝ }
 {
     then_cells(
         earlier,
@@ -63,8 +66,8 @@ fn then_field(earlier: TestAnswer, w: usize, n: usize, f: &[i64], field: Field) 
 
 // Test 4 of a state's own fields, in 01's order.
 fn test_fields(p: Parameters, h: &[i64], b: &[i64], u: &[i64], v: &[i64]) -> TestAnswer
-    requires { ⌜ T (all long (fieldsOf (stateOf p (now h) (now b) (now u) (now v)))) ⌝ }
-    ensures { λ r. ⌜ r ≡ testAnswer (valueTest (fieldsOf (stateOf p (now (h .entry)) (now (b .entry)) (now (u .entry)) (now (v .entry))))) ⌝ }
+    requires { ⌜ T (all long (fieldsOf (lent p h b u v))) ⌝ }
+    ensures { λ r. ⌜ r ≡ testAnswer (valueTest (fieldsOf (before p h b u v))) ⌝ }
 {
     let first = then_field(TestAnswer::Passed, p.w, p.n, h, Field::Depth);
     let second = then_field(first, p.w, p.n, b, Field::Bottom);
@@ -75,7 +78,9 @@ fn test_fields(p: Parameters, h: &[i64], b: &[i64], u: &[i64], v: &[i64]) -> Tes
 // Test 4 of the field that a call takes beside its state.
 fn then_beside(earlier: TestAnswer, w: usize, n: usize, beside: Beside, x: &[i64]) -> TestAnswer
     requires { ⌜ T (all long (besideTaken (w * n) beside (now x))) ⌝ }
-    ensures { λ r. ⌜ r ≡ testAnswer (foundIn earlier then valueTest (besideTaken (w * n) beside (now (x .entry)))) ⌝ }
+    ensures { λ r. ⌜
+        r ≡ testAnswer (foundIn earlier then valueTest (besideTaken (w * n) beside (now (x .entry))))
+        ⌝ }
 {
     match beside {
         Beside::Nothing => earlier,
@@ -88,7 +93,9 @@ fn then_beside(earlier: TestAnswer, w: usize, n: usize, beside: Beside, x: &[i64
 // Test 5: u before v.
 fn then_edges(earlier: TestAnswer, p: Parameters, u: &[i64], v: &[i64]) -> TestAnswer
     requires { ⌜ (length (now u) ≡ p .w * p .n) × (length (now v) ≡ p .w * p .n) ⌝ }
-    ensures { λ r. ⌜ ((h b : List ℤ) → r ≡ testAnswer (foundIn earlier then edgeTest (stateOf p h b (now (u .entry)) (now (v .entry))))) ⌝ }
+    ensures { λ r. ⌜
+        ((h b : List ℤ) → r ≡ testAnswer (foundIn earlier then edgeTest (stateOf p h b (now (u .entry)) (now (v .entry)))))
+        ⌝ }
 {
     let e = grid::boundary_of(p.kind);
     let first = then_cells(earlier, p.w, p.n, u, Field::VelocityU, Fault::West(e));
@@ -138,7 +145,10 @@ fn grid_right(p: Parameters, beside: Beside) -> bool
 
 // Test 2 of a state's own fields: m numbers each.
 fn fields_long(m: usize, h: &[i64], b: &[i64], u: &[i64], v: &[i64]) -> bool
-    ensures { λ r. ⌜ r ≡ all (λ l. eqb (length l) m) (now (h .entry) ∷ now (b .entry) ∷ now (u .entry) ∷ now (v .entry) ∷ []) ⌝ }
+    ensures { λ r. ⌜
+        r ≡ all (λ l. eqb (length l) m)
+        (now (h .entry) ∷ now (b .entry) ∷ now (u .entry) ∷ now (v .entry) ∷ [])
+        ⌝ }
 {
     if h.len() != m {
         return false;
@@ -176,7 +186,10 @@ fn lengths_right(
     x: &[i64],
 ) -> bool
     requires { ⌜ m ≤ 4096 ⌝ }
-    ensures { λ r. ⌜ r ≡ (all (λ l. eqb (length l) m) (now (h .entry) ∷ now (b .entry) ∷ now (u .entry) ∷ now (v .entry) ∷ []) && (all long (besideTaken m beside (now (x .entry))) && workEnough m beside)) ⌝ }
+    ensures { λ r. ⌜
+        r ≡
+        (all (λ l. eqb (length l) m) (now (h .entry) ∷ now (b .entry) ∷ now (u .entry) ∷ now (v .entry) ∷ []) && (all long (besideTaken m beside (now (x .entry))) && workEnough m beside))
+        ⌝ }
 {
     fields_long(m, h, b, u, v) && beside_long(m, beside, x)
 }
@@ -218,8 +231,15 @@ fn test_cells(
     beside: Beside,
     x: &[i64],
 ) -> TestAnswer
-    requires { ⌜ T (all long (fieldsOf (stateOf p (now h) (now b) (now u) (now v)))) × T (all long (besideTaken (p .w * p .n) beside (now x))) ⌝ }
-    ensures { λ r. ⌜ (let s = stateOf p (now (h .entry)) (now (b .entry)) (now (u .entry)) (now (v .entry)) in r ≡ testAnswer (valueTest (fieldsOf s ++ besideTaken (p .w * p .n) beside (now (x .entry))) then edgeTest s)) ⌝ }
+    requires { ⌜
+        T (all long (fieldsOf (lent p h b u v)))
+        × T (all long (besideTaken (p .w * p .n) beside (now x)))
+        ⌝ }
+    ensures { λ r. ⌜
+        (let s = before p h b u v in
+        r ≡ testAnswer
+        (valueTest (fieldsOf s ++ besideTaken (p .w * p .n) beside (now (x .entry))) then edgeTest s))
+        ⌝ }
 {
     let values = test_fields(p, h, b, u, v);
     let all = then_beside(values, p.w, p.n, beside, x);
@@ -238,7 +258,7 @@ pub fn test_state(
     beside: Beside,
     x: &[i64],
 ) -> TestAnswer
-    ensures { λ r. ⌜ TestPromise (stateOf p (now (h .entry)) (now (b .entry)) (now (u .entry)) (now (v .entry))) beside (now (x .entry)) r ⌝ }
+    ensures { λ r. ⌜ TestPromise (before p h b u v) beside (now (x .entry)) r ⌝ }
 {
     if !grid_right(p, beside) {
         return TestAnswer::Refused(Refusal::Grid);
@@ -257,7 +277,9 @@ pub fn test_state(
 // Test 8 of a destination that a field is to be filled into. The product w·n is formed only where test 1 passes; elsewhere a call is
 // refused with 1 whatever is found here. It rules out, for instance: a destination that is just long enough refused; w·w places asked.
 pub fn test_room(p: Parameters, room: usize) -> TestAnswer
-    ensures { λ r. ⌜ ((h b u v : List ℤ) → T (gridKnown (stateOf p h b u v)) → r ≡ testAnswer (roomTest (p .w * p .n) (room ∷ []))) ⌝ }
+    ensures { λ r. ⌜
+        ((h b u v : List ℤ) → T (gridKnown (stateOf p h b u v)) → r ≡ testAnswer (roomTest (p .w * p .n) (room ∷ [])))
+        ⌝ }
 {
     if !grid_known(p) {
         return TestAnswer::Passed;

@@ -12,16 +12,16 @@ use Rattle.model.specs.Grid.{filled}
 use Rattle.model.specs.State.{State, Side, cells}
 use Rattle.model.specs.Answers.{toldStep, toldRun}
 use Rattle.model.specs.Refusals.{_then_, must, Taken, fieldsOf, inflowTaken, long, workLength, gridKnown, gridTest, runLengthTest, lengthTest, workTest, contentTest, stateTest}
-use Rattle.model.specs.Step.{Ran, moved, stuck, stepTold, twoPass, leavesAll, stepTest, stepAnswer, stepState, stepAnswerBy, stepStateBy, runTest, runBy, runOf, runFrom, workLeft}
+use Rattle.model.specs.Step.{Ran, moved, stuck, outcomeAnswer, twoPass, leavesAll, stepTest, stepAnswer, stepState, stepAnswerBy, stepStateBy, runTest, runBy, runOf, runFrom, workLeft}
 use Rattle.model.specs.Step as Model
 use Rattle.model.specs.Promises.{testAnswer, StepPromise, RunPromise}
 use Rattle.model.specs.declared.Refusal.{Refusal}
 use Rattle.model.specs.declared.Refusal.the-variants.{Grid, Lengths}
 use Rattle.model.specs.declared.TestAnswer.the-variants.{Passed, Refused}
 use Rattle.model.specs.declared.StepAnswer.{StepAnswer}
-use Rattle.model.specs.declared.StepAnswer.the-variants as S
+use Rattle.model.specs.declared.StepAnswer.the-variants as StepAnswer
 use Rattle.model.specs.declared.RunAnswer.{RunAnswer}
-use Rattle.model.specs.declared.RunAnswer.the-variants as R
+use Rattle.model.specs.declared.RunAnswer.the-variants as RunAnswer
 use Rattle.theorems.specs.Tests.{differ}
 use Rattle.theorems.specs.Limits.{accepted, grid-iff, work-iff}
 use Rattle.theorems.specs.Tested.{passed-none, refused-some}
@@ -71,7 +71,7 @@ cleared-all s r e = e ∙ ap (λ x. replicate (8 * cells s) (pos 0) ++ x) (r .be
 
 -- ---- the step
 
-told-as : (o : Model.Outcome) → answerBy (outcomeBy o) ≡ stepTold o
+told-as : (o : Model.Outcome) → answerBy (outcomeBy o) ≡ outcomeAnswer o
 told-as (moved t) = refl
 told-as (stuck p x) = refl
 
@@ -98,7 +98,7 @@ module _ (s : State) (inflow work : List ℤ) where
         clears = cleared-all s r f ∙ sym (ap (λ x. workLeft x s work) o);
       }
 
-  pub step-refused : {r : Refusal} {d : List ℤ} → Refused r ≡ testAnswer test → d ≡ workLeft (some r) s work → StepPromise s inflow work (S.Refused r) s d
+  pub step-refused : {r : Refusal} {d : List ℤ} → Refused r ≡ testAnswer test → d ≡ workLeft (some r) s work → StepPromise s inflow work (StepAnswer.Refused r) s d
   unfolding stepAnswer stepState
   step-refused {r} e f =
       let o = refused-some test r e in
@@ -132,7 +132,7 @@ module _ (s : State) (inflow : List ℤ) (m : ℕ) (work : List ℤ) where
       let answers = a ∙ sym (ap (λ x. runBy x s ran .answer) o) in
       record { answers = answers; tells = ap toldRun answers; steps = b ∙ sym (ap (λ x. runBy x s ran .state) o); clears = cleared-all s r f ∙ sym (ap (λ x. workLeft x s work) o) }
 
-  pub run-refused : {r : Refusal} {d : List ℤ} → Refused r ≡ testAnswer run-test → d ≡ workLeft (some r) s work → RunPromise s inflow m work (R.Refused r) s d
+  pub run-refused : {r : Refusal} {d : List ℤ} → Refused r ≡ testAnswer run-test → d ≡ workLeft (some r) s work → RunPromise s inflow m work (RunAnswer.Refused r) s d
   unfolding runOf
   run-refused {r} e f =
       let o = refused-some run-test r e in

@@ -7,7 +7,7 @@ ghost use Prim.Native.Nat.{_*_, _≤_};
 ghost use lib.IntN.{ℤ, pos};
 ghost use lib.ListN.{length, replicate};
 ghost use Rattle.model.specs.Grid.{filled};
-ghost use Rattle.model.specs.State.{Side, stateOf};
+ghost use Rattle.model.specs.State.{Side, stateOf, lent, before, after};
 ghost use Rattle.model.specs.Step.{runFrom, leavesAll, workLeft};
 ghost use Rattle.model.specs.Promises.{StepPromise, RunPromise};
 ghost use Rattle.advancing.specs.Outcomes.{StepReady, Rest};
@@ -23,7 +23,10 @@ use model::TestAnswer;
 // Clears the numbers that a step uses: 8 for each cell.
 fn clear_used(p: Parameters, work: &mut [i64])
     requires { ⌜ Side (p .w) × Side (p .n) × (8 * (p .w * p .n) ≤ length (now work)) ⌝ }
-    ensures { λ _. ⌜ (let m = 8 * (p .w * p .n) in now (work .exit) ≡ filled m (replicate m (pos 0)) (now (work .entry))) ⌝ }
+    ensures { λ _. ⌜
+        (let m = 8 * (p .w * p .n) in
+        now (work .exit) ≡ filled m (replicate m (pos 0)) (now (work .entry)))
+        ⌝ }
 {
     grid::clear(work, 8 * (p.w * p.n));
 }
@@ -46,8 +49,12 @@ fn leaves_all(refusal: Refusal) -> bool
 
 // What a refused call leaves in the work space.
 fn clear_after(refusal: Refusal, p: Parameters, work: &mut [i64])
-    requires { ⌜ (leavesAll refusal ≡ false → Side (p .w) × Side (p .n) × (8 * (p .w * p .n) ≤ length (now work))) ⌝ }
-    ensures { λ _. ⌜ ((h b u v : List ℤ) → now (work .exit) ≡ workLeft (some refusal) (stateOf p h b u v) (now (work .entry))) ⌝ }
+    requires { ⌜
+        (leavesAll refusal ≡ false → Side (p .w) × Side (p .n) × (8 * (p .w * p .n) ≤ length (now work)))
+        ⌝ }
+    ensures { λ _. ⌜
+        ((h b u v : List ℤ) → now (work .exit) ≡ workLeft (some refusal) (stateOf p h b u v) (now (work .entry)))
+        ⌝ }
 {
     if !leaves_all(refusal) {
         clear_used(p, work);
@@ -75,7 +82,10 @@ pub fn step(
     inflow: &[i64],
     work: &mut [i64],
 ) -> StepAnswer
-    ensures { λ r. ⌜ (let s = stateOf p (now (h .entry)) (now (b .entry)) (now (u .entry)) (now (v .entry)) in StepPromise s (now (inflow .entry)) (now (work .entry)) r (stateOf p (now (h .exit)) (now (b .entry)) (now (u .exit)) (now (v .exit))) (now (work .exit))) ⌝ }
+    ensures { λ r. ⌜
+        (let s = before p h b u v in
+        StepPromise s (now (inflow .entry)) (now (work .entry)) r (after p h b u v) (now (work .exit)))
+        ⌝ }
 {
     let room = work.len();
     match state::test_state(p, h, b, u, v, Beside::Inflow { work: room }, inflow) {
@@ -102,8 +112,13 @@ fn run_steps(
     steps: u64,
     work: &mut [i64],
 ) -> RunAnswer
-    requires { ⌜ StepReady (stateOf p (now h) (now b) (now u) (now v)) (now inflow) (now work) ⌝ }
-    ensures { λ r. ⌜ (let ran = runFrom steps 0 (stateOf p (now (h .entry)) (now (b .entry)) (now (u .entry)) (now (v .entry))) (now (inflow .entry)) in (r ≡ ran .answer) × (stateOf p (now (h .exit)) (now (b .entry)) (now (u .exit)) (now (v .exit)) ≡ ran .state) × Rest (p .w * p .n) (now (work .entry)) (now (work .exit))) ⌝ }
+    requires { ⌜ StepReady (lent p h b u v) (now inflow) (now work) ⌝ }
+    ensures { λ r. ⌜
+        (let ran = runFrom steps 0 (before p h b u v) (now (inflow .entry)) in
+        (r ≡ ran .answer)
+        × (after p h b u v ≡ ran .state)
+        × Rest (p .w * p .n) (now (work .entry)) (now (work .exit)))
+        ⌝ }
 {
     for done in 0..steps {
         match advancing::two_pass(p, h, b, u, v, inflow, work) {
@@ -133,7 +148,10 @@ pub fn run(
     steps: u64,
     work: &mut [i64],
 ) -> RunAnswer
-    ensures { λ r. ⌜ (let s = stateOf p (now (h .entry)) (now (b .entry)) (now (u .entry)) (now (v .entry)) in RunPromise s (now (inflow .entry)) steps (now (work .entry)) r (stateOf p (now (h .exit)) (now (b .entry)) (now (u .exit)) (now (v .exit))) (now (work .exit))) ⌝ }
+    ensures { λ r. ⌜
+        (let s = before p h b u v in
+        RunPromise s (now (inflow .entry)) steps (now (work .entry)) r (after p h b u v) (now (work .exit)))
+        ⌝ }
 {
     let room = work.len();
     match state::test_state(p, h, b, u, v, Beside::Run { steps, work: room }, inflow) {

@@ -6,7 +6,7 @@ use lib.IntN.{pos}
 use lib.ListN.{getD, take, drop, replicate}
 use Rattle.model.specs.Answers.{readNumbers, constantsIn, toldRead}
 use Rattle.model.specs.declared.ReadAnswer.{ReadAnswer}
-use Rattle.model.specs.declared.ReadAnswer.the-variants as R
+use Rattle.model.specs.declared.ReadAnswer.the-variants as ReadAnswer
 use Rattle.model.specs.declared.Refusal.the-variants.{Grid, Lengths, Constants, Value, ClosedEdge, Record, Destination}
 
 -- eight places: the numbers first, the others 0
@@ -34,11 +34,11 @@ orKept (x ∷ l) kept = x ∷ l
 -- the eight numbers and the constants of a record that is read hold all that 01 tells of it: the constants go before the timestamp, and a
 -- refusal has none and three numbers at most
 pub read-told : (a : ReadAnswer) → toldRead a ≡ take 4 (map pos (readNumbers a)) ++ constantsIn a ++ drop 4 (map pos (readNumbers a))
-read-told (R.Read p t) = refl
-read-told (R.Refused Grid) = refl
-read-told (R.Refused Lengths) = refl
-read-told (R.Refused Constants) = refl
-read-told (R.Refused (Value f k)) = refl
-read-told (R.Refused (ClosedEdge f k)) = refl
-read-told (R.Refused (Record k)) = refl
-read-told (R.Refused Destination) = refl
+read-told (ReadAnswer.Read p t) = refl
+read-told (ReadAnswer.Refused Grid) = refl
+read-told (ReadAnswer.Refused Lengths) = refl
+read-told (ReadAnswer.Refused Constants) = refl
+read-told (ReadAnswer.Refused (Value f k)) = refl
+read-told (ReadAnswer.Refused (ClosedEdge f k)) = refl
+read-told (ReadAnswer.Refused (Record k)) = refl
+read-told (ReadAnswer.Refused Destination) = refl

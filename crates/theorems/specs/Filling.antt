@@ -13,14 +13,14 @@ use Rattle.model.specs.Scheme.{D, tendencyU, tendencyV, hTendencies, uTendencie
 use Rattle.model.specs.Promises.{leftBy, fillAnswer, vorticityTest, VorticityPromise, tendenciesTest}
 use Rattle.model.specs.Claims.{Holds, TendenciesAcceptedClaim, TendenciesClaim}
 use Rattle.model.specs.declared.Refusal.{Refusal}
-use Rattle.model.specs.declared.FillAnswer.the-variants as F
+use Rattle.model.specs.declared.FillAnswer.the-variants as FillAnswer
 use Rattle.theorems.specs.Tests.{differ}
 use Rattle.theorems.specs.Limits.{accepted}
 use Rattle.grid.specs.Fields.{length-byCell, at-byCell, at-filled, take-filled, drop-filled}
 
 -- ---- accepted is tested and passed
 
-pub done-iff : (o : Option Refusal) → (fillAnswer o ≡ F.Done) ↔ (o ≡ none)
+pub done-iff : (o : Option Refusal) → (fillAnswer o ≡ FillAnswer.Done) ↔ (o ≡ none)
 done-iff none = (λ h. refl, λ h. refl)
 done-iff (some r) = (λ h. differ (cc h), λ h. differ (cc h))
 
@@ -69,7 +69,7 @@ pub record Vorticities (s : State) (d d′ : List ℤ) : Type 0 where
   pub first : take (cells s) d′ ≡ vorticity s
   pub rest : drop (cells s) d′ ≡ drop (cells s) d
 
-pub vorticity-fill : (s : State) (d d′ : List ℤ) → VorticityPromise s d F.Done d′ → Vorticities s d d′
+pub vorticity-fill : (s : State) (d d′ : List ℤ) → VorticityPromise s d FillAnswer.Done d′ → Vorticities s d d′
 unfolding vorticityTest vorticity
 vorticity-fill s d d′ p =
     let e = done-iff (vorticityTest s (length d)) .0 (sym (p .answers)) in

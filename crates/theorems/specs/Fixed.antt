@@ -1,14 +1,25 @@
 -- Each promise can be met, and leaves nothing free. Assumes nothing.
-use mathlib.Core.Path.{refl, sym, _∙_}
+use mathlib.Core.Path.{_≡_, refl, sym, subst, _∙_}
+use mathlib.Core.List.{List, [], _∷_}
 use lib.ListN.{length}
 use Rattle.model.specs.Grid.{filled}
-use Rattle.model.specs.State.{cells}
+use Rattle.model.specs.State.{State, cells}
 use Rattle.model.specs.Scheme.{vorticity, hTendencies, uTendencies, vTendencies}
 use Rattle.model.specs.Totals.{totalDepth, energy4}
 use Rattle.model.specs.Step.{stepTest, stepAnswer, stepState, runTest, runOf, workLeft}
 use Rattle.model.specs.Record.{encode, recordLength, compareAnswer}
 use Rattle.model.specs.Promises.{testOf, testAnswer, leftBy, fillAnswer, vorticityTest, tendenciesTest, totalTest, totalAnswer, writeTest, writeAnswer, readAnswer, readInto, readOf}
+use Rattle.model.specs.Histories.{Call, step, run, stateAfter, History, nothing, stepped, ran}
 use Rattle.model.specs.Claims.{MetClaim, FixedClaim}
+
+made : (s : State) (calls : List Call) → (t : State) × History s calls t
+made s [] = (s, nothing)
+made s (step inflow work ∷ calls) =
+    let r = made (stateAfter s (step inflow work)) calls in
+    (r .0, stepped {work′ = workLeft (stepTest s inflow (length work)) s work} {answer = stepAnswer s inflow (length work)} (record { answers = refl; tells = refl; steps = refl; clears = refl }) (r .1))
+made s (run inflow m work ∷ calls) =
+    let r = made (stateAfter s (run inflow m work)) calls in
+    (r .0, ran {work′ = workLeft (runTest s inflow m (length work)) s work} {answer = runOf s inflow m (length work) .answer} (record { answers = refl; tells = refl; steps = refl; clears = refl }) (r .1))
 
 pub met : MetClaim
 met = record {
@@ -50,7 +61,18 @@ met = record {
         record { answers = refl; tells = refl; fills-h = refl; fills-b = refl; fills-u = refl; fills-v = refl },
       );
   compare = λ first second. (compareAnswer first second, record { answers = refl; tells = refl });
+  history = made;
 }
+
+-- the state after a list, worked out from the first state and the calls alone
+abbrev after : State → List Call → State
+after s [] = s
+after s (c ∷ calls) = after (stateAfter s c) calls
+
+leads : (s t : State) (calls : List Call) → History s calls t → t ≡ after s calls
+leads s t calls (nothing {s = x}) = refl
+leads s t calls (stepped {t = y} {e = z} {calls = cs} p r) = subst (λ (x : State). z ≡ after x cs) (p .steps) (leads y z cs r)
+leads s t calls (ran {t = y} {e = z} {calls = cs} p r) = subst (λ (x : State). z ≡ after x cs) (p .steps) (leads y z cs r)
 
 pub fixed : FixedClaim
 fixed = record {
@@ -75,4 +97,5 @@ fixed = record {
     p .fills-v ∙ sym (q .fills-v),
   );
   compare = λ first second a b p q. p .answers ∙ sym (q .answers);
+  history = λ s x y calls p q. leads s x calls p ∙ sym (leads s y calls q);
 }

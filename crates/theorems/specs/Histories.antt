@@ -8,7 +8,7 @@ use lib.ListN.{length}
 use Rattle.model.specs.Numbers.{total}
 use Rattle.model.specs.State.{State, cells, WithinLimits}
 use Rattle.model.specs.Refusals.{inflowTaken, runLengthTest, workTest, stateTest}
-use Rattle.model.specs.Step.{Outcome, moved, stuck, Ran, twoPass, stepTold, afterStep, stepTest, stepAnswerBy, stepStateBy, stepAnswer, stepState, runFrom, runTest, runBy, runOf}
+use Rattle.model.specs.Step.{Outcome, moved, stuck, Ran, twoPass, outcomeAnswer, afterStep, stepTest, stepAnswerBy, stepStateBy, stepAnswer, stepState, runFrom, runTest, runBy, runOf}
 use Rattle.model.specs.Totals.{totalDepth, energy4}
 use Rattle.model.specs.Histories.{Call, step, run, inflowOf, stepCount, runCount, stepsDone, stateAfter, inflowDue, History, nothing, stepped, ran}
 use Rattle.model.specs.Promises.{totalTest, totalAnswer, TotalDepthPromise}
@@ -49,7 +49,7 @@ inflow-long : (s : State) (inflow : List ℤ) (a b : Option Refusal) → stateTe
 inflow-long s inflow a b h = accepted .state s (inflowTaken s inflow) a b .0 h .1 .0 .long
 
 step-by : (s : State) (inflow : List ℤ) → WithinLimits s → (length inflow ≡ cells s) → (o : Outcome) → twoPass s inflow ≡ o
-    → Linked s (afterStep s o) (stepCount (stepTold o)) inflow
+    → Linked s (afterStep s o) (stepCount (outcomeAnswer o)) inflow
 step-by s inflow l e (moved t) h = steps-linked inflow 1 s t e l (onward h start)
 step-by s inflow l e (stuck p x) h = stays s inflow l
 

@@ -6,6 +6,7 @@ pub mod Scans
 pub mod Limits
 pub mod Tested
 pub mod Rooms
+pub mod Causes
 pub mod Fixed
 pub mod Refused
 -- what the calls fill in

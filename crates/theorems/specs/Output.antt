@@ -22,7 +22,7 @@ use Rattle.model.specs.Claims.{OutputClaim}
 use Rattle.model.specs.declared.Refusal.{Refusal}
 use Rattle.model.specs.declared.Refusal.the-variants.{Grid, Lengths, Constants, Value, ClosedEdge, Record, Destination}
 use Rattle.model.specs.declared.StepAnswer.{StepAnswer}
-use Rattle.model.specs.declared.StepAnswer.the-variants as S
+use Rattle.model.specs.declared.StepAnswer.the-variants as StepAnswer
 use Rattle.integers.specs.Laws.{abs-add}
 use Rattle.integers.specs.Magnitudes.{depth-size, velocity-size}
 use Rattle.theorems.specs.Tests.{differ}
@@ -120,9 +120,9 @@ state-long s l p =
     subst (λ m. m ≤ 30737) (sym (length-append (totalLine (total (s .h))) (lines (tabulate (cells s) f)))) (omega arith)
 
 step-long : (a : StepAnswer) (s : State) → WithinLimits s → cells s ≤ programCells → length (stepLines a s) ≤ 30737
-step-long S.Done s l p = state-long s l p
-step-long (S.Refused r) s l p = le-trans (refused-long (number r) (one-digit r)) (omega arith)
-step-long (S.OutOfBounds p f k) s l q = le-trans (refused-long 6 (omega arith)) (omega arith)
+step-long StepAnswer.Done s l p = state-long s l p
+step-long (StepAnswer.Refused r) s l p = le-trans (refused-long (number r) (one-digit r)) (omega arith)
+step-long (StepAnswer.OutOfBounds p f k) s l q = le-trans (refused-long 6 (omega arith)) (omega arith)
 
 stepped-long : (inflow : List ℤ) (room : ℕ) (x : Decoded) → ((s : State) (t : ℕ) → x ≡ accepted s t → WithinLimits s × (cells s ≤ programCells))
     → length (steppedLines inflow room x) ≤ 30737

@@ -22,41 +22,41 @@ use Rattle.model.specs.declared.Field.the-variants.{VelocityU, VelocityV}
 use Rattle.model.specs.declared.Refusal.{Refusal}
 use Rattle.model.specs.declared.Refusal.the-variants.{Grid, Lengths, Constants, Value, ClosedEdge, Record, Destination}
 use Rattle.model.specs.declared.RunAnswer.{RunAnswer}
-use Rattle.model.specs.declared.FillAnswer.the-variants as F
-use Rattle.model.specs.declared.StepAnswer.the-variants as S
-use Rattle.model.specs.declared.RunAnswer.the-variants as R
-use Rattle.model.specs.declared.WriteAnswer.the-variants as W
-use Rattle.model.specs.declared.ReadAnswer.the-variants as G
+use Rattle.model.specs.declared.FillAnswer.the-variants as FillAnswer
+use Rattle.model.specs.declared.StepAnswer.the-variants as StepAnswer
+use Rattle.model.specs.declared.RunAnswer.the-variants as RunAnswer
+use Rattle.model.specs.declared.WriteAnswer.the-variants as WriteAnswer
+use Rattle.model.specs.declared.ReadAnswer.the-variants as ReadAnswer
 use Rattle.theorems.specs.Tests.{differ}
 
 -- ---- destinations
 
-fill-refused : {A : Type 0} {r : Refusal} (o : Option Refusal) (new old : List A) → F.Refused r ≡ fillAnswer o → leftBy o new old ≡ old
+fill-refused : {A : Type 0} {r : Refusal} (o : Option Refusal) (new old : List A) → FillAnswer.Refused r ≡ fillAnswer o → leftBy o new old ≡ old
 fill-refused none new old h = differ (cc h)
 fill-refused (some x) new old h = refl
 
-write-refused : {r : Refusal} (m : ℕ) (o : Option Refusal) (new old : List ℕ) → W.Refused r ≡ writeAnswer o m → leftBy o new old ≡ old
+write-refused : {r : Refusal} (m : ℕ) (o : Option Refusal) (new old : List ℕ) → WriteAnswer.Refused r ≡ writeAnswer o m → leftBy o new old ≡ old
 write-refused m none new old h = differ (cc h)
 write-refused m (some x) new old h = refl
 
-read-refused : {r : Refusal} (f : State → List ℤ) (x : Decoded) (d : List ℤ) → G.Refused r ≡ readAnswer x → readInto f x d ≡ d
+read-refused : {r : Refusal} (f : State → List ℤ) (x : Decoded) (d : List ℤ) → ReadAnswer.Refused r ≡ readAnswer x → readInto f x d ≡ d
 read-refused f (accepted s t) d h = differ (cc h)
 read-refused f (refused r) d h = refl
 
 -- ---- states
 
-step-refused : {r : Refusal} (s : State) (o : Outcome) (x : Option Refusal) → S.Refused r ≡ stepAnswerBy x o → stepStateBy x s o ≡ s
+step-refused : {r : Refusal} (s : State) (o : Outcome) (x : Option Refusal) → StepAnswer.Refused r ≡ stepAnswerBy x o → stepStateBy x s o ≡ s
 step-refused s (moved t) none h = differ (cc h)
 step-refused s (stuck p x) none h = refl
 step-refused s o (some y) h = refl
 
-step-out : {p k : ℕ} {f : Field} (s : State) (o : Outcome) (x : Option Refusal) → S.OutOfBounds p f k ≡ stepAnswerBy x o → stepStateBy x s o ≡ s
+step-out : {p k : ℕ} {f : Field} (s : State) (o : Outcome) (x : Option Refusal) → StepAnswer.OutOfBounds p f k ≡ stepAnswerBy x o → stepStateBy x s o ≡ s
 step-out s (moved t) none h = differ (cc h)
 step-out s (stuck p x) none h = refl
 step-out s o (some y) h = refl
 
 -- a run that passes its tests is finished or stopped
-module _ (Q : RunAnswer → Type 0) (finished : (k : ℕ) → Q (R.Finished k)) (stopped : (k p : ℕ) (f : Field) (c : ℕ) → Q (R.Stopped k p f c)) where
+module _ (Q : RunAnswer → Type 0) (finished : (k : ℕ) → Q (RunAnswer.Finished k)) (stopped : (k p : ℕ) (f : Field) (c : ℕ) → Q (RunAnswer.Stopped k p f c)) where
   by-outcome : (more : State → Ran) → ((t : State) → Q (more t .answer)) → (done : ℕ) (s : State) (o : Outcome) → Q (runOn more done s o .answer)
   by-outcome more h done s (moved t) = h t
   by-outcome more h done s (stuck p x) = stopped done p (x .field) (x .cell)
@@ -66,7 +66,7 @@ module _ (Q : RunAnswer → Type 0) (finished : (k : ℕ) → Q (R.Finished k)) 
   ran zero done s inflow = finished done
   ran (suc m) done s inflow = by-outcome (λ t. runFrom m (suc done) t inflow) (λ t. ran m (suc done) t inflow) done s (twoPass s inflow)
 
-run-refused : {r : Refusal} (s : State) (x : Option Refusal) (q : Ran) → (R.Refused r ≡ q .answer → ⊥) → R.Refused r ≡ runBy x s q .answer → runBy x s q .state ≡ s
+run-refused : {r : Refusal} (s : State) (x : Option Refusal) (q : Ran) → (RunAnswer.Refused r ≡ q .answer → ⊥) → RunAnswer.Refused r ≡ runBy x s q .answer → runBy x s q .state ≡ s
 run-refused s none q n h = absurd (n h)
 run-refused s (some y) q n h = refl
 
@@ -79,7 +79,7 @@ refused-leaves = record {
       (p .fills-h ∙ fill-refused t _ dh (p .answers), p .fills-u ∙ fill-refused t _ du (p .answers), p .fills-v ∙ fill-refused t _ dv (p .answers));
   step = λ s s′ inflow work work′ r p. p .steps ∙ step-refused s (twoPass s inflow) (stepTest s inflow (length work)) (p .answers);
   step-6 = λ s s′ inflow work work′ a k f p. p .steps ∙ step-out s (twoPass s inflow) (stepTest s inflow (length work)) (p .answers);
-  run = λ s s′ inflow work work′ m r p. p .steps ∙ run-refused s (runTest s inflow m (length work)) (runFrom m 0 s inflow) (ran (λ a. R.Refused r ≡ a → ⊥) (λ k h. differ (cc h)) (λ k p f c h. differ (cc h)) m 0 s inflow) (p .answers);
+  run = λ s s′ inflow work work′ m r p. p .steps ∙ run-refused s (runTest s inflow m (length work)) (runFrom m 0 s inflow) (ran (λ a. RunAnswer.Refused r ≡ a → ⊥) (λ k h. differ (cc h)) (λ k p f c h. differ (cc h)) m 0 s inflow) (p .answers);
   write = λ s t d d′ r p. p .fills ∙ write-refused _ (writeTest s (length d)) _ d (p .answers);
   read = λ rec h b u v h′ b′ u′ v′ r p.
       let x = readOf rec h b u v in (

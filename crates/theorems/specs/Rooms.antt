@@ -19,8 +19,8 @@ use Rattle.model.specs.declared.Beside.{Beside}
 use Rattle.model.specs.declared.Beside.the-variants.{Nothing, Vorticity}
 use Rattle.model.specs.declared.Refusal.{Refusal}
 use Rattle.model.specs.declared.Refusal.the-variants.{Destination}
-use Rattle.model.specs.declared.FillAnswer.the-variants as F
-use Rattle.model.specs.declared.WriteAnswer.the-variants as W
+use Rattle.model.specs.declared.FillAnswer.the-variants as FillAnswer
+use Rattle.model.specs.declared.WriteAnswer.the-variants as WriteAnswer
 use Rattle.theorems.specs.Tests.{_⟫_, differ, some≢}
 use Rattle.theorems.specs.Limits.{accepted, rooms-iff}
 use Rattle.theorems.specs.Tested.{promise-iff, some-iff, then-some, tests}
@@ -38,7 +38,7 @@ room-some m rooms r = must-some (all (λ room. leb m room) rooms) Destination r 
 
 -- ---- tests 1 to 5, then 8
 
-cause-iff : (s : State) (beside : Beside) (x : List ℤ) (r : Refusal) → (testOf s beside x ≡ some r) ↔ Cause s beside x r
+pub cause-iff : (s : State) (beside : Beside) (x : List ℤ) (r : Refusal) → (testOf s beside x ≡ some r) ↔ Cause s beside x r
 cause-iff s beside x r =
     let i = promise-iff s beside x _ ⟫ some-iff (testOf s beside x) r in
     (i .1, i .0) ⟫ tests .refused s beside x r
@@ -56,11 +56,11 @@ call-some s beside x e m rooms r =
 
 -- ---- the promises
 
-fill-some : (o : Option Refusal) (r : Refusal) → F.Refused r ≡ fillAnswer o → o ≡ some r
+fill-some : (o : Option Refusal) (r : Refusal) → FillAnswer.Refused r ≡ fillAnswer o → o ≡ some r
 fill-some none r e = differ (cc e)
 fill-some (some x) r e = let h : x ≡ r = cc e in ap some h
 
-write-some : (o : Option Refusal) (m : ℕ) (r : Refusal) → W.Refused r ≡ writeAnswer o m → o ≡ some r
+write-some : (o : Option Refusal) (m : ℕ) (r : Refusal) → WriteAnswer.Refused r ≡ writeAnswer o m → o ≡ some r
 write-some none m r e = differ (cc e)
 write-some (some x) m r e = let h : x ≡ r = cc e in ap some h
 

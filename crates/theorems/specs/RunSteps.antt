@@ -15,8 +15,8 @@ use Rattle.model.specs.Histories.{step, History, nothing, stepped, runCount}
 use Rattle.model.specs.Claims.{Steps, start, onward, Ended, NextStep, RunStepsClaim}
 use Rattle.model.specs.declared.Refusal.{Refusal}
 use Rattle.model.specs.declared.RunAnswer.{RunAnswer}
-use Rattle.model.specs.declared.RunAnswer.the-variants as R
-use Rattle.model.specs.declared.StepAnswer.the-variants as S
+use Rattle.model.specs.declared.RunAnswer.the-variants as RunAnswer
+use Rattle.model.specs.declared.StepAnswer.the-variants as StepAnswer
 use Rattle.theorems.specs.Limits.{accepted, work-iff}
 use Rattle.theorems.specs.Stepping.{step-within, step-cells}
 use Rattle.theorems.specs.Runs.{run-counts}
@@ -51,7 +51,7 @@ module _ (inflow : List ℤ) (room : ℕ) where
   state-by s o r h = ap₂ (λ x y. stepStateBy x s y) (passes s r) h
 
 module _ (inflow lent : List ℤ) where
-  promise : (s t : State) → Ready s inflow (length lent) → twoPass s inflow ≡ moved t → StepPromise s inflow lent S.Done t (workLeft (stepTest s inflow (length lent)) s lent)
+  promise : (s t : State) → Ready s inflow (length lent) → twoPass s inflow ≡ moved t → StepPromise s inflow lent StepAnswer.Done t (workLeft (stepTest s inflow (length lent)) s lent)
   promise s t r h =
       let e = sym (answer-by inflow (length lent) s (moved t) r h) in
       record { answers = e; tells = ap toldStep e; steps = sym (state-by inflow (length lent) s (moved t) r h); clears = refl }
@@ -66,16 +66,16 @@ module _ (inflow lent : List ℤ) where
   ready-after k s t r (onward {m = m} {s = x} {t = y} {e = z} h more) = ready-after m y z (next inflow (length lent) x y r h) more
 
   next-step : (m : ℕ) (answer : RunAnswer) (t : State) → Ready t inflow (length lent) → Ended inflow m answer t → NextStep inflow (length lent) answer t
-  next-step m (R.Refused r) t x e = tt
-  next-step m (R.Finished k) t x e = tt
-  next-step m (R.Stopped k p f c) t x e = answer-by inflow (length lent) t (stuck p (record { field = f; cell = c })) x (e .1)
+  next-step m (RunAnswer.Refused r) t x e = tt
+  next-step m (RunAnswer.Finished k) t x e = tt
+  next-step m (RunAnswer.Stopped k p f c) t x e = answer-by inflow (length lent) t (stuck p (record { field = f; cell = c })) x (e .1)
 
 -- a run that is not refused passed its tests
-tested : (s : State) (x : Option Refusal) (r : Ran) → ((y : Refusal) → runBy x s r .answer ≡ R.Refused y → ⊥) → x ≡ none
+tested : (s : State) (x : Option Refusal) (r : Ran) → ((y : Refusal) → runBy x s r .answer ≡ RunAnswer.Refused y → ⊥) → x ≡ none
 tested s none r n = refl
 tested s (some y) r n = absurd (n y refl)
 
-ready : (s : State) (inflow : List ℤ) (m room lent : ℕ) → ((y : Refusal) → runOf s inflow m room .answer ≡ R.Refused y → ⊥) → workLength s ≤ lent → Ready s inflow lent
+ready : (s : State) (inflow : List ℤ) (m room lent : ℕ) → ((y : Refusal) → runOf s inflow m room .answer ≡ RunAnswer.Refused y → ⊥) → workLength s ≤ lent → Ready s inflow lent
 unfolding runOf runTest
 ready s inflow m room lent n l =
     let a = accepted .state s (inflowTaken s inflow) (runLengthTest m) (workTest s room) .0 (tested s (runTest s inflow m room) (runFrom m 0 s inflow) n) in

@@ -1,9 +1,10 @@
 -- Every theorem. `theorems` has each claim of the model, proved. Assumes nothing.
-use Rattle.model.specs.Claims.{LimitsClaim, AcceptedClaim, ScanClaim, TestClaim, RoomClaim, ReadCausesClaim, MetClaim, FixedClaim, RefusedClaim, WorkClaim, RoundingClaim, OwnVorticityClaim, VorticityClaim, TendenciesAcceptedClaim, TendenciesClaim, PassClaim, StepClaim, RunClaim, RunStepsClaim, TotalsClaim, RoundTripClaim, ReadClaim, ProgramClaim, OutputClaim, RewriteClaim, CompareClaim, EnergyRateClaim, EnergyClaim, EnstrophyClaim, PeriodicEnstrophyClaim, BalanceClaim, KeptClaim}
+use Rattle.model.specs.Claims.{LimitsClaim, AcceptedClaim, ScanClaim, TestClaim, RoomClaim, CallCausesClaim, ReadCausesClaim, MetClaim, FixedClaim, RefusedClaim, WorkClaim, RoundingClaim, OwnVorticityClaim, VorticityClaim, TendenciesAcceptedClaim, TendenciesClaim, PassClaim, StepClaim, RunClaim, RunStepsClaim, TotalsClaim, RoundTripClaim, ReadClaim, ProgramClaim, OutputClaim, RewriteClaim, CompareClaim, EnergyRateClaim, EnergyClaim, EnstrophyClaim, PeriodicEnstrophyClaim, BalanceClaim, KeptClaim}
 use Rattle.theorems.specs.Limits.{limits-tested, accepted}
 use Rattle.theorems.specs.Scans.{scan}
 use Rattle.theorems.specs.Tested.{tests}
 use Rattle.theorems.specs.Rooms.{rooms}
+use Rattle.theorems.specs.Causes.{causes}
 use Rattle.theorems.specs.ReadCauses.{read-causes}
 use Rattle.theorems.specs.Fixed.{met, fixed}
 use Rattle.theorems.specs.Refused.{refused-leaves, work-left}
@@ -34,6 +35,7 @@ pub record Theorems : Type 0 where
   pub scan : ScanClaim
   pub tests : TestClaim
   pub rooms : RoomClaim
+  pub call-causes : CallCausesClaim
   pub read-causes : ReadCausesClaim
   pub met : MetClaim
   pub fixed : FixedClaim
@@ -72,6 +74,7 @@ theorems =
       scan = scan;
       tests = tests;
       rooms = rooms;
+      call-causes = causes;
       read-causes = read-causes;
       met = met;
       fixed = fixed;

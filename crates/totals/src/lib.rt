@@ -4,7 +4,7 @@ ghost use mathlib.Core.Path.{_≡_};
 ghost use Prim.Native.Nat.{_<_, _≤_};
 ghost use lib.ListN.{length};
 ghost use Rattle.model.specs.Numbers.{Within, total, gravityLimits, depthLimits, bottomLimits, velocityLimits};
-ghost use Rattle.model.specs.State.{stateOf, FieldWithin, WithinLimits};
+ghost use Rattle.model.specs.State.{FieldWithin, WithinLimits, lent, before};
 ghost use Rattle.model.specs.Totals.{energyAt, energy4};
 ghost use Rattle.model.specs.Promises.{testAnswer, totalTest, TotalDepthPromise, TotalEnergyPromise};
 ghost use Rattle.scheme.specs.Reading.{ReadsAt};
@@ -16,7 +16,7 @@ use model::TotalAnswer;
 
 // The tests of both calls: 1 to 5.
 fn tested(p: Parameters, h: &[i64], b: &[i64], u: &[i64], v: &[i64]) -> TestAnswer
-    ensures { λ r. ⌜ r ≡ testAnswer (totalTest (stateOf p (now (h .entry)) (now (b .entry)) (now (u .entry)) (now (v .entry)))) ⌝ }
+    ensures { λ r. ⌜ r ≡ testAnswer (totalTest (before p h b u v)) ⌝ }
 {
     // the last argument stands for a further field, which nothing looks at here
     state::test_state(p, h, b, u, v, Beside::Nothing, h)
@@ -39,7 +39,7 @@ fn sum_depths(h: &[i64]) -> i64
 // The total depth of a state. Refusals: 1, 2, 3, 4, 5.
 // It rules out, for instance: a total that leaves a cell out; the total of a state that is to be refused.
 pub fn total_depth(p: Parameters, h: &[i64], b: &[i64], u: &[i64], v: &[i64]) -> TotalAnswer
-    ensures { λ r. ⌜ TotalDepthPromise (stateOf p (now (h .entry)) (now (b .entry)) (now (u .entry)) (now (v .entry))) r ⌝ }
+    ensures { λ r. ⌜ TotalDepthPromise (before p h b u v) r ⌝ }
 {
     match tested(p, h, b, u, v) {
         TestAnswer::Passed => TotalAnswer::Total(sum_depths(h)),
@@ -51,7 +51,11 @@ pub fn total_depth(p: Parameters, h: &[i64], b: &[i64], u: &[i64], v: &[i64]) ->
 
 // Four times the kinetic energy at an edge of cell k, from the velocity x there and the depths of the cells k and l beside it.
 fn kinetic_at(h: &[i64], x: &[i64], k: usize, l: usize) -> i64
-    requires { ⌜ ReadsAt velocityLimits (now x) k × ReadsAt depthLimits (now h) l × ReadsAt depthLimits (now h) k ⌝ }
+    requires { ⌜
+        ReadsAt velocityLimits (now x) k
+        × ReadsAt depthLimits (now h) l
+        × ReadsAt depthLimits (now h) k
+        ⌝ }
     ensures { λ r. ⌜ r ≡ kineticAt (now (h .entry)) (now (x .entry)) k l ⌝ }
 {
     let speed = x[k];
@@ -68,8 +72,8 @@ fn potential_at(g: i64, h: &[i64], b: &[i64], k: usize) -> i64
 
 // Four times the energy of cell (i, j), with that of its west and south edges.
 fn energy_at(p: Parameters, h: &[i64], b: &[i64], u: &[i64], v: &[i64], i: usize, j: usize) -> i64
-    requires { ⌜ WithinLimits (stateOf p (now h) (now b) (now u) (now v)) × (i < p .w) × (j < p .n) ⌝ }
-    ensures { λ r. ⌜ r ≡ energyAt (stateOf p (now (h .entry)) (now (b .entry)) (now (u .entry)) (now (v .entry))) i j ⌝ }
+    requires { ⌜ WithinLimits (lent p h b u v) × (i < p .w) × (j < p .n) ⌝ }
+    ensures { λ r. ⌜ r ≡ energyAt (before p h b u v) i j ⌝ }
 {
     let a = grid::around(p.w, p.n, i, j);
     let west = kinetic_at(h, u, a.here, a.west);
@@ -79,8 +83,8 @@ fn energy_at(p: Parameters, h: &[i64], b: &[i64], u: &[i64], v: &[i64], i: usize
 
 // The sum over the cells, by rows and columns.
 fn sum_energy(p: Parameters, h: &[i64], b: &[i64], u: &[i64], v: &[i64]) -> i64
-    requires { ⌜ WithinLimits (stateOf p (now h) (now b) (now u) (now v)) ⌝ }
-    ensures { λ r. ⌜ r ≡ energy4 (stateOf p (now (h .entry)) (now (b .entry)) (now (u .entry)) (now (v .entry))) ⌝ }
+    requires { ⌜ WithinLimits (lent p h b u v) ⌝ }
+    ensures { λ r. ⌜ r ≡ energy4 (before p h b u v) ⌝ }
 {
     let mut sum = 0;
     for j in 0..p.n {
@@ -94,7 +98,7 @@ fn sum_energy(p: Parameters, h: &[i64], b: &[i64], u: &[i64], v: &[i64]) -> i64
 // Four times the total energy of a state. Refusals: 1, 2, 3, 4, 5.
 // It rules out, for instance: the depth to the east of a cell for the one to its west; the bottom counted once.
 pub fn total_energy(p: Parameters, h: &[i64], b: &[i64], u: &[i64], v: &[i64]) -> TotalAnswer
-    ensures { λ r. ⌜ TotalEnergyPromise (stateOf p (now (h .entry)) (now (b .entry)) (now (u .entry)) (now (v .entry))) r ⌝ }
+    ensures { λ r. ⌜ TotalEnergyPromise (before p h b u v) r ⌝ }
 {
     match tested(p, h, b, u, v) {
         TestAnswer::Passed => TotalAnswer::Total(sum_energy(p, h, b, u, v)),

@@ -52,7 +52,9 @@ fn right_size(tag: usize, size: usize) -> bool
 // tag is unknown; it was seen before; the value runs past the end; tag 1, 2 or 3 has another length.
 fn is_sound(rec: &[u8], k: usize, at: &[usize; 8]) -> bool
     requires { ⌜ k < length (now rec) ⌝ }
-    ensures { λ r. ⌜ ((parts : List Part) → Seen (now (rec .entry)) parts (now (at .entry)) → tagTest (now (rec .entry)) k parts ≡ must r (Record k)) ⌝ }
+    ensures { λ r. ⌜
+        ((parts : List Part) → Seen (now (rec .entry)) parts (now (at .entry)) → tagTest (now (rec .entry)) k parts ≡ must r (Record k))
+        ⌝ }
 {
     let left = rec.len() - k;
     if left < 3 {
@@ -77,7 +79,9 @@ fn is_sound(rec: &[u8], k: usize, at: &[usize; 8]) -> bool
 
 // Whether every tag was seen.
 fn is_complete(rec: &[u8], at: &[usize; 8]) -> bool
-    ensures { λ r. ⌜ ((parts : List Part) → Seen (now (rec .entry)) parts (now (at .entry)) → missingTest (now (rec .entry)) parts ≡ must r (Record (length (now (rec .entry))))) ⌝ }
+    ensures { λ r. ⌜
+        ((parts : List Part) → Seen (now (rec .entry)) parts (now (at .entry)) → missingTest (now (rec .entry)) parts ≡ must r (Record (length (now (rec .entry)))))
+        ⌝ }
 {
     for tag in 1..8 {
         if rec.len() <= at[tag] {

@@ -23,7 +23,7 @@ use Rattle.model.specs.declared.Parameters.{Parameters}
 use Rattle.model.specs.declared.Refusal.{Refusal}
 use Rattle.model.specs.declared.Refusal.the-variants.{Destination}
 use Rattle.model.specs.declared.TestAnswer.the-variants.{Passed, Refused}
-use Rattle.model.specs.declared.WriteAnswer.the-variants as W
+use Rattle.model.specs.declared.WriteAnswer.the-variants as WriteAnswer
 use Rattle.theorems.specs.Bytes.{EachFits}
 use Rattle.theorems.specs.Limits.{accepted}
 use Rattle.theorems.specs.Tested.{passed-none, refused-some}
@@ -143,11 +143,11 @@ module _ (s : State) (t : Timestamp) (d : List ℕ) where
       let a = sym (ap (λ o. writeAnswer o (recordLength s)) e) in
       record { answers = a; tells = ap toldWrite a; fills = f ∙ sym (ap (λ o. leftBy o (filled (recordLength s) (encode s t) d) d) e) }
 
-  pub state-refused : {r : Refusal} → Refused r ≡ testAnswer (stateTested s) → WritePromise s t d (W.Refused r) d
+  pub state-refused : {r : Refusal} → Refused r ≡ testAnswer (stateTested s) → WritePromise s t d (WriteAnswer.Refused r) d
   unfolding writeTest callTest
   state-refused {r} e = promised (some r) (ap (λ o. o then roomTest (recordLength s) (length d ∷ [])) (refused-some (stateTested s) r e)) refl
 
-  pub room-refused : Passed ≡ testAnswer (stateTested s) → length d < recordLength s → WritePromise s t d (W.Refused Destination) d
+  pub room-refused : Passed ≡ testAnswer (stateTested s) → length d < recordLength s → WritePromise s t d (WriteAnswer.Refused Destination) d
   unfolding writeTest callTest roomTest
   room-refused e l =
       promised (some Destination)
@@ -155,6 +155,6 @@ module _ (s : State) (t : Timestamp) (d : List ℕ) where
       refl
 
   pub write-done : {d′ : List ℕ} → Passed ≡ testAnswer (stateTested s) → recordLength s ≤ length d → d′ ≡ filled (recordLength s) (encode s t) d
-      → WritePromise s t d (W.Written (recordLength s)) d′
+      → WritePromise s t d (WriteAnswer.Written (recordLength s)) d′
   unfolding writeTest
   write-done e l f = promised none (accepted .call s [] (recordLength s) (length d ∷ []) .1 (passed-within s e, tt, (l, tt))) f

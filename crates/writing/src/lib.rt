@@ -5,7 +5,7 @@ ghost use Prim.Native.Nat.{_+_, _*_, _≤_, _<_};
 ghost use lib.ListN.{length};
 ghost use lib.Seq.{sets};
 ghost use Rattle.model.specs.Grid.{filled};
-ghost use Rattle.model.specs.State.{stateOf};
+ghost use Rattle.model.specs.State.{lent, before};
 ghost use Rattle.model.specs.Record.{bytes, encode, recordLength};
 ghost use Rattle.model.specs.Promises.{WritePromise};
 ghost use Rattle.theorems.specs.Bytes.{EachFits};
@@ -78,7 +78,10 @@ fn put_scalars(d: &mut [u8], p: Parameters, timestamp: u64)
 // Tags 4 to 7 of m cells, after the scalars.
 fn put_fields(d: &mut [u8], m: usize, h: &[i64], b: &[i64], u: &[i64], v: &[i64])
     requires { ⌜ FieldsReady m (now h) (now b) (now u) (now v) (now d) ⌝ }
-    ensures { λ _. ⌜ now (d .exit) ≡ sets (now (d .entry)) 32 (fieldsOf (now (h .entry)) (now (b .entry)) (now (u .entry)) (now (v .entry))) ⌝ }
+    ensures { λ _. ⌜
+        now (d .exit) ≡ sets (now (d .entry)) 32
+        (fieldsOf (now (h .entry)) (now (b .entry)) (now (u .entry)) (now (v .entry)))
+        ⌝ }
 {
     put_field(d, 32, 4, h, Size::Four);
     put_field(d, 35 + 4 * m, 5, b, Size::Four);
@@ -96,8 +99,11 @@ fn put_record(
     timestamp: u64,
     d: &mut [u8],
 )
-    requires { ⌜ WriteReady (stateOf p (now h) (now b) (now u) (now v)) (now d) ⌝ }
-    ensures { λ _. ⌜ (let s = stateOf p (now (h .entry)) (now (b .entry)) (now (u .entry)) (now (v .entry)) in now (d .exit) ≡ filled (recordLength s) (encode s timestamp) (now (d .entry))) ⌝ }
+    requires { ⌜ WriteReady (lent p h b u v) (now d) ⌝ }
+    ensures { λ _. ⌜
+        (let s = before p h b u v in
+        now (d .exit) ≡ filled (recordLength s) (encode s timestamp) (now (d .entry)))
+        ⌝ }
 {
     put_scalars(d, p, timestamp);
     put_fields(d, p.w * p.n, h, b, u, v);
@@ -114,7 +120,7 @@ pub fn write(
     timestamp: u64,
     d: &mut [u8],
 ) -> WriteAnswer
-    ensures { λ r. ⌜ WritePromise (stateOf p (now (h .entry)) (now (b .entry)) (now (u .entry)) (now (v .entry))) timestamp (now (d .entry)) r (now (d .exit)) ⌝ }
+    ensures { λ r. ⌜ WritePromise (before p h b u v) timestamp (now (d .entry)) r (now (d .exit)) ⌝ }
 {
     // the last argument stands for a further field, which nothing looks at here
     match state::test_state(p, h, b, u, v, Beside::Nothing, h) {

@@ -10,7 +10,7 @@ use Rattle.model.specs.Numbers.{_to_, within, rnd}
 use Rattle.integers.specs.Bounds.{held-is, abs-within}
 use Rattle.integers.specs.Rounding.{Roundable, mostDividend, mostDivisor}
 use Rattle.theorems.specs.Tests.{true-T, and-iff, within-iff}
-use Rattle.basin.specs.Told.{roundable, Rounded}
+use Rattle.basin.specs.FromC.{roundable, Rounded}
 use Rattle.basin.proofs.basin_rnd.Statement.{statement}
 use Rattle.basin.proofs.basin_rnd.Tie as tie
 

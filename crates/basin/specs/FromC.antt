@@ -6,10 +6,11 @@ use Prim.Native.Nat.{ℕ, _^_}
 use lib.IntN.{ℤ, pos, negℤ}
 use lib.ListN.{getD}
 use Rattle.model.specs.Numbers.{_to_, within, rnd}
-use Rattle.model.specs.State.{State, stateOf}
+use Rattle.model.specs.State.{State}
 use Rattle.model.specs.Answers.{testNumbers, fillNumbers, stepNumbers, runNumbers, totalNumbers, totalIn, writeNumbers, readNumbers, constantsIn, compareNumbers}
 use Rattle.model.specs.Record.{Timestamp}
 use Rattle.model.specs.Promises.{testOf, testAnswer, VorticityPromise, TendenciesPromise, StepPromise, RunPromise, WritePromise, ReadPromise, ComparePromise}
+use Rattle.model.specs.declared.Parameters.{Parameters}
 use Rattle.model.specs.declared.Beside.{Beside}
 use Rattle.model.specs.declared.FillAnswer.{FillAnswer}
 use Rattle.model.specs.declared.StepAnswer.{StepAnswer}
@@ -20,32 +21,32 @@ use Rattle.model.specs.declared.ReadAnswer.{ReadAnswer}
 use Rattle.model.specs.declared.CompareAnswer.{CompareAnswer}
 use Rattle.telling.specs.Told.{Told, orKept}
 
--- 01's state, from the numbers and slices that a C function takes
-abbrev pub stateIn : (w n kind : ℕ) (g c r : ℤ) (h b u v : List ℤ) → State
-stateIn w n kind g c r h b u v = stateOf (record { w = w; n = n; kind = kind; g = g; c = c; r = r }) h b u v
+-- the parameters, from the six numbers that a C function takes for them
+abbrev pub parameters : (w n kind : ℕ) (g c r : ℤ) → Parameters
+parameters w n kind g c r = record { w = w; n = n; kind = kind; g = g; c = c; r = r }
 
 -- the tests by themselves: 01's number, and then the values returned with it
-abbrev pub TestTold : State → Beside → List ℤ → ℕ → List ℕ → Type 0
-TestTold s beside x k exit = Told (testNumbers (testAnswer (testOf s beside x))) k exit
+abbrev pub TestFromC : State → Beside → List ℤ → ℕ → List ℕ → Type 0
+TestFromC s beside x k exit = Told (testNumbers (testAnswer (testOf s beside x))) k exit
 
 -- a call that fills: its promise, of the answer that is told. The promise leaves one answer possible
-pub record VorticityTold (s : State) (q q′ : List ℤ) (k : ℕ) (exit : List ℕ) : Type 0 where
+pub record VorticityFromC (s : State) (q q′ : List ℤ) (k : ℕ) (exit : List ℕ) : Type 0 where
   pub answer : FillAnswer
   pub promise : VorticityPromise s q answer q′
   pub told : Told (fillNumbers answer) k exit
 
-pub record TendenciesTold (s : State) (q dh du dv dh′ du′ dv′ : List ℤ) (k : ℕ) (exit : List ℕ) : Type 0 where
+pub record TendenciesFromC (s : State) (q dh du dv dh′ du′ dv′ : List ℤ) (k : ℕ) (exit : List ℕ) : Type 0 where
   pub answer : FillAnswer
   pub promise : TendenciesPromise s q dh du dv answer dh′ du′ dv′
   pub told : Told (fillNumbers answer) k exit
 
 -- step and run, from a state to the state that they leave
-pub record StepTold (s : State) (inflow work : List ℤ) (s′ : State) (work′ : List ℤ) (k : ℕ) (exit : List ℕ) : Type 0 where
+pub record StepFromC (s : State) (inflow work : List ℤ) (s′ : State) (work′ : List ℤ) (k : ℕ) (exit : List ℕ) : Type 0 where
   pub answer : StepAnswer
   pub promise : StepPromise s inflow work answer s′ work′
   pub told : Told (stepNumbers answer) k exit
 
-pub record RunTold (s : State) (inflow : List ℤ) (m : ℕ) (work : List ℤ) (s′ : State) (work′ : List ℤ) (k : ℕ) (exit : List ℕ) : Type 0 where
+pub record RunFromC (s : State) (inflow : List ℤ) (m : ℕ) (work : List ℤ) (s′ : State) (work′ : List ℤ) (k : ℕ) (exit : List ℕ) : Type 0 where
   pub answer : RunAnswer
   pub promise : RunPromise s inflow m work answer s′ work′
   pub told : Told (runNumbers answer) k exit
@@ -53,7 +54,7 @@ pub record RunTold (s : State) (inflow : List ℤ) (m : ℕ) (work : List ℤ) (
 -- ---- totals
 
 -- the promise of depth or of energy, of the answer that is told; a refusal leaves the number as it was
-pub record TotalTold (promised : TotalAnswer → Type 0) (total total′ : ℤ) (k : ℕ) (exit : List ℕ) : Type 0 where
+pub record TotalFromC (promised : TotalAnswer → Type 0) (total total′ : ℤ) (k : ℕ) (exit : List ℕ) : Type 0 where
   pub answer : TotalAnswer
   pub promise : promised answer
   pub holds : total′ ≡ getD (totalIn answer) 0 total
@@ -61,19 +62,19 @@ pub record TotalTold (promised : TotalAnswer → Type 0) (total total′ : ℤ) 
 
 -- ---- the record
 
-pub record WriteTold (s : State) (t : Timestamp) (d d′ : List ℕ) (k : ℕ) (exit : List ℕ) : Type 0 where
+pub record WriteFromC (s : State) (t : Timestamp) (d d′ : List ℕ) (k : ℕ) (exit : List ℕ) : Type 0 where
   pub answer : WriteAnswer
   pub promise : WritePromise s t d answer d′
   pub told : Told (writeNumbers answer) k exit
 
 -- G, c and R are the three constants; a refusal leaves them as they were
-pub record ReadTold (rec : List ℕ) (h b u v h′ b′ u′ v′ constants constants′ : List ℤ) (k : ℕ) (exit : List ℕ) : Type 0 where
+pub record ReadFromC (rec : List ℕ) (h b u v h′ b′ u′ v′ constants constants′ : List ℤ) (k : ℕ) (exit : List ℕ) : Type 0 where
   pub answer : ReadAnswer
   pub promise : ReadPromise rec h b u v answer h′ b′ u′ v′
   pub holds : constants′ ≡ orKept (constantsIn answer) constants
   pub told : Told (readNumbers answer) k exit
 
-pub record CompareTold (first second : List ℕ) (k : ℕ) (exit : List ℕ) : Type 0 where
+pub record CompareFromC (first second : List ℕ) (k : ℕ) (exit : List ℕ) : Type 0 where
   pub answer : CompareAnswer
   pub promise : ComparePromise first second answer
   pub told : Told (compareNumbers answer) k exit
