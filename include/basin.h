@@ -6,9 +6,9 @@
  * begins with, by themselves, and rounding.
  *
  * Every function takes any numbers and any lengths, and always returns. A
- * field or a record is lent as a pointer and the number of its elements; what
- * is told is lent as a pointer alone, to 1, 3 or 8 numbers as declared. What is
- * asked of a caller:
+ * field or a record is lent as a pointer and the number of its elements. A
+ * place for a result is a pointer alone, to 1, 3 or 8 numbers as declared. What
+ * is asked of a caller:
  * - each pointer is valid and aligned for the length after it, or for the
  *   numbers declared. Where a length is 0 nothing is read or written there, and
  *   any aligned pointer but a null pointer will do: of that one nothing is
@@ -24,11 +24,11 @@
  * the edges v(i,0) for kinds 1 and 2; kind 0 closes none.
  *
  * Answers. A call on a state or a record returns the number of its refusal, 0
- * for none. answer[0] is the same number, what is told with it follows, and the
- * other places of the eight are 0: every call sets all eight. A
- * refused call leaves everything else that was lent to it untouched, but for
- * the work space, and for the state of a run that 6 stops, which is left as it
- * is after the steps done.
+ * for none. Every call sets all eight numbers of answer: answer[0] is the number
+ * returned, the values that belong to it follow, and the other places are 0. A
+ * refused call leaves everything else that was lent to it untouched, with two
+ * exceptions: the work space (below), and the state of a run that 6 stops,
+ * which is left as it is after the steps done.
  *
  * Work space. A step or run is lent work, of at least 8*w*n numbers, whatever
  * they are. After refusals 1 and 2 it is untouched. Otherwise, refused or not,
@@ -44,7 +44,7 @@
  * Refusals. The causes are tested in this order and the first is told; but a
  * record that is read is tested in the order 7, 1, 2, 8, 3, 4, 5:
  *
- *   number  cause                                             told with it
+ *   number  cause                                             values after it
  *   0       none                                              (see the calls)
  *   1       w or n not 1 to 64; kind not 0, 1 or 2;
  *           steps above 10,000
@@ -83,6 +83,14 @@
 #ifdef __cplusplus
 extern "C" {
 #endif
+
+/*
+ * The version of this header: 10,000 times major, 100 times minor, and patch.
+ * basin_version() returns that of the library. A caller that finds two numbers
+ * has a header and a library that do not belong together.
+ */
+#define BASIN_VERSION 200
+uint64_t basin_version(void);
 
 /*
  * a/b rounded to the nearest whole number, halves away from zero.
@@ -143,9 +151,9 @@ uint64_t basin_step(size_t w, size_t n, uint8_t kind,
 /*
  * Up to so many steps with the same inflow. Tests 1 to 5 as a step, with the
  * number of steps too. Where none refuses, h, u and v are stepped in place
- * until all steps are done, and told are 0 and their number; or until the next
- * one would be refused with 6, and told are 6, pass, field, cell and the number
- * of steps done.
+ * until all steps are done: the answer is 0, steps. Or until the next step
+ * would be refused with 6: the answer is 6, pass, field, cell, steps. In both,
+ * steps is the number of steps done.
  */
 uint64_t basin_run(size_t w, size_t n, uint8_t kind,
                    int64_t g, int64_t c, int64_t r,
@@ -184,8 +192,8 @@ uint64_t basin_total_energy(size_t w, size_t n, uint8_t kind,
 /*
  * Writes the record of a state, its tags rising. Tests 1 to 5, then 8 of
  * record. Where none refuses, the first 44 + 12*w*n bytes of record are the
- * result and the rest of record is untouched; told are 0 and the number of
- * these bytes.
+ * result and the rest of record is untouched; the answer is 0, number of
+ * bytes.
  */
 uint64_t basin_write(size_t w, size_t n, uint8_t kind,
                      int64_t g, int64_t c, int64_t r,
@@ -201,7 +209,8 @@ uint64_t basin_write(size_t w, size_t n, uint8_t kind,
  * Reads a record, its tags in any order. Tests 7, 1, 2, then 8 of h, b, u and
  * v, then 3, 4, 5. Where none refuses, the first w*n numbers of each of the
  * four are the state's and the rest of each is untouched; constants are g, c
- * and r; told are 0, w, n, kind and the timestamp.
+ * and r; the answer is 0, w, n, kind, timestamp. A refused call leaves constants
+ * untouched.
  */
 uint64_t basin_read(const uint8_t *record, size_t record_len,
                     int64_t *h, size_t h_len,
@@ -212,16 +221,17 @@ uint64_t basin_read(const uint8_t *record, size_t record_len,
                     uint64_t answer[8]);
 
 /*
- * Compares two records. Each is tested as one that is read, but for 8: the
- * first wholly, then the second. Where none is refused, told are 0 and
+ * Compares two records. Each is tested as one that is read, but without 8: the
+ * first wholly, then the second. Where none is refused, the answer is 0 and one
+ * of these:
  *
  *   0  same: the same w, n, kind, constants and fields, and timestamp
  *   1  the first is newer: it has the later timestamp
  *   2  the second is newer
  *   3  conflict: the timestamp is the same, and something else differs
  *
- * Otherwise told are the number of the refusal, the record, 1 or 2, and then
- * what is told with that number: 7, 2 and an offset, for instance.
+ * Otherwise the answer is the number of the refusal, the record (1 or 2), and
+ * then the values of that number: 7, 2, offset, for instance.
  */
 uint64_t basin_compare(const uint8_t *first, size_t first_len,
                        const uint8_t *second, size_t second_len,

@@ -88,3 +88,9 @@ roundable a b = within (negℤ (pos (2 ^ 58)) to pos (2 ^ 58)) a && within (pos 
 pub record Rounded (a b entry : ℤ) (k : ℕ) (exit : ℤ) : Type 0 where
   pub returns : k ≡ cond (roundable a b) 0 4
   pub holds : exit ≡ cond (roundable a b) (rnd a b) entry
+
+-- ---- version
+
+-- 0.2.0
+abbrev pub version : ℕ
+version = 200

@@ -6,7 +6,7 @@ ghost use mathlib.Core.List.{[]};
 ghost use Rattle.model.specs.State.{before, after};
 ghost use Rattle.model.specs.Promises.{TotalDepthPromise, TotalEnergyPromise};
 ghost use Rattle.model.specs.declared.Beside.the-variants.{Nothing, Vorticity, Inflow, Run};
-ghost use Rattle.basin.specs.FromC.{TestFromC, VorticityFromC, TendenciesFromC, StepFromC, RunFromC, TotalFromC, WriteFromC, ReadFromC, CompareFromC, parameters, roundable, Rounded};
+ghost use Rattle.basin.specs.FromC.{TestFromC, VorticityFromC, TendenciesFromC, StepFromC, RunFromC, TotalFromC, WriteFromC, ReadFromC, CompareFromC, parameters, roundable, Rounded, version};
 use integers::Range;
 use model::Beside;
 use model::Parameters;
@@ -461,4 +461,15 @@ pub extern "C" fn basin_rnd(a: i64, b: i64, rounded: &mut i64) -> u64
     }
     *rounded = integers::rnd(a, b);
     0
+}
+
+// ---- version
+
+// The version of this interface: 10,000 times major, 100 times minor, and patch. include/basin.h has the same number, so that a caller
+// can see that header and library fit. It rules out, for instance: the number of the version before; no number.
+#[no_mangle]
+pub extern "C" fn basin_version() -> u64
+    ensures { λ k. ⌜ k ≡ version ⌝ }
+{
+    200
 }

@@ -1,6 +1,8 @@
 -- The promises of the public calls, which their `ensures` cite. Each says, for any numbers and any lengths, what the call answers
 -- (`answers`), what that means in 01's numbers and values (`tells`), and what each lent slice holds afterwards, refused calls too.
 -- A prime marks what stands in a lent slice as the call returns. No call changes any other slice.
+-- The public calls are the nine of 01 (potential vorticity, tendencies, step, run, two totals, write, read, compare), and the tests by
+-- themselves. Their promises are here; that of the step program is in Program.antt. Every other `pub fn` serves a crate above it.
 use mathlib.Core.Path.{_≡_}
 use mathlib.Core.List.{List, [], _∷_}
 use mathlib.Core.Option.{Option, none, some}
