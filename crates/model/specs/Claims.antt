@@ -18,7 +18,7 @@ use Rattle.model.specs.Scheme.{vorticityAt, vorticity, D, tendencyU, ten
 use Rattle.model.specs.Rates.{energyRate, enstrophyRate}
 use Rattle.model.specs.Totals.{totalDepth, energy4}
 use Rattle.model.specs.Step.{pass, leaves, moved, stuck, twoPass, stepTest, stepAnswer, cleared, workLeft}
-use Rattle.model.specs.Record.{Timestamp, Part, valueOf, tagAt, sizeAt, partAt, stateIn, timestampIn, recordLength, rising, decode, accepted, refused}
+use Rattle.model.specs.Record.{Timestamp, Part, joined, valueOf, tagAt, sizeAt, partAt, stateIn, timestampIn, recordLength, rising, decode, accepted, refused}
 use Rattle.model.specs.Program.{programCells, programWork, outputRoom, programOutput}
 use Rattle.model.specs.Promises.{TestPromise, VorticityPromise, TendenciesPromise, StepPromise, RunPromise, TotalDepthPromise, TotalEnergyPromise, WritePromise, ReadPromise, ComparePromise}
 use Rattle.model.specs.Histories.{Call, step, History, inflowDue, runCount}
@@ -419,6 +419,21 @@ RewriteClaim = (rec d d′ : List ℕ) (h b u v h′ b′ u′ v′ : List ℤ) 
     → Bytes rec → T (rising rec) → ReadPromise rec h b u v (ReadAnswer.Read p t) h′ b′ u′ v′
     → let m = p .w * p .n in WritePromise (stateOf p (take m h′) (take m b′) (take m u′) (take m v′)) t d written d′
     → length rec ≤ length d → (written ≡ WriteAnswer.Written (length rec)) × (take (length rec) d′ ≡ rec)
+
+-- the same fields in another order
+pub data Reordered : List Part → List Part → Type 0 where
+  empty : Reordered [] []
+  ahead : {p : Part} {a b : List Part} → Reordered a b → Reordered (p ∷ a) (p ∷ b)
+  swap : {p q : Part} {a : List Part} → Reordered (p ∷ q ∷ a) (q ∷ p ∷ a)
+  chain : {a b c : List Part} → Reordered a b → Reordered b c → Reordered a c
+
+-- the reader takes any order: a record that passes 7, with its fields put into another order, is read as the same state and timestamp, or
+-- refused with the same refusal; and what the reader's promise says of the one, it says of the other
+pub record AnyOrderClaim : Type 0 where
+  pub decoded : (rec rooms : List ℕ) (parts other : List Part) → Bytes rec → WholeIn rec parts → Reordered parts other
+      → decode (joined other) rooms ≡ decode rec rooms
+  pub read : (rec : List ℕ) (parts other : List Part) (h b u v h′ b′ u′ v′ : List ℤ) (answer : ReadAnswer) → Bytes rec → WholeIn rec parts → Reordered parts other
+      → ReadPromise rec h b u v answer h′ b′ u′ v′ → ReadPromise (joined other) h b u v answer h′ b′ u′ v′
 
 -- same exactly where both records are accepted, with one state and one timestamp
 pub record BothAre (first second : List ℕ) : Type 0 where

@@ -88,7 +88,7 @@ back-there c (x ∷ l) h =
 pub back-bytes : (k : ℕ) (l : List ℕ) → length l ≡ k → AllBytes l → bytes k (unsigned l) ≡ l
 back-bytes k l e h = ap (λ n. bytes n (unsigned l)) (sym e) ∙ back-there 0 l h
 
-small-of : (l : List ℕ) → AllBytes l → unsigned l < 256 ^ length l
+pub small-of : (l : List ℕ) → AllBytes l → unsigned l < 256 ^ length l
 small-of l h = let s = split 0 l h in subst (λ z. z < 256 ^ length l) (sym (s .sum ∙ nought (256 ^ length l) (s .low))) (s .small)
   where
     nought : (p r : ℕ) → 0 * p + r ≡ r

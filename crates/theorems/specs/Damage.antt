@@ -162,6 +162,9 @@ end-judged : (rec : List ℕ) (parts : List Part) → Judges (missingTest rec pa
 unfolding missingTest
 end-judged rec parts = judge (all (λ t. has t parts) tags) (Record (length rec)) (missing-iff parts)
 
+pub none-missing : (rec : List ℕ) (parts : List Part) → (Missing parts → ⊥) → missingTest rec parts ≡ none
+none-missing rec parts n = untold (end-judged rec parts) n
+
 -- ---- what the walk tells is so
 
 abbrev Tells : List ℕ → Walked → Type 0
@@ -240,5 +243,5 @@ damaged-iff rec r = (
 pub whole-iff : (rec : List ℕ) (parts : List Part) → (walked rec ≡ whole parts) ↔ WholeIn rec parts
 whole-iff rec parts = (
   λ e. subst (Tells rec) e (tells-walked rec),
-  λ w. ended rec parts (w .0) ∙ ap (λ o. unless o (whole parts)) (untold (end-judged rec parts) (w .1)),
+  λ w. ended rec parts (w .0) ∙ ap (λ o. unless o (whole parts)) (none-missing rec parts (w .1)),
 )

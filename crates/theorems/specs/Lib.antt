@@ -28,6 +28,7 @@ pub mod Walks
 pub mod Damage
 pub mod RoundTrip
 pub mod Rewrite
+pub mod AnyOrder
 pub mod ReadCauses
 pub mod Program
 pub mod Output

@@ -1,5 +1,5 @@
 -- Every theorem. `theorems` has each claim of the model, proved. Assumes nothing.
-use Rattle.model.specs.Claims.{LimitsClaim, AcceptedClaim, ScanClaim, TestClaim, RoomClaim, CallCausesClaim, ReadCausesClaim, MetClaim, FixedClaim, RefusedClaim, WorkClaim, RoundingClaim, OwnVorticityClaim, VorticityClaim, TendenciesAcceptedClaim, TendenciesClaim, PassClaim, StepClaim, RunClaim, RunStepsClaim, TotalsClaim, RoundTripClaim, ReadClaim, ProgramClaim, OutputClaim, RewriteClaim, CompareClaim, EnergyRateClaim, EnergyClaim, EnstrophyClaim, PeriodicEnstrophyClaim, BalanceClaim, KeptClaim}
+use Rattle.model.specs.Claims.{LimitsClaim, AcceptedClaim, ScanClaim, TestClaim, RoomClaim, CallCausesClaim, ReadCausesClaim, MetClaim, FixedClaim, RefusedClaim, WorkClaim, RoundingClaim, OwnVorticityClaim, VorticityClaim, TendenciesAcceptedClaim, TendenciesClaim, PassClaim, StepClaim, RunClaim, RunStepsClaim, TotalsClaim, RoundTripClaim, ReadClaim, ProgramClaim, OutputClaim, RewriteClaim, AnyOrderClaim, CompareClaim, EnergyRateClaim, EnergyClaim, EnstrophyClaim, PeriodicEnstrophyClaim, BalanceClaim, KeptClaim}
 use Rattle.theorems.specs.Limits.{limits-tested, accepted}
 use Rattle.theorems.specs.Scans.{scan}
 use Rattle.theorems.specs.Tested.{tests}
@@ -18,6 +18,7 @@ use Rattle.theorems.specs.RoundTrip.{round-trip}
 use Rattle.theorems.specs.Rewrite.{read-within, rewritten}
 use Rattle.theorems.specs.Program.{program-steps}
 use Rattle.theorems.specs.Output.{output-fits}
+use Rattle.theorems.specs.AnyOrder.{any-order}
 use Rattle.theorems.specs.Comparing.{comparison}
 use Rattle.theorems.specs.ProductRule.{energy-rate}
 use Rattle.theorems.specs.Rates.{energy-zero, enstrophy-zero, periodic-enstrophy}
@@ -57,6 +58,7 @@ pub record Theorems : Type 0 where
   pub program : ProgramClaim
   pub output : OutputClaim
   pub read-then-write : RewriteClaim
+  pub any-order : AnyOrderClaim
   pub compare : CompareClaim
   -- demand 3: what is kept
   pub energy-rate : EnergyRateClaim
@@ -95,6 +97,7 @@ theorems =
       program = program-steps;
       output = output-fits;
       read-then-write = rewritten;
+      any-order = any-order;
       compare = comparison;
       energy-rate = energy-rate;
       energy = energy-zero;

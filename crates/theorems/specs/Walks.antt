@@ -1,22 +1,22 @@
 -- A record made of fields is read back as those fields, and a record that is read as fields is those fields joined. Assumes nothing.
-use mathlib.Core.Path.{_≡_, refl, sym, ap, ap₂, _∙_}
+use mathlib.Core.Path.{_≡_, refl, sym, ap, ap₂, subst, _∙_}
 use mathlib.Core.Bool.{Bool, true, false, not, cond}
 use mathlib.Core.List.{List, [], _∷_, _++_, append-assoc, append-nil}
 use mathlib.Core.Option.{Option, none, some}
-use Prim.Native.Nat.{ℕ, zero, suc, _+_, _-_, _≤_, _<_, min}
+use Prim.Native.Nat.{ℕ, zero, suc, _+_, _-_, _^_, _≤_, _<_, min}
 use native.Mathlib.Nat.{add-zero, not-suc-le-zero, le-of-suc-le-suc}
 use native.Mathlib.Numerals.{add-one}
 use native.Mathlib.Omega.{arith}
 use lib.Dec.{T, leb}
 use lib.ListN.{length, take, drop, getD, length-append, length-take, length-drop, take-append-drop, drop-of-length-le}
 use lib.Seq.{getD-append-add, drop-drop, drop-at, take-at, drop-cons}
-use borrow.Author.Tests.{le-leb, lt-leb, leb-true}
+use borrow.Author.Tests.{le-leb, lt-leb, leb-true, not-true}
 use Rattle.model.specs.Refusals.{_then_, must}
 use Rattle.model.specs.Record.{bytes, unsigned, Part, joined, has, tagAt, sizeAt, partAt, knownTag, rightSize, tagTest, missingTest, Walked, damaged, whole, unless, walk}
 use Rattle.model.specs.declared.Refusal.{Refusal}
 use Rattle.model.specs.declared.Refusal.the-variants.{Record}
 use Rattle.theorems.specs.Tests.{le-iff, then-iff, must-iff, T-true, differ}
-use Rattle.theorems.specs.Bytes.{AllBytes, bytes-drop, bytes-take, there-back, back-bytes}
+use Rattle.theorems.specs.Bytes.{AllBytes, bytes-drop, bytes-take, there-back, back-bytes, small-of}
 
 -- ---- the tests at a tag
 
@@ -145,6 +145,7 @@ pub record Undone (rec : List ℕ) (k : ℕ) (seen ps : List Part) : Type 0 wher
   pub parts : ps ≡ seen ++ new
   pub rest : drop k rec ≡ joined new
   pub each : AllRead new
+  pub fine : AllFine seen new
 
 whole-same : (a b : List Part) → whole a ≡ whole b → a ≡ b
 whole-same a b h = cc
@@ -158,7 +159,7 @@ end-by (some r) seen ps h = damaged≢ h
 
 ended : (rec : List ℕ) (k : ℕ) (seen ps : List Part) → length rec ≤ k → atEnd rec seen ≡ whole ps → Undone rec k seen ps
 ended rec k seen ps h e =
-    record { new = []; parts = sym (end-by (missingTest rec seen) seen ps e) ∙ sym (append-nil seen); rest = drop-of-length-le rec h; each = tt }
+    record { new = []; parts = sym (end-by (missingTest rec seen) seen ps e) ∙ sym (append-nil seen); rest = drop-of-length-le rec h; each = tt; fine = tt }
 
 module _ (rec : List ℕ) (plain : AllBytes rec) (k : ℕ) (seen : List Part) (h : Sound rec k seen) where
   value-long : length (take (sizeAt rec k) (drop (k + 3) rec)) ≡ sizeAt rec k
@@ -167,14 +168,33 @@ module _ (rec : List ℕ) (plain : AllBytes rec) (k : ℕ) (seen : List Part) (h
       fits : (n l k : ℕ) → k + 3 + n ≤ l → min n (l - (k + 3)) ≡ n
       fits n l k h = omega arith
 
-  size-bytes : bytes 2 (sizeAt rec k) ≡ take 2 (drop (k + 1) rec)
-  size-bytes = back-bytes 2 (take 2 (drop (k + 1) rec)) (simp (length-take, length-drop) (fits (length rec) k (h .head))) (bytes-take 2 (drop (k + 1) rec) (bytes-drop (k + 1) rec plain))
+  size-long : length (take 2 (drop (k + 1) rec)) ≡ 2
+  size-long = simp (length-take, length-drop) (fits (length rec) k (h .head))
     where
       fits : (l k : ℕ) → k + 3 ≤ l → min 2 (l - (k + 1)) ≡ 2
       fits l k h = omega arith
 
+  size-plain : AllBytes (take 2 (drop (k + 1) rec))
+  size-plain = bytes-take 2 (drop (k + 1) rec) (bytes-drop (k + 1) rec plain)
+
+  size-bytes : bytes 2 (sizeAt rec k) ≡ take 2 (drop (k + 1) rec)
+  size-bytes = back-bytes 2 (take 2 (drop (k + 1) rec)) size-long size-plain
+
   field-read : Read (partAt rec k)
   field-read = record { sized = ap (rightSize (tagAt rec k)) value-long ∙ T-true _ (h .right); plain = bytes-take (sizeAt rec k) (drop (k + 3) rec) (bytes-drop (k + 3) rec plain) }
+
+  field-fine : Fine seen (partAt rec k)
+  field-fine =
+      record {
+        known = T-true _ (h .tag);
+        new = not-true _ (T-true _ (h .new));
+        short = subst (λ n. n < 65536) (sym value-long) (two (take 2 (drop (k + 1) rec)) size-long size-plain);
+        sized = field-read .sized;
+      }
+    where
+      -- two bytes stand for less than 65536
+      two : (l : List ℕ) → length l ≡ 2 → AllBytes l → unsigned l < 65536
+      two l e b = subst (λ n. unsigned l < 256 ^ n) e (small-of l b)
 
   -- the rest of the record is the field and what comes after it
   field-rest : (l : List ℕ) → drop (k + 3 + sizeAt rec k) rec ≡ l
@@ -203,6 +223,7 @@ onward rec plain k seen ps h u =
       parts = u .parts ∙ append-assoc seen (partAt rec k ∷ []) (u .new);
       rest = field-rest rec plain k seen h (joined (u .new)) (u .rest);
       each = (field-read rec plain k seen h, u .each);
+      fine = (field-fine rec plain k seen h, u .fine);
     }
 
 by-tests : (rec : List ℕ) → AllBytes rec → (k : ℕ) (seen ps : List Part) (more : Walked)

@@ -1,0 +1,177 @@
+-- The reader takes any order: a record whose fields are put into another order is read as the same, or refused with the same. Assumes nothing.
+use mathlib.Core.Path.{_≡_, refl, sym, ap, ap₂, subst, _∙_}
+use mathlib.Core.Logic.{inl, inr}
+use mathlib.Core.Bool.{Bool, true, false, cond, _||_, true≢false}
+use mathlib.Core.List.{List, [], _∷_, _++_, append-assoc}
+use Prim.Native.Nat.{ℕ, _+_, _≤_, zero-le}
+use native.Mathlib.Omega.{arith}
+use lib.Dec.{eqb}
+use lib.IntN.{ℤ}
+use lib.ListN.{length, length-append}
+use borrow.Author.Tests.{eqb-true, eqb-false, ne-eqb}
+use Rattle.model.specs.State.{State}
+use Rattle.model.specs.Record.{Part, joined, has, valueOf, whole, unless, walked, stateIn, timestampIn, bytesRight, bytesTest, recordTest, judged, readBy, decode}
+use Rattle.model.specs.Answers.{toldRead}
+use Rattle.model.specs.Promises.{readAnswer, readInto, readOf, ReadPromise}
+use Rattle.model.specs.Claims.{Among, WholeIn, Bytes, Reordered, empty, ahead, swap, chain, AnyOrderClaim}
+use Rattle.model.specs.declared.ReadAnswer.{ReadAnswer}
+use Rattle.theorems.specs.Walks.{Fine, AllFine, walks, unwalk}
+use Rattle.theorems.specs.Damage.{none-missing, whole-iff}
+use Rattle.theorems.specs.Rewrite.{all-bytes}
+
+-- ---- fields that may stand in one order may stand in any
+
+-- whether a tag is among the fields seen
+has-more : (t : ℕ) (a b : List Part) → has t (a ++ b) ≡ has t a || has t b
+has-more t [] b = refl
+has-more t (p ∷ a) b = ap (λ x. eqb (p .tag) t || x) (has-more t a b) ∙ grouped (eqb (p .tag) t) (has t a) (has t b)
+  where
+    grouped : (x y z : Bool) → x || (y || z) ≡ x || y || z
+    grouped true y z = refl
+    grouped false y z = refl
+
+either-first : (x y z : Bool) → x || (y || z) ≡ y || (x || z)
+either-first true true z = refl
+either-first true false z = refl
+either-first false y z = refl
+
+-- it does not matter which of two fields was seen first
+has-both : (t : ℕ) (seen : List Part) (p q : Part) → has t (seen ++ (p ∷ []) ++ (q ∷ [])) ≡ has t (seen ++ (q ∷ []) ++ (p ∷ []))
+has-both t seen p q =
+    ap (has t) (append-assoc seen (p ∷ []) (q ∷ []))
+    ∙ has-more t seen (p ∷ q ∷ [])
+    ∙ ap (λ x. has t seen || x) (either-first (eqb (p .tag) t) (eqb (q .tag) t) false)
+    ∙ sym (has-more t seen (q ∷ p ∷ []))
+    ∙ ap (has t) (sym (append-assoc seen (q ∷ []) (p ∷ [])))
+
+-- a tag that is new after a field is new before it, and is another than the field's
+record New (t : ℕ) (seen : List Part) (p : Part) : Type 0 where
+  before : has t seen ≡ false
+  apart : p .tag ≡ t → ⊥
+
+new-of : (t : ℕ) (seen : List Part) (p : Part) → has t (seen ++ (p ∷ [])) ≡ false → New t seen p
+new-of t seen p e =
+    let x = neither (has t seen) (eqb (p .tag) t || false) (sym (has-more t seen (p ∷ [])) ∙ e) in
+    record { before = x .0; apart = eqb-false (p .tag) t (neither (eqb (p .tag) t) false (x .1) .0) }
+  where
+    neither : (x y : Bool) → x || y ≡ false → (x ≡ false) × (y ≡ false)
+    neither true y e = absurd (true≢false e)
+    neither false y e = (refl, e)
+
+new-after : (t : ℕ) (seen : List Part) (p : Part) → New t seen p → has t (seen ++ (p ∷ [])) ≡ false
+new-after t seen p n = has-more t seen (p ∷ []) ∙ ap₂ (λ x y. x || (y || false)) (n .before) (ne-eqb (p .tag) t (n .apart))
+
+-- of the fields seen only the tags count
+fine-after : {seen other : List Part} {p : Part} → Fine seen p → has (p .tag) other ≡ false → Fine other p
+fine-after f n = record { known = f .known; new = n; short = f .short; sized = f .sized }
+
+seen-same : (seen other ps : List Part) → ((t : ℕ) → has t seen ≡ has t other) → AllFine seen ps → AllFine other ps
+seen-same seen other [] e f = tt
+seen-same seen other (p ∷ ps) e f = (
+  fine-after (f .0) (sym (e (p .tag)) ∙ f .0 .new),
+  seen-same (seen ++ (p ∷ [])) (other ++ (p ∷ [])) ps (λ t. has-more t seen (p ∷ []) ∙ ap (λ x. x || has t (p ∷ [])) (e t) ∙ sym (has-more t other (p ∷ []))) (f .1),
+)
+
+fine-swapped : (seen : List Part) (p q : Part) (ps : List Part) → AllFine seen (p ∷ q ∷ ps) → AllFine seen (q ∷ p ∷ ps)
+fine-swapped seen p q ps f =
+    let n = new-of (q .tag) seen p (f .1 .0 .new) in
+    let m = new-after (p .tag) seen q (record { before = f .0 .new; apart = λ e. n .apart (sym e) }) in
+    let rest = seen-same (seen ++ (p ∷ []) ++ (q ∷ [])) (seen ++ (q ∷ []) ++ (p ∷ [])) ps (λ t. has-both t seen p q) (f .1 .1) in
+    (fine-after (f .1 .0) (n .before), (fine-after (f .0) m, rest))
+
+all-fine : {a b : List Part} → Reordered a b → (seen : List Part) → AllFine seen a → AllFine seen b
+all-fine empty seen f = f
+all-fine (ahead {p} r) seen f = (f .0, all-fine r (seen ++ (p ∷ [])) (f .1))
+all-fine (swap {p} {q} {a}) seen f = fine-swapped seen p q a f
+all-fine (chain r s) seen f = all-fine s seen (all-fine r seen f)
+
+-- ---- the value of a tag does not depend on the order
+
+value-swapped : (t : ℕ) (p q : Part) (ps : List Part) → (p .tag ≡ q .tag → ⊥) → valueOf t (p ∷ q ∷ ps) ≡ valueOf t (q ∷ p ∷ ps)
+value-swapped t p q ps n = by (eqb (p .tag) t) refl (eqb (q .tag) t) refl
+  where
+    by : (x : Bool) → eqb (p .tag) t ≡ x → (y : Bool) → eqb (q .tag) t ≡ y
+        → cond x (p .value) (cond y (q .value) (valueOf t ps)) ≡ cond y (q .value) (cond x (p .value) (valueOf t ps))
+    by true a true b = absurd (n (eqb-true (p .tag) t a ∙ sym (eqb-true (q .tag) t b)))
+    by true a false b = refl
+    by false a y b = refl
+
+same-value : {a b : List Part} → Reordered a b → (seen : List Part) → AllFine seen a → (t : ℕ) → valueOf t b ≡ valueOf t a
+same-value empty seen f t = refl
+same-value (ahead {p} r) seen f t = ap (cond (eqb (p .tag) t) (p .value)) (same-value r (seen ++ (p ∷ [])) (f .1) t)
+same-value (swap {p} {q} {a}) seen f t = sym (value-swapped t p q a (new-of (q .tag) seen p (f .1 .0 .new) .apart))
+same-value (chain r s) seen f t = same-value s seen (all-fine r seen f) t ∙ same-value r seen f t
+
+-- nor does what the fields mean
+module _ (a b : List Part) (v : (t : ℕ) → valueOf t b ≡ valueOf t a) where
+  same-state : stateIn b ≡ stateIn a
+  unfolding stateIn
+  same-state = rw (v 1, v 2, v 4, v 5, v 6, v 7)
+
+  same-timestamp : timestampIn b ≡ timestampIn a
+  unfolding timestampIn
+  same-timestamp = rw (v 3)
+
+  same-test : (s : State) (rooms : List ℕ) → recordTest s b rooms ≡ recordTest s a rooms
+  unfolding recordTest bytesTest bytesRight
+  same-test s rooms = rw (v 4, v 5, v 6, v 7)
+
+  same-read : (rooms : List ℕ) → readBy rooms (whole b) ≡ readBy rooms (whole a)
+  same-read rooms = ap₂ (λ s t. judged (recordTest s b rooms) s t) same-state same-timestamp ∙ ap (λ o. judged o (stateIn a) (timestampIn a)) (same-test (stateIn a) rooms)
+
+-- ---- the record in another order
+
+-- a tag that is there in one order is there in any
+still-among : {a b : List Part} → Reordered a b → (t : ℕ) → Among t a → Among t b
+still-among empty t m = m
+still-among (ahead r) t (inl e) = inl e
+still-among (ahead r) t (inr m) = inr (still-among r t m)
+still-among swap t (inl e) = inr (inl e)
+still-among swap t (inr (inl e)) = inl e
+still-among swap t (inr (inr m)) = inr (inr m)
+still-among (chain r s) t m = still-among s t (still-among r t m)
+
+-- each field has a byte at least
+count : (ps : List Part) → length ps ≤ length (joined ps)
+count [] = zero-le
+count (p ∷ ps) = let n = count ps in simp length-append (omega arith)
+
+module _ (rec : List ℕ) (parts other : List Part) (plain : Bytes rec) (w : WholeIn rec parts) (r : Reordered parts other) where
+  fine : AllFine [] parts
+  unfolding walked
+  fine =
+      let u = unwalk rec (all-bytes rec plain) (length rec) 0 [] parts (start (length rec)) (whole-iff rec parts .1 w) in
+      subst (AllFine []) (sym (u .parts)) (u .fine)
+    where
+      start : (n : ℕ) → n ≤ 0 + n
+      start n = omega arith
+
+  other-walked : walked (joined other) ≡ whole other
+  unfolding walked
+  other-walked =
+      walks other (joined other) [] 0 (length (joined other)) [] refl refl (all-fine r [] fine) (count other)
+      ∙ ap (λ o. unless o (whole other)) (none-missing (joined other) other (λ m. w .1 (m .0, m .1, m .2, λ x. m .3 (still-among r (m .0) x))))
+
+  same-decoded : (rooms : List ℕ) → decode (joined other) rooms ≡ decode rec rooms
+  unfolding decode
+  same-decoded rooms = ap (readBy rooms) other-walked ∙ same-read parts other (same-value r [] fine) rooms ∙ ap (readBy rooms) (sym (whole-iff rec parts .1 w))
+
+  same-promise : (h b u v h′ b′ u′ v′ : List ℤ) (answer : ReadAnswer) → ReadPromise rec h b u v answer h′ b′ u′ v′ → ReadPromise (joined other) h b u v answer h′ b′ u′ v′
+  unfolding readOf
+  same-promise h b u v h′ b′ u′ v′ answer p =
+      let e : readOf rec h b u v ≡ readOf (joined other) h b u v = sym (same-decoded (length h ∷ length b ∷ length u ∷ length v ∷ [])) in
+      record {
+        answers = p .answers ∙ ap readAnswer e;
+        tells = p .tells ∙ ap (λ x. toldRead (readAnswer x)) e;
+        fills-h = p .fills-h ∙ ap (λ x. readInto (λ s. s .h) x h) e;
+        fills-b = p .fills-b ∙ ap (λ x. readInto (λ s. s .b) x b) e;
+        fills-u = p .fills-u ∙ ap (λ x. readInto (λ s. s .u) x u) e;
+        fills-v = p .fills-v ∙ ap (λ x. readInto (λ s. s .v) x v) e;
+      }
+
+pub any-order : AnyOrderClaim
+any-order =
+    record {
+      decoded = λ rec rooms parts other plain w r. same-decoded rec parts other plain w r rooms;
+      read = λ rec parts other h b u v h′ b′ u′ v′ answer plain w r p. same-promise rec parts other plain w r h b u v h′ b′ u′ v′ answer p;
+    }
