@@ -1,2 +1,2 @@
--- what the comparison tells of two records, of this code
+-- calls of the comparison by name, and the theorems of them
 pub mod Applied

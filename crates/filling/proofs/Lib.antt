@@ -1,4 +1,5 @@
 -- from the tests of a call to its promise
 pub mod CallLaws
--- the theorems speak of this code
+-- calls by name, and the theorems of them
+pub mod Calls
 pub mod Applied
