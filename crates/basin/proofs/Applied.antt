@@ -47,13 +47,24 @@ module _ (call : TendenciesCall) where
   promised : call .returned ≡ 0 → Promised Done
   promised z = subst Promised (done (call .told .answer) (sym (call .told .told .returns) ∙ z)) (call .told .promise)
 
+  -- such a call is not refused
   pub returns-0 : Taken call → call .returned ≡ 0
   returns-0 t =
       call .told .told .returns
       ∙ ap (λ x. getD (fillNumbers x) 0 0) (theorems .tendencies-accepted (call .state) (call .q) _ _ _ _ _ _ (call .told .answer) (call .told .promise) .1 (t .state, t .vorticity, t .depth, t .velocity-u, t .velocity-v))
 
+  -- the scaled energy rate is zero: every boundary, every q within its bound
   pub energy-rate-zero : call .returned ≡ 0 → energyRate (call .state) (call .dh′) (call .du′) (call .dv′) ≡ pos 0
   energy-rate-zero z = theorems .energy (call .state) (call .q) _ _ _ _ _ _ (promised z)
 
+  -- and in 01's words: at every state within the limits
+  pub energy-rate-zero-within : Taken call → energyRate (call .state) (call .dh′) (call .du′) (call .dv′) ≡ pos 0
+  energy-rate-zero-within t = energy-rate-zero (returns-0 t)
+
+  -- the scaled enstrophy rate is zero where the grid wraps both ways
   pub enstrophy-rate-zero : call .state .kind ≡ 0 → call .returned ≡ 0 → enstrophyRate (call .state) (call .dh′) (call .du′) (call .dv′) (call .q) ≡ pos 0
   enstrophy-rate-zero k z = theorems .periodic-enstrophy (call .state) (call .q) _ _ _ _ _ _ k (promised z)
+
+  -- at every such state within the limits
+  pub enstrophy-rate-zero-within : call .state .kind ≡ 0 → Taken call → enstrophyRate (call .state) (call .dh′) (call .du′) (call .dv′) (call .q) ≡ pos 0
+  enstrophy-rate-zero-within k t = enstrophy-rate-zero k (returns-0 t)

@@ -20,6 +20,7 @@ use Rattle.model.specs.declared.ReadAnswer.the-variants.{Read, Refused}
 use Rattle.model.specs.declared.CompareAnswer.{CompareAnswer}
 use Rattle.model.specs.declared.CompareAnswer.the-variants.{Same, FirstNewer, SecondNewer, Conflict, FirstRefused, SecondRefused}
 use Rattle.theorems.specs.Theorems.{theorems}
+use Rattle.theorems.specs.Tests.{_⟫_}
 use Rattle.telling.specs.Told.{eight, orKept}
 use Rattle.reading.specs.Rooms.{Room}
 use Rattle.basin.specs.FromC.{parameters}
@@ -124,6 +125,52 @@ same-means c =
     by (FirstRefused r) s n k = absurd (omega (arith, from-one r, s .returns, n))
     by (SecondRefused r) s n k = absurd (omega (arith, from-one r, s .returns, n))
 
+-- an accepted record is not a refused one
+abbrev refusals : Decoded → ℕ
+refusals (accepted x y) = 0
+refusals (refused r) = 1
+
+accepted-not-refused : {d : Decoded} {r : Refusal} {x : State} {y : Timestamp} → d ≡ accepted x y → d ≡ refused r → ⊥
+accepted-not-refused e f = omega (arith, ap refusals (sym e ∙ f))
+
+-- two accepted records: 1 exactly where the first has the later timestamp, 2 where the second has, 3 where they have one and differ
+pub record Ordered (c : CompareCall) (s t : State) (x y : Timestamp) : Type 0 where
+  pub returns : c .returned ≡ 0
+  pub first-newer : (result c ≡ 1) ↔ (y < x)
+  pub second-newer : (result c ≡ 2) ↔ (x < y)
+  pub conflict : (result c ≡ 3) ↔ ((x ≡ y) × (s ≡ t → ⊥))
+
+-- the answers apart
+abbrev place : CompareAnswer → ℕ
+place Same = 0
+place FirstNewer = 1
+place SecondNewer = 2
+place Conflict = 3
+place (FirstRefused r) = 4
+place (SecondRefused r) = 5
+
+pub ordered : (c : CompareCall) {s t : State} {x y : Timestamp} → decode (c .first) [] ≡ accepted s x → decode (c .second) [] ≡ accepted t y → Ordered c s t x y
+ordered c {s} {t} {x} {y} one two =
+    let told = theorems .compare .newer (c .first) (c .second) (c .told .answer) s t x y one two (c .told .promise) in
+    let n = by (c .told .answer) refl in
+    record {
+      returns = n .0;
+      first-newer = n .1 ⟫ told .0;
+      second-newer = n .2 ⟫ told .1;
+      conflict = n .3 ⟫ told .2;
+    }
+  where
+    other : (a b : CompareAnswer) → result c ≡ place a → (place a ≡ place b → ⊥) → (result c ≡ place b) ↔ (a ≡ b)
+    other a b tells apart = (λ r. absurd (apart (sym tells ∙ r)), λ q. absurd (apart (ap place q)))
+
+    by : (a : CompareAnswer) → c .told .answer ≡ a → (c .returned ≡ 0) × ((result c ≡ 1) ↔ (a ≡ FirstNewer)) × ((result c ≡ 2) ↔ (a ≡ SecondNewer)) × ((result c ≡ 3) ↔ (a ≡ Conflict))
+    by Same e = let n = is c e in (n .returns, other Same FirstNewer (n .tells) (λ q. omega (arith, q)), other Same SecondNewer (n .tells) (λ q. omega (arith, q)), other Same Conflict (n .tells) (λ q. omega (arith, q)))
+    by FirstNewer e = let n = is c e in (n .returns, (λ r. refl, λ q. n .tells), other FirstNewer SecondNewer (n .tells) (λ q. omega (arith, q)), other FirstNewer Conflict (n .tells) (λ q. omega (arith, q)))
+    by SecondNewer e = let n = is c e in (n .returns, other SecondNewer FirstNewer (n .tells) (λ q. omega (arith, q)), (λ r. refl, λ q. n .tells), other SecondNewer Conflict (n .tells) (λ q. omega (arith, q)))
+    by Conflict e = let n = is c e in (n .returns, other Conflict FirstNewer (n .tells) (λ q. omega (arith, q)), other Conflict SecondNewer (n .tells) (λ q. omega (arith, q)), (λ r. refl, λ q. n .tells))
+    by (FirstRefused r) e = absurd (accepted-not-refused one (theorems .compare .first-refused (c .first) (c .second) (c .told .answer) r (c .told .promise) .0 e))
+    by (SecondRefused r) e = absurd (accepted-not-refused two (theorems .compare .second-refused (c .first) (c .second) (c .told .answer) r s x one (c .told .promise) .0 e))
+
 -- and swapped with the records, of two that are accepted: 1 for 2, and 0 and 3 as they are
 pub record Swapped (c d : CompareCall) : Type 0 where
   pub both : (c .returned ≡ 0) × (d .returned ≡ 0)
@@ -135,13 +182,6 @@ swapped-result c d p q {s} {t} {i} {j} one two =
     let back = subst (λ l. ComparePromise l (c .first) (d .told .answer)) p (subst (λ l. ComparePromise (d .first) l (d .told .answer)) q (d .told .promise)) in
     by (c .told .answer) refl (theorems .compare .swap (c .first) (c .second) (c .told .answer) (d .told .answer) s t i j one two (c .told .promise) back)
   where
-    refusals : Decoded → ℕ
-    refusals (accepted x y) = 0
-    refusals (refused r) = 1
-
-    accepted-not-refused : {d : Decoded} {r : Refusal} {x : State} {y : ℕ} → d ≡ accepted x y → d ≡ refused r → ⊥
-    accepted-not-refused e f = omega (arith, ap refusals (sym e ∙ f))
-
     by : (a : CompareAnswer) → c .told .answer ≡ a → d .told .answer ≡ swapped (c .told .answer) → Swapped c d
     by Same e b = let x = is c e in let y = is d (b ∙ ap swapped e) in record { both = (x .returns, y .returns); results = inl (x .tells, y .tells) }
     by FirstNewer e b = let x = is c e in let y = is d (b ∙ ap swapped e) in record { both = (x .returns, y .returns); results = inr (inl (x .tells, y .tells)) }

@@ -141,7 +141,13 @@ fn then_field_in(
     requires { ⌜ length (now value) ≡ w * n * sizeOf size ⌝ }
     ensures { λ r. ⌜
         r ≡ testAnswer
-        (foundIn earlier then valueTest (record { field = field; count = w * n; limits = limitsOf field; numbers = numbersBy size (w * n) (now (value .entry)) } ∷ []))
+        (foundIn earlier then valueTest
+        (record {
+          field = field;
+          count = w * n;
+          limits = limitsOf field;
+          numbers = numbersBy size (w * n) (now (value .entry));
+        } ∷ []))
         ⌝ }
 {
     then_cells_in(

@@ -172,7 +172,8 @@ fn fill_tendencies(
 // Test 8 of the three destinations, by their lengths.
 fn test_rooms(p: Parameters, dh: usize, du: usize, dv: usize) -> TestAnswer
     ensures { λ r. ⌜
-        ((h b u v : List ℤ) → T (gridKnown (stateOf p h b u v)) → r ≡ testAnswer (roomTest (p .w * p .n) (dh ∷ du ∷ dv ∷ [])))
+        ((h b u v : List ℤ) → T (gridKnown (stateOf p h b u v))
+        → r ≡ testAnswer (roomTest (p .w * p .n) (dh ∷ du ∷ dv ∷ [])))
         ⌝ }
 {
     let first = state::test_room(p, dh);

@@ -111,7 +111,8 @@ Cause s beside x r =
 pub record TestClaim : Type 0 where
   pub passed : (s : State) (beside : Beside) (x : List ℤ)
       → TestPromise s beside x TestAnswer.Passed ↔ (WithinLimits s × EachWithin (besideTaken (cells s) beside x) × T (runShort beside) × T (workEnough (cells s) beside))
-  pub refused : (s : State) (beside : Beside) (x : List ℤ) (r : Refusal) → TestPromise s beside x (TestAnswer.Refused r) ↔ Cause s beside x r
+  pub refused : (s : State) (beside : Beside) (x : List ℤ) (r : Refusal)
+      → TestPromise s beside x (TestAnswer.Refused r) ↔ Cause s beside x r
 
 -- why a call that fills m places of each destination refuses with r, where the destinations have these lengths (`rooms`):
 -- a cause of 1 to 5, the same as for the tests by themselves; or none of these, and 8: not each destination has m places
@@ -122,7 +123,8 @@ FillCause s beside x m rooms r =
 
 -- potential vorticity, tendencies and the writer refuse with r exactly where r's cause holds, and leave each destination as it was
 pub record RoomClaim : Type 0 where
-  pub vorticity : (s : State) (d d′ : List ℤ) (r : Refusal) → VorticityPromise s d (FillAnswer.Refused r) d′ ↔ (FillCause s Nothing [] (cells s) (length d ∷ []) r × (d′ ≡ d))
+  pub vorticity : (s : State) (d d′ : List ℤ) (r : Refusal)
+      → VorticityPromise s d (FillAnswer.Refused r) d′ ↔ (FillCause s Nothing [] (cells s) (length d ∷ []) r × (d′ ≡ d))
   pub tendencies : (s : State) (q dh du dv dh′ du′ dv′ : List ℤ) (r : Refusal)
       → TendenciesPromise s q dh du dv (FillAnswer.Refused r) dh′ du′ dv′
       ↔ (FillCause s Vorticity q (cells s) (length dh ∷ length du ∷ length dv ∷ []) r × (dh′ ≡ dh) × (du′ ≡ du) × (dv′ ≡ dv))
@@ -235,13 +237,16 @@ pub record ReadCausesClaim : Type 0 where
 pub record MetClaim : Type 0 where
   pub test : (s : State) (beside : Beside) (x : List ℤ) → (a : TestAnswer) × TestPromise s beside x a
   pub vorticity : (s : State) (d : List ℤ) → (a : FillAnswer) × (d′ : List ℤ) × VorticityPromise s d a d′
-  pub tendencies : (s : State) (q dh du dv : List ℤ) → (a : FillAnswer) × (dh′ : List ℤ) × (du′ : List ℤ) × (dv′ : List ℤ) × TendenciesPromise s q dh du dv a dh′ du′ dv′
+  pub tendencies : (s : State) (q dh du dv : List ℤ)
+      → (a : FillAnswer) × (dh′ : List ℤ) × (du′ : List ℤ) × (dv′ : List ℤ) × TendenciesPromise s q dh du dv a dh′ du′ dv′
   pub step : (s : State) (inflow work : List ℤ) → (a : StepAnswer) × (s′ : State) × (work′ : List ℤ) × StepPromise s inflow work a s′ work′
-  pub run : (s : State) (inflow : List ℤ) (m : ℕ) (work : List ℤ) → (a : RunAnswer) × (s′ : State) × (work′ : List ℤ) × RunPromise s inflow m work a s′ work′
+  pub run : (s : State) (inflow : List ℤ) (m : ℕ) (work : List ℤ)
+      → (a : RunAnswer) × (s′ : State) × (work′ : List ℤ) × RunPromise s inflow m work a s′ work′
   pub depth : (s : State) → (a : TotalAnswer) × TotalDepthPromise s a
   pub energy : (s : State) → (a : TotalAnswer) × TotalEnergyPromise s a
   pub write : (s : State) (t : Timestamp) (d : List ℕ) → (a : WriteAnswer) × (d′ : List ℕ) × WritePromise s t d a d′
-  pub read : (rec : List ℕ) (h b u v : List ℤ) → (a : ReadAnswer) × (h′ : List ℤ) × (b′ : List ℤ) × (u′ : List ℤ) × (v′ : List ℤ) × ReadPromise rec h b u v a h′ b′ u′ v′
+  pub read : (rec : List ℕ) (h b u v : List ℤ)
+      → (a : ReadAnswer) × (h′ : List ℤ) × (b′ : List ℤ) × (u′ : List ℤ) × (v′ : List ℤ) × ReadPromise rec h b u v a h′ b′ u′ v′
   pub compare : (first second : List ℕ) → (a : CompareAnswer) × ComparePromise first second a
   -- any list of calls can be made from any state
   pub history : (s : State) (calls : List Call) → (t : State) × History s calls t
@@ -250,14 +255,19 @@ pub record MetClaim : Type 0 where
 pub record FixedClaim : Type 0 where
   pub test : (s : State) (beside : Beside) (x : List ℤ) (a b : TestAnswer) → TestPromise s beside x a → TestPromise s beside x b → a ≡ b
   pub vorticity : (s : State) (d x y : List ℤ) (a b : FillAnswer) → VorticityPromise s d a x → VorticityPromise s d b y → (a ≡ b) × (x ≡ y)
-  pub tendencies : (s : State) (q dh du dv x y z x′ y′ z′ : List ℤ) (a b : FillAnswer) → TendenciesPromise s q dh du dv a x y z → TendenciesPromise s q dh du dv b x′ y′ z′
+  pub tendencies : (s : State) (q dh du dv x y z x′ y′ z′ : List ℤ) (a b : FillAnswer) → TendenciesPromise s q dh du dv a x y z
+      → TendenciesPromise s q dh du dv b x′ y′ z′
       → (a ≡ b) × (x ≡ x′) × (y ≡ y′) × (z ≡ z′)
-  pub step : (s x y : State) (inflow work k l : List ℤ) (a b : StepAnswer) → StepPromise s inflow work a x k → StepPromise s inflow work b y l → (a ≡ b) × (x ≡ y) × (k ≡ l)
-  pub run : (s x y : State) (inflow : List ℤ) (m : ℕ) (work k l : List ℤ) (a b : RunAnswer) → RunPromise s inflow m work a x k → RunPromise s inflow m work b y l → (a ≡ b) × (x ≡ y) × (k ≡ l)
+  pub step : (s x y : State) (inflow work k l : List ℤ) (a b : StepAnswer) → StepPromise s inflow work a x k
+      → StepPromise s inflow work b y l → (a ≡ b) × (x ≡ y) × (k ≡ l)
+  pub run : (s x y : State) (inflow : List ℤ) (m : ℕ) (work k l : List ℤ) (a b : RunAnswer) → RunPromise s inflow m work a x k
+      → RunPromise s inflow m work b y l → (a ≡ b) × (x ≡ y) × (k ≡ l)
   pub depth : (s : State) (a b : TotalAnswer) → TotalDepthPromise s a → TotalDepthPromise s b → a ≡ b
   pub energy : (s : State) (a b : TotalAnswer) → TotalEnergyPromise s a → TotalEnergyPromise s b → a ≡ b
-  pub write : (s : State) (t : Timestamp) (d x y : List ℕ) (a b : WriteAnswer) → WritePromise s t d a x → WritePromise s t d b y → (a ≡ b) × (x ≡ y)
-  pub read : (rec : List ℕ) (h b u v h′ b′ u′ v′ h″ b″ u″ v″ : List ℤ) (a c : ReadAnswer) → ReadPromise rec h b u v a h′ b′ u′ v′ → ReadPromise rec h b u v c h″ b″ u″ v″
+  pub write : (s : State) (t : Timestamp) (d x y : List ℕ) (a b : WriteAnswer) → WritePromise s t d a x → WritePromise s t d b y
+      → (a ≡ b) × (x ≡ y)
+  pub read : (rec : List ℕ) (h b u v h′ b′ u′ v′ h″ b″ u″ v″ : List ℤ) (a c : ReadAnswer) → ReadPromise rec h b u v a h′ b′ u′ v′
+      → ReadPromise rec h b u v c h″ b″ u″ v″
       → (a ≡ c) × (h′ ≡ h″) × (b′ ≡ b″) × (u′ ≡ u″) × (v′ ≡ v″)
   pub compare : (first second : List ℕ) (a b : CompareAnswer) → ComparePromise first second a → ComparePromise first second b → a ≡ b
   -- and the state that it leaves is one alone
@@ -266,11 +276,14 @@ pub record FixedClaim : Type 0 where
 -- a refused call leaves everything but its work space as it was
 pub record RefusedClaim : Type 0 where
   pub vorticity : (s : State) (d d′ : List ℤ) (r : Refusal) → VorticityPromise s d (FillAnswer.Refused r) d′ → d′ ≡ d
-  pub tendencies : (s : State) (q dh du dv dh′ du′ dv′ : List ℤ) (r : Refusal) → TendenciesPromise s q dh du dv (FillAnswer.Refused r) dh′ du′ dv′
+  pub tendencies : (s : State) (q dh du dv dh′ du′ dv′ : List ℤ) (r : Refusal)
+      → TendenciesPromise s q dh du dv (FillAnswer.Refused r) dh′ du′ dv′
       → (dh′ ≡ dh) × (du′ ≡ du) × (dv′ ≡ dv)
   pub step : (s s′ : State) (inflow work work′ : List ℤ) (r : Refusal) → StepPromise s inflow work (StepAnswer.Refused r) s′ work′ → s′ ≡ s
-  pub step-6 : (s s′ : State) (inflow work work′ : List ℤ) (p k : ℕ) (f : Field) → StepPromise s inflow work (StepAnswer.OutOfBounds p f k) s′ work′ → s′ ≡ s
-  pub run : (s s′ : State) (inflow work work′ : List ℤ) (m : ℕ) (r : Refusal) → RunPromise s inflow m work (RunAnswer.Refused r) s′ work′ → s′ ≡ s
+  pub step-6 : (s s′ : State) (inflow work work′ : List ℤ) (p k : ℕ) (f : Field)
+      → StepPromise s inflow work (StepAnswer.OutOfBounds p f k) s′ work′ → s′ ≡ s
+  pub run : (s s′ : State) (inflow work work′ : List ℤ) (m : ℕ) (r : Refusal) → RunPromise s inflow m work (RunAnswer.Refused r) s′ work′
+      → s′ ≡ s
   pub write : (s : State) (t : ℕ) (d d′ : List ℕ) (r : Refusal) → WritePromise s t d (WriteAnswer.Refused r) d′ → d′ ≡ d
   pub read : (rec : List ℕ) (h b u v h′ b′ u′ v′ : List ℤ) (r : Refusal) → ReadPromise rec h b u v (ReadAnswer.Refused r) h′ b′ u′ v′
       → (h′ ≡ h) × (b′ ≡ b) × (u′ ≡ u) × (v′ ≡ v)
@@ -291,8 +304,10 @@ RunWork (RunAnswer.Refused r) s work work′ = RefusedWork r s work work′
 RunWork (RunAnswer.Stopped m p f k) s work work′ = work′ ≡ cleared s work
 
 pub record WorkClaim : Type 0 where
-  pub step : (s s′ : State) (inflow work work′ : List ℤ) (answer : StepAnswer) → StepPromise s inflow work answer s′ work′ → StepWork answer s work work′
-  pub run : (s s′ : State) (inflow work work′ : List ℤ) (m : ℕ) (answer : RunAnswer) → RunPromise s inflow m work answer s′ work′ → RunWork answer s work work′
+  pub step : (s s′ : State) (inflow work work′ : List ℤ) (answer : StepAnswer) → StepPromise s inflow work answer s′ work′
+      → StepWork answer s work work′
+  pub run : (s s′ : State) (inflow work work′ : List ℤ) (m : ℕ) (answer : RunAnswer) → RunPromise s inflow m work answer s′ work′
+      → RunWork answer s work work′
 
 -- ==== demand 2: the published scheme and 01's rules, at every cell
 
@@ -316,7 +331,8 @@ VorticityClaim = (s : State) (d d′ : List ℤ) → VorticityPromise s d FillAn
 
 -- the tendency call accepts any state within the limits, any q within its bound and destinations that have room, and these alone
 abbrev pub TendenciesAcceptedClaim : Type 0
-TendenciesAcceptedClaim = (s : State) (q dh du dv dh′ du′ dv′ : List ℤ) (answer : FillAnswer) → TendenciesPromise s q dh du dv answer dh′ du′ dv′
+TendenciesAcceptedClaim = (s : State) (q dh du dv dh′ du′ dv′ : List ℤ) (answer : FillAnswer)
+    → TendenciesPromise s q dh du dv answer dh′ du′ dv′
     → (answer ≡ FillAnswer.Done) ↔ (WithinLimits s × FieldWithin vorticityLimits (cells s) q × (cells s ≤ length dh) × (cells s ≤ length du) × (cells s ≤ length dv))
 
 -- it then fills in -D, Tu and Tv
@@ -348,7 +364,8 @@ pub record StepClaim : Type 0 where
   pub moves : (s t : State) (inflow : List ℤ) → WithinLimits s
       → (twoPass s inflow ≡ moved t) ↔ (WithinLimits (pass s s inflow) × WithinLimits t × (t ≡ pass s (pass s s inflow) inflow))
   pub stuck-1 : (s : State) (inflow : List ℤ) (x : Place) → leaves (pass s s inflow) ≡ some x → twoPass s inflow ≡ stuck 1 x
-  pub stuck-2 : (s : State) (inflow : List ℤ) (x : Place) → leaves (pass s s inflow) ≡ none → leaves (pass s (pass s s inflow) inflow) ≡ some x
+  pub stuck-2 : (s : State) (inflow : List ℤ) (x : Place) → leaves (pass s s inflow) ≡ none
+      → leaves (pass s (pass s s inflow) inflow) ≡ some x
       → twoPass s inflow ≡ stuck 2 x
 
 -- the state after m definition steps, each of which leads on
@@ -397,7 +414,8 @@ RoundTripClaim = (s : State) (t : ℕ) (d d′ : List ℕ) (written : WriteAnswe
 
 -- what an accepted read fills in is a state within the limits
 abbrev pub ReadClaim : Type 0
-ReadClaim = (rec : List ℕ) (h b u v h′ b′ u′ v′ : List ℤ) (p : Parameters) (t : ℕ) → ReadPromise rec h b u v (ReadAnswer.Read p t) h′ b′ u′ v′
+ReadClaim = (rec : List ℕ) (h b u v h′ b′ u′ v′ : List ℤ) (p : Parameters) (t : ℕ)
+    → ReadPromise rec h b u v (ReadAnswer.Read p t) h′ b′ u′ v′
     → let m = p .w * p .n in WithinLimits (stateOf p (take m h′) (take m b′) (take m u′) (take m v′))
 
 -- the step program's own step passes every test: it is refused by the reader, or with 6
@@ -432,7 +450,8 @@ pub data Reordered : List Part → List Part → Type 0 where
 pub record AnyOrderClaim : Type 0 where
   pub decoded : (rec rooms : List ℕ) (parts other : List Part) → Bytes rec → WholeIn rec parts → Reordered parts other
       → decode (joined other) rooms ≡ decode rec rooms
-  pub read : (rec : List ℕ) (parts other : List Part) (h b u v h′ b′ u′ v′ : List ℤ) (answer : ReadAnswer) → Bytes rec → WholeIn rec parts → Reordered parts other
+  pub read : (rec : List ℕ) (parts other : List Part) (h b u v h′ b′ u′ v′ : List ℤ) (answer : ReadAnswer) → Bytes rec → WholeIn rec parts
+      → Reordered parts other
       → ReadPromise rec h b u v answer h′ b′ u′ v′ → ReadPromise (joined other) h b u v answer h′ b′ u′ v′
 
 -- same exactly where both records are accepted, with one state and one timestamp
@@ -454,7 +473,8 @@ swapped (SecondRefused r) = FirstRefused r
 pub record CompareClaim : Type 0 where
   pub same : (first second : List ℕ) (answer : CompareAnswer) → ComparePromise first second answer → (answer ≡ Same) ↔ BothAre first second
   -- two accepted records: the newer timestamp tells, and under one timestamp different states conflict
-  pub newer : (first second : List ℕ) (answer : CompareAnswer) (s t : State) (x y : ℕ) → decode first [] ≡ accepted s x → decode second [] ≡ accepted t y
+  pub newer : (first second : List ℕ) (answer : CompareAnswer) (s t : State) (x y : ℕ) → decode first [] ≡ accepted s x
+      → decode second [] ≡ accepted t y
       → ComparePromise first second answer
       → ((answer ≡ FirstNewer) ↔ (y < x)) × ((answer ≡ SecondNewer) ↔ (x < y)) × ((answer ≡ Conflict) ↔ ((x ≡ y) × (s ≡ t → ⊥)))
   -- the first record is refused before the second is looked at
@@ -462,7 +482,8 @@ pub record CompareClaim : Type 0 where
       → (answer ≡ FirstRefused r) ↔ (decode first [] ≡ refused r)
   pub second-refused : (first second : List ℕ) (answer : CompareAnswer) (r : Refusal) (s : State) (x : ℕ) → decode first [] ≡ accepted s x
       → ComparePromise first second answer → (answer ≡ SecondRefused r) ↔ (decode second [] ≡ refused r)
-  pub swap : (first second : List ℕ) (answer back : CompareAnswer) (s t : State) (x y : ℕ) → decode first [] ≡ accepted s x → decode second [] ≡ accepted t y
+  pub swap : (first second : List ℕ) (answer back : CompareAnswer) (s t : State) (x y : ℕ) → decode first [] ≡ accepted s x
+      → decode second [] ≡ accepted t y
       → ComparePromise first second answer → ComparePromise second first back → back ≡ swapped answer
 
 -- ==== demand 3: what is kept, of what the public calls leave
@@ -482,16 +503,19 @@ EnergyRateClaim = (s : State) (dh du dv : List ℤ) (e : ℤ)
 
 -- the scaled energy rate is zero, for all three kinds, at every accepted tendency call
 abbrev pub EnergyClaim : Type 0
-EnergyClaim = (s : State) (q dh du dv dh′ du′ dv′ : List ℤ) → TendenciesPromise s q dh du dv FillAnswer.Done dh′ du′ dv′ → energyRate s dh′ du′ dv′ ≡ pos 0
+EnergyClaim = (s : State) (q dh du dv dh′ du′ dv′ : List ℤ) → TendenciesPromise s q dh du dv FillAnswer.Done dh′ du′ dv′
+    → energyRate s dh′ du′ dv′ ≡ pos 0
 
 -- the scaled enstrophy rate is zero where the grid wraps both ways: no edge is closed
 abbrev pub EnstrophyClaim : Type 0
-EnstrophyClaim = (s : State) (q dh du dv dh′ du′ dv′ : List ℤ) → OpenEverywhere s → TendenciesPromise s q dh du dv FillAnswer.Done dh′ du′ dv′
+EnstrophyClaim = (s : State) (q dh du dv dh′ du′ dv′ : List ℤ) → OpenEverywhere s
+    → TendenciesPromise s q dh du dv FillAnswer.Done dh′ du′ dv′
     → enstrophyRate s dh′ du′ dv′ q ≡ pos 0
 
 -- which is kind 0
 abbrev pub PeriodicEnstrophyClaim : Type 0
-PeriodicEnstrophyClaim = (s : State) (q dh du dv dh′ du′ dv′ : List ℤ) → s .kind ≡ 0 → TendenciesPromise s q dh du dv FillAnswer.Done dh′ du′ dv′
+PeriodicEnstrophyClaim = (s : State) (q dh du dv dh′ du′ dv′ : List ℤ) → s .kind ≡ 0
+    → TendenciesPromise s q dh du dv FillAnswer.Done dh′ du′ dv′
     → enstrophyRate s dh′ du′ dv′ q ≡ pos 0
 
 -- over any list of step and run calls from any state, total depth answers after the list what it answered before, plus the inflow
@@ -501,7 +525,8 @@ raised due (TotalAnswer.Total x) = TotalAnswer.Total (x +ℤ due)
 raised due (TotalAnswer.Refused r) = TotalAnswer.Refused r
 
 abbrev pub BalanceClaim : Type 0
-BalanceClaim = (s t : State) (calls : List Call) (before after : TotalAnswer) → History s calls t → TotalDepthPromise s before → TotalDepthPromise t after
+BalanceClaim = (s t : State) (calls : List Call) (before after : TotalAnswer) → History s calls t → TotalDepthPromise s before
+    → TotalDepthPromise t after
     → after ≡ raised (inflowDue s calls) before
 
 -- any such list keeps the limits

@@ -249,6 +249,8 @@ workedExamples =
     ∷ prints dock "total 2000\n0 0 2000 99 -51\n"
     ∷ writes (one (pos 2000)) 0 (replicate 57 7) (pos 0 ∷ pos 56 ∷ []) (dock ++ (7 ∷ []))
     ∷ reads dock (sevens 2) (zeros 1) (zeros 1) (zeros 1) (pos 0 ∷ pos 1 ∷ pos 1 ∷ pos 0 ∷ pos 9810 ∷ pos 10 ∷ pos 1000 ∷ pos 0 ∷ []) (pos 2000 ∷ pos 7 ∷ []) (zeros 1) (just (pos 100)) (just (minus 50))
+    -- and in another order, v first: the same
+    ∷ reads (drop 51 dock ++ take 51 dock) (sevens 2) (zeros 1) (zeros 1) (zeros 1) (pos 0 ∷ pos 1 ∷ pos 1 ∷ pos 0 ∷ pos 9810 ∷ pos 10 ∷ pos 1000 ∷ pos 0 ∷ []) (pos 2000 ∷ pos 7 ∷ []) (zeros 1) (just (pos 100)) (just (minus 50))
     ∷ []
 
 -- ---- what 01's cases leave open: which of two causes is told, and what a refusal leaves

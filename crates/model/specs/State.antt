@@ -37,10 +37,12 @@ stateOf p h b u v = record { w = p .w; n = p .n; kind = p .kind; G = p .g; c = p
 abbrev pub lent : Parameters → (h b u v : RefT (List ℤ)) → State
 lent p h b u v = stateOf p (now h) (now b) (now u) (now v)
 
-abbrev pub before : {H B U W : Type 0} → Parameters → Both (RefT (List ℤ)) H → Both (RefT (List ℤ)) B → Both (RefT (List ℤ)) U → Both (RefT (List ℤ)) W → State
+abbrev pub before : {H B U W : Type 0} → Parameters → Both (RefT (List ℤ)) H → Both (RefT (List ℤ)) B → Both (RefT (List ℤ)) U
+    → Both (RefT (List ℤ)) W → State
 before p h b u v = lent p (h .entry) (b .entry) (u .entry) (v .entry)
 
-abbrev pub after : {B : Type 0} → Parameters → Both (RefT (List ℤ)) (RefT (List ℤ)) → Both (RefT (List ℤ)) B → Both (RefT (List ℤ)) (RefT (List ℤ)) → Both (RefT (List ℤ)) (RefT (List ℤ)) → State
+abbrev pub after : {B : Type 0} → Parameters → Both (RefT (List ℤ)) (RefT (List ℤ)) → Both (RefT (List ℤ)) B
+    → Both (RefT (List ℤ)) (RefT (List ℤ)) → Both (RefT (List ℤ)) (RefT (List ℤ)) → State
 after p h b u v = lent p (h .exit) (b .entry) (u .exit) (v .exit)
 
 abbrev pub parametersOf : State → Parameters

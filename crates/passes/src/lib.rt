@@ -86,7 +86,8 @@ fn fill_depth(p: Parameters, inflow: &[i64], work: &mut [i64])
     requires { ⌜ DepthReady p (now inflow) (now work) ⌝ }
     ensures { λ _. ⌜
         (let m = p .w * p .n in
-        (part (3 * m) m (now (work .exit)) ≡ byCell (p .w) (p .n) (depthFrom p (now (inflow .entry)) (now (work .entry))))
+        (part (3 * m) m (now (work .exit))
+        ≡ byCell (p .w) (p .n) (depthFrom p (now (inflow .entry)) (now (work .entry))))
         × Elsewhere (3 * m) (4 * m) (now (work .entry)) (now (work .exit)))
         ⌝ }
 {
@@ -212,7 +213,8 @@ pub fn pass(
         (let m = p .w * p .n in
         let d = now (work .entry) in
         let e = now (work .exit) in
-        (resultIn p (now (b .entry)) e ≡ Step.pass (baseIn p (now (b .entry)) d) (before p h b u v) (now (inflow .entry)))
+        (resultIn p (now (b .entry)) e
+        ≡ Step.pass (baseIn p (now (b .entry)) d) (before p h b u v) (now (inflow .entry)))
         × Elsewhere (3 * m) (7 * m) d e)
         ⌝ }
 {

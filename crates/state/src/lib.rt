@@ -51,7 +51,8 @@ fn then_field(earlier: TestAnswer, w: usize, n: usize, f: &[i64], field: Field) 
     requires { ⌜ length (now f) ≡ w * n ⌝ }
     ensures { λ r. ⌜
         r ≡ testAnswer
-        (foundIn earlier then valueTest (record { field = field; count = w * n; limits = limitsOf field; numbers = now (f .entry) } ∷ []))
+        (foundIn earlier then valueTest
+        (record { field = field; count = w * n; limits = limitsOf field; numbers = now (f .entry) } ∷ []))
         ⌝ }
 {
     then_cells(
@@ -94,7 +95,8 @@ fn then_beside(earlier: TestAnswer, w: usize, n: usize, beside: Beside, x: &[i64
 fn then_edges(earlier: TestAnswer, p: Parameters, u: &[i64], v: &[i64]) -> TestAnswer
     requires { ⌜ (length (now u) ≡ p .w * p .n) × (length (now v) ≡ p .w * p .n) ⌝ }
     ensures { λ r. ⌜
-        ((h b : List ℤ) → r ≡ testAnswer (foundIn earlier then edgeTest (stateOf p h b (now (u .entry)) (now (v .entry)))))
+        ((h b : List ℤ)
+        → r ≡ testAnswer (foundIn earlier then edgeTest (stateOf p h b (now (u .entry)) (now (v .entry)))))
         ⌝ }
 {
     let e = grid::boundary_of(p.kind);
@@ -188,7 +190,9 @@ fn lengths_right(
     requires { ⌜ m ≤ 4096 ⌝ }
     ensures { λ r. ⌜
         r ≡
-        (all (λ l. eqb (length l) m) (now (h .entry) ∷ now (b .entry) ∷ now (u .entry) ∷ now (v .entry) ∷ []) && (all long (besideTaken m beside (now (x .entry))) && workEnough m beside))
+        (all (λ l. eqb (length l) m)
+        (now (h .entry) ∷ now (b .entry) ∷ now (u .entry) ∷ now (v .entry) ∷ [])
+        && (all long (besideTaken m beside (now (x .entry))) && workEnough m beside))
         ⌝ }
 {
     fields_long(m, h, b, u, v) && beside_long(m, beside, x)
@@ -278,7 +282,8 @@ pub fn test_state(
 // refused with 1 whatever is found here. It rules out, for instance: a destination that is just long enough refused; w·w places asked.
 pub fn test_room(p: Parameters, room: usize) -> TestAnswer
     ensures { λ r. ⌜
-        ((h b u v : List ℤ) → T (gridKnown (stateOf p h b u v)) → r ≡ testAnswer (roomTest (p .w * p .n) (room ∷ [])))
+        ((h b u v : List ℤ) → T (gridKnown (stateOf p h b u v))
+        → r ≡ testAnswer (roomTest (p .w * p .n) (room ∷ [])))
         ⌝ }
 {
     if !grid_known(p) {

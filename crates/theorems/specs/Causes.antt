@@ -1,4 +1,5 @@
--- The totals, step and run refuse exactly where a cause holds. Assumes nothing.
+-- The totals, step and run refuse exactly where a cause holds. A call answers by cases on what its tests find; so an answer `Refused r`
+-- says that the tests found r, and `cause-iff` says where they do. Assumes nothing.
 use mathlib.Core.Path.{_≡_, refl, sym, ap, subst, _∙_}
 use mathlib.Core.Logic.{_↔_}
 use mathlib.Core.List.{List, [], _∷_}
@@ -24,6 +25,8 @@ use Rattle.theorems.specs.Tests.{_⟫_, differ, some≢}
 use Rattle.theorems.specs.Limits.{accepted, work-iff}
 use Rattle.theorems.specs.Rooms.{cause-iff}
 
+-- ---- from an answer back to what the tests found
+
 total-some : (o : Option Refusal) (x : ℤ) (r : Refusal) → TotalAnswer.Refused r ≡ totalAnswer o x → o ≡ some r
 total-some none x r e = differ (cc e)
 total-some (some y) x r e = let h : y ≡ r = cc e in ap some h
@@ -32,6 +35,8 @@ step-some : (o : Option Refusal) (x : Outcome) (r : Refusal) → StepAnswer.Refu
 step-some none (moved t) r e = differ (cc e)
 step-some none (stuck p t) r e = differ (cc e)
 step-some (some y) x r e = let h : y ≡ r = cc e in ap some h
+
+-- ---- a step: with nothing wrong it answers by what the two passes come to
 
 taken-iff : (s : State) (inflow work : List ℤ) → (stepTest s inflow (length work) ≡ none) ↔ StepTaken s inflow work
 unfolding stepTest
@@ -68,6 +73,8 @@ by-done none s s′ (moved t) e q = (refl, ap moved (sym q))
 by-done none s s′ (stuck p y) e q = differ (cc e)
 by-done (some r) s s′ x e q = differ (cc e)
 
+-- ---- a run: once its tests have passed, it is never refused with 1 to 5, however many steps it takes
+
 run-some : (o : Option Refusal) (s : State) (x : Ran) (r : Refusal) → ((z : Refusal) → x .answer ≡ RunAnswer.Refused z → ⊥) → RunAnswer.Refused r ≡ runBy o s x .answer → o ≡ some r
 run-some none s x r n e = absurd (n r (sym e))
 run-some (some y) s x r n e = let h : y ≡ r = cc e in ap some h
@@ -80,6 +87,8 @@ never : (m done : ℕ) (s : State) (inflow : List ℤ) (z : Refusal) → runFrom
 unfolding runFrom
 never zero done s inflow z e = differ (cc e)
 never (suc m) done s inflow z e = onward (λ t. runFrom m (suc done) t inflow) done s z (λ t. never m (suc done) t inflow z) (twoPass s inflow) e
+
+-- ---- each call, both ways
 
 pub causes : CallCausesClaim
 unfolding totalTest stepAnswer stepState runOf workLeft

@@ -114,6 +114,14 @@ mass-law w n U W = grid-law (div exprs (field 0) (field 1) 2 2) tt w n [] (U ∷
 
 -- ---- energy: closed edges have no flux and no tendency
 
+-- Why the sum of 2U·Tu + 2V·Tv - 1,572,864·B·D is zero, whatever the weights are. Take the weights of one cell.
+--   P and M: each of them multiplies a flux through its west or east edge and one through its south or north edge. Such a product stands
+--     once in U·Tu, with a plus, and once in V·Tv, with a minus: P(i,j)·U(i,j)·V(i,j+1), for instance, in Tu(i,j) and in Tv(i,j+1).
+--   E: it multiplies the fluxes through its west and its east edge, with a minus in Tu(i,j) and with a plus in Tu(i+1,j). F is the same
+--     from south to north.
+--   B: summed by parts, the differences of B along the fluxes are B times the divergence, which the last term takes away.
+-- So each weight cancels against itself in its own cell. The solver finds just this: all products meet, and nothing is left.
+
 from-zero : (x a b c d e f : ℤ) → negℤ x -ℤ a -ℤ b -ℤ c -ℤ d +ℤ e -ℤ f ≡ pos 0 -ℤ x -ℤ a -ℤ b -ℤ c -ℤ d +ℤ e -ℤ f
 from-zero x a b c d e f = ap (λ z. z -ℤ a -ℤ b -ℤ c -ℤ d +ℤ e -ℤ f) (sym (+ℤ-idl (negℤ x)))
 
@@ -161,6 +169,11 @@ module _ (w n : ℕ) (U W B P M E F : ℕ → ℕ → ℤ) (closedU closedW : �
       ∙ open-energy
 
 -- ---- enstrophy: no edge is closed, and the weights are 01's
+
+-- Around a corner the differences of B add to zero, so B drops out of η'. What is left of q·η' + 3q²·D4 is, for each flux, a sum of
+-- products of two of the q near it. That these sums vanish is what the paper's conditions (3.28) and (3.29) ask of the weights, and
+-- 01's table meets them. On a closed edge the tendency is 0, so that the sums at its corners lose terms: the claim is for grids without
+-- closed edges.
 
 module _ (w n : ℕ) (U W B q : ℕ → ℕ → ℤ) where
   abbrev weight : ℕ → ℕ → ℕ → ℤ

@@ -53,7 +53,8 @@ fn right_size(tag: usize, size: usize) -> bool
 fn is_sound(rec: &[u8], k: usize, at: &[usize; 8]) -> bool
     requires { ⌜ k < length (now rec) ⌝ }
     ensures { λ r. ⌜
-        ((parts : List Part) → Seen (now (rec .entry)) parts (now (at .entry)) → tagTest (now (rec .entry)) k parts ≡ must r (Record k))
+        ((parts : List Part) → Seen (now (rec .entry)) parts (now (at .entry))
+        → tagTest (now (rec .entry)) k parts ≡ must r (Record k))
         ⌝ }
 {
     let left = rec.len() - k;
@@ -80,7 +81,8 @@ fn is_sound(rec: &[u8], k: usize, at: &[usize; 8]) -> bool
 // Whether every tag was seen.
 fn is_complete(rec: &[u8], at: &[usize; 8]) -> bool
     ensures { λ r. ⌜
-        ((parts : List Part) → Seen (now (rec .entry)) parts (now (at .entry)) → missingTest (now (rec .entry)) parts ≡ must r (Record (length (now (rec .entry)))))
+        ((parts : List Part) → Seen (now (rec .entry)) parts (now (at .entry))
+        → missingTest (now (rec .entry)) parts ≡ must r (Record (length (now (rec .entry)))))
         ⌝ }
 {
     for tag in 1..8 {

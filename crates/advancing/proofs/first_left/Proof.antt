@@ -1,4 +1,5 @@
--- `advancing::first_left` meets its contract. Assumes nothing.
+-- `advancing::first_left` meets its contract. The three banks of the result are cut out one after the other, and each scan takes what
+-- the one before it found; `leaves-in-order` says that this is 01's order h, u, v. Assumes nothing.
 use mathlib.Core.Path.{ap, ap₂, _∙_}
 use Prim.Native.Nat.{_*_, _≤_}
 use native.Mathlib.Omega.{arith}

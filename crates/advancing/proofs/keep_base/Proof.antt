@@ -1,4 +1,5 @@
--- `advancing::keep_base` meets its contract. Assumes nothing.
+-- `advancing::keep_base` meets its contract. Three copies one after the other: each leaves the banks before it alone (`kept-before`),
+-- so that all three stand in the end. Assumes nothing.
 use mathlib.Core.Path.{_∙_}
 use Prim.Native.Nat.{_*_}
 use native.Mathlib.Omega.{arith}

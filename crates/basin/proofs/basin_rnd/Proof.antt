@@ -1,4 +1,5 @@
--- `basin::basin_rnd` meets its contract. Assumes nothing.
+-- `basin::basin_rnd` meets its contract. The test of the range is the model's, and what passes it is what `integers::rnd` asks for. The
+-- arguments come in as bits, and `toZ-ofZ` reads them back. Assumes nothing.
 use mathlib.Core.Path.{_≡_, sym, ap, _∙_}
 use mathlib.Core.Bool.{true, false, cond}
 use borrow.Author.Needs.{needs}

@@ -1,4 +1,5 @@
--- `comparing::same_bytes` meets its contract: the loop has found the bytes before `k` to be the same. Assumes nothing.
+-- `comparing::same_bytes` meets its contract: the loop has found the bytes before `k` to be the same. A length or a byte that differs
+-- tells lists apart; the same length and the same bytes make them one. Assumes nothing.
 use mathlib.Core.Path.{_≡_, ap}
 use Prim.Native.Nat.{ℕ, _-_, _≤_, _<_}
 use native.Mathlib.Omega.{arith}

@@ -1,4 +1,5 @@
--- `comparing::same_state` meets its contract: the loop has found the tags before `tag`, 3 left out, to have the same values. Assumes nothing.
+-- `comparing::same_state` meets its contract: the loop has found the tags before `tag`, 3 left out, to have the same values. Where a
+-- value differs the states do, since each number has one form in bytes; where none does they are the same. Assumes nothing.
 use mathlib.Core.Path.{sym, _∙_}
 use mathlib.Core.Logic.{⊎-elim}
 use Prim.Native.Nat.{_-_}

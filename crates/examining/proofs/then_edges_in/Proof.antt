@@ -1,4 +1,5 @@
--- `examining::then_edges_in` meets its contract. Assumes nothing.
+-- `examining::then_edges_in` meets its contract. The two scans, of u along west edges and of v along south edges, are those of the
+-- state that the bytes mean (`u-numbers`, `v-numbers`), and one after the other they are test 5 (`edges-read`). Assumes nothing.
 use mathlib.Core.Path.{ap, _∙_}
 use borrow.Author.Needs.{needs}
 use Rattle.model.specs.Refusals.{_then_}

@@ -1,4 +1,5 @@
--- `faults::is_bad` meets its contract. Assumes nothing.
+-- `faults::is_bad` meets its contract. A fault of a wall is two tests joined by `&&`: it holds where both do, and fails where the first
+-- fails. Each of the five returns is one of these cases. Assumes nothing.
 use mathlib.Core.Path.{ap}
 use mathlib.Core.Bool.{not}
 use borrow.Author.Needs.{needs}

@@ -1,4 +1,5 @@
--- `filling::hand_north` meets its contract. Assumes nothing.
+-- `filling::hand_north` meets its contract. The loop has put the shares of the last row into the first `i` places; the last row is the
+-- one before row 0, because the grid wraps. Assumes nothing.
 use mathlib.Core.Path.{refl, sym, _∙_}
 use Prim.Native.Nat.{_-_, _<_}
 use native.Mathlib.Omega.{arith}

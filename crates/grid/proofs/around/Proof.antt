@@ -1,4 +1,5 @@
--- `grid::around` meets its contract. Assumes nothing.
+-- `grid::around` meets its contract. Each neighbour is a cell index of neighbouring columns and rows, which `next` and `previous` give
+-- as the model's. Assumes nothing.
 use mathlib.Core.Path.{_∙_, ap, ap₂}
 use Prim.Native.Nat.{ℕ, _+_, _*_}
 use borrow.Author.Needs.{needs}

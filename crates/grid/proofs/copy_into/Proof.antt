@@ -1,4 +1,5 @@
--- `grid::copy_into` meets its contract. Assumes nothing.
+-- `grid::copy_into` meets its contract. The loop has written the first `k` numbers of the source; all else is as it was. Assumes
+-- nothing.
 use Prim.Native.Nat.{_-_}
 use lib.IntN.{pos}
 use lib.ListN.{length}

@@ -1,4 +1,5 @@
--- `grid::copy_out` meets its contract. Assumes nothing.
+-- `grid::copy_out` meets its contract. The loop has filled the first `k` places with the part's numbers; the destination is as long as
+-- the part, so nothing is left behind it. Assumes nothing.
 use mathlib.Core.Path.{_≡_, sym, ap, _∙_}
 use mathlib.Core.List.{_++_, append-nil}
 use Prim.Native.Nat.{_-_}

@@ -1,4 +1,5 @@
--- `printing::put_text` meets its contract. Assumes nothing.
+-- `printing::put_text` meets its contract. The loop has put the first `k` bytes of the text; one byte more is one more text that
+-- follows. Assumes nothing.
 use mathlib.Core.Path.{_≡_, refl, sym, ap, _∙_}
 use mathlib.Core.List.{[], _∷_}
 use Prim.Native.Nat.{_-_, _≤_, zero-le}

@@ -1,4 +1,5 @@
--- `program::print_state` meets its contract. Assumes nothing.
+-- `program::print_state` meets its contract. The total cannot be refused, because the state is within the limits: the second return is
+-- never reached. Assumes nothing.
 use mathlib.Core.Path.{ap, _∙_}
 use borrow.Author.Needs.{needs}
 use mir.Syntax.{w64}

@@ -1,4 +1,5 @@
--- `program::print_step` meets its contract. Assumes nothing.
+-- `program::print_step` meets its contract. There are three returns, and a law for each: an input that is too long, a record that is
+-- read and stepped, a record that is refused. What the reader promises is what the step asks for. Assumes nothing.
 use borrow.Author.Needs.{needs}
 use Rattle.program.specs.ReadLaws.{read-ready, program-long, program-refused, program-stepped}
 use Rattle.program.proofs.print_step.Statement.{statement}

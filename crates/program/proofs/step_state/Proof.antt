@@ -1,4 +1,5 @@
--- `program::step_state` meets its contract. Assumes nothing.
+-- `program::step_state` meets its contract. There is one return for each answer of the step, and a law of StepLaws for each: done,
+-- refused, out of bounds. After a step the state is within the limits again, so it can be printed. Assumes nothing.
 use borrow.Author.Needs.{needs}
 use Rattle.program.specs.StepLaws.{after-within, step-done, step-refused, step-outside}
 use Rattle.program.proofs.step_state.Statement.{statement}

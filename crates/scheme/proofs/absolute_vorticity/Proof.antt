@@ -1,4 +1,5 @@
--- `scheme::absolute_vorticity` meets its contract. Assumes nothing.
+-- `scheme::absolute_vorticity` meets its contract. The sum is built from left to right, and each partial sum fits by the sizes of its
+-- terms; the last one is Z itself. Assumes nothing.
 use mathlib.Core.List.{List, [], _∷_}
 use lib.IntN.{ℤ, pos}
 use lib.ListN.{getD}

@@ -1,4 +1,5 @@
--- `scheme::flow_at` meets its contract. Assumes nothing.
+-- `scheme::flow_at` meets its contract. The divisor is 2R, and flux and divisor are within what `rnd` takes by their sizes. Assumes
+-- nothing.
 use mathlib.Core.Path.{_≡_, sym, ap₂, subst, _∙_}
 use lib.IntN.{ℤ, pos, _*ℤ_}
 use lib.Signed.{_≤ℤ_}

@@ -1,4 +1,5 @@
--- `scheme::moved_velocity` meets its contract. Assumes nothing.
+-- `scheme::moved_velocity` meets its contract. The divisor and the change are shown to fit by their sizes (`fits`, `exact`), so that
+-- the machine's arithmetic is that of whole numbers. Assumes nothing.
 use mathlib.Core.Path.{_≡_, sym, ap, ap₂, subst, _∙_}
 use lib.IntN.{ℤ, pos, _+ℤ_, _*ℤ_}
 use lib.Signed.{_≤ℤ_}

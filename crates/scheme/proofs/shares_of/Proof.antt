@@ -1,4 +1,5 @@
--- `scheme::shares_of` meets its contract. Assumes nothing.
+-- `scheme::shares_of` meets its contract. The Bernoulli value is scaled once and fits; each share is then the callee's promise, of that
+-- number. Assumes nothing.
 use mathlib.Core.Path.{_≡_, sym, ap, subst, _∙_}
 use lib.IntN.{pos, _*ℤ_}
 use mir.Syntax.{w64}

@@ -1,4 +1,5 @@
--- `totals::total_depth` meets its contract. Assumes nothing.
+-- `totals::total_depth` meets its contract. Once the tests have passed, the state is within the limits, so that the sum of its depths
+-- is one that fits. Assumes nothing.
 use mathlib.Core.Path.{_≡_, sym, ap, subst, _∙_}
 use Prim.Native.Nat.{ℕ, _≤_}
 use borrow.Author.Needs.{needs}

@@ -1,4 +1,5 @@
--- `totals::total_energy` meets its contract. Assumes nothing.
+-- `totals::total_energy` meets its contract. Once the tests have passed, the state is within the limits, which is what the sum asks
+-- for. Assumes nothing.
 use mathlib.Core.Path.{_≡_, sym, ap, _∙_}
 use borrow.Author.Needs.{needs}
 use mir.Syntax.{w64}

@@ -1,4 +1,5 @@
--- `wire::number_at` meets its contract. Assumes nothing.
+-- `wire::number_at` meets its contract. Two bytes or four, by the case of the size; the number read is then taken as a signed one of
+-- that width. Assumes nothing.
 use mathlib.Core.Path.{sym, ap, subst, _∙_}
 use Prim.Native.Nat.{_+_, _≤_}
 use lib.Dec.{lit≤}

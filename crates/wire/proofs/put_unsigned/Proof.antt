@@ -1,4 +1,5 @@
--- `wire::put_unsigned` meets its contract: the loop has put all but the first `left` bytes. Assumes nothing.
+-- `wire::put_unsigned` meets its contract: the loop has put all but the first `left` bytes. So what stands before them has not been
+-- touched, and what is left of the number are its highest bytes. Assumes nothing.
 use mathlib.Core.Path.{sym, subst}
 use Prim.Native.Nat.{_-_, _/_, _%_}
 use native.Mathlib.Nat.{mod-lt}

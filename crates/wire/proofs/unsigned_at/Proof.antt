@@ -1,4 +1,5 @@
--- `wire::unsigned_at` meets its contract. Assumes nothing.
+-- `wire::unsigned_at` meets its contract. The loop has read the first `i` bytes as a number below 256^i, so that the next byte fits.
+-- Assumes nothing.
 use mathlib.Core.Path.{ap, subst, _∙_}
 use Prim.Native.Nat.{_-_, _≤_, zero-le}
 use native.Mathlib.Nat.{le-antisymm}
