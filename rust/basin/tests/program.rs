@@ -1,14 +1,14 @@
 //! The step program over the proved calls, run as a program: it prints what the
-//! independent version says ([`step_program`]), for worked example 10, every
-//! refusal, random records of every size, damaged ones, and inputs about as long
-//! as it takes and longer, however the input arrives.
+//! independent version says ([`step_program`]), for worked example 10, the stored
+//! cases, every refusal, random records of every size, damaged ones, and inputs
+//! about as long as it takes and longer, however the input arrives.
 //!
 //! The program is the repository's `target/bin/step`, which `rt check step`
 //! makes, or the one that the environment variable `STEP_PROGRAM` names.
 
 mod cases;
 
-use std::ffi::OsString;
+use std::ffi::{OsStr, OsString};
 use std::fs::File;
 use std::io::{ErrorKind, Write};
 use std::path::{Path, PathBuf};
@@ -103,7 +103,7 @@ fn refusal(text: &str) -> usize {
     number.map_or(0, |number| number.parse().expect("a number"))
 }
 
-// ---- worked example 10 and the refusals
+// ---- worked example 10, stored cases, and the refusals
 
 const EXAMPLE_10: &str = "total 2000\n0 0 2000 99 -51\n";
 
@@ -120,6 +120,37 @@ fn worked_example_10() {
     assert_eq!(fs::read(&path).expect("the file"), record);
     let file = File::open(&path).expect("the file");
     assert_eq!(output(start(file.into())), EXAMPLE_10);
+}
+
+#[test]
+fn stored_cases_print_what_is_stored() {
+    let folder = in_repository("rust/basin/tests/stored");
+    let text = |path: &Path| {
+        fs::read_to_string(path).unwrap_or_else(|error| panic!("{}: {error}", path.display()))
+    };
+    let table = text(&folder.join("README.md"));
+    let mut cases = 0;
+    for file in fs::read_dir(&folder).expect("the folder of the cases") {
+        let path = file.expect("a file").path();
+        let name = path.file_stem().unwrap_or_default().display();
+        match path.extension().and_then(OsStr::to_str) {
+            Some("stdin") => {
+                let input = fs::read(&path).expect("an input");
+                let output = text(&path.with_extension("stdout"));
+                expect(&input, &output, &format!("the stored case {name}"));
+                let row = format!("| `{name}` |");
+                assert!(table.contains(&row), "{name} has no row in README.md");
+                cases += 1;
+            }
+            Some("stdout") => {
+                let input = path.with_extension("stdin");
+                assert!(input.is_file(), "{name} has no input");
+            }
+            Some("md") => {}
+            _ => panic!("{} is no part of a case", path.display()),
+        }
+    }
+    assert!(cases > 0, "no case in {}", folder.display());
 }
 
 #[test]

@@ -1,4 +1,0 @@
-// Refusal 3: gravity above its bound.
-fn main() {
-    program::run();
-}
