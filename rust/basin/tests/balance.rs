@@ -3,12 +3,10 @@
 //! times the sum of its inflow. Steps done are worked out by the independent
 //! version, from the first state and the calls alone.
 
-mod cases;
-
-use cases::calls::compare;
-use cases::common::Random;
-use cases::lists::{take_stepped, Entry};
-use cases::{small_size, Call, Case, H, U, V};
+use crate::cases::calls::compare;
+use crate::cases::common::Random;
+use crate::cases::lists::{take_stepped, Entry};
+use crate::cases::{small_size, Call, Case, H, U, V};
 
 /// What the library answers on the state of a case.
 fn total(case: &Case, at: &str) -> i128 {

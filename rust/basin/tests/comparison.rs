@@ -8,12 +8,10 @@
 //! ([`cases::calls`]). One that fails prints all that went into the call, and
 //! where the call was made at random the seed and the number of the case too.
 
-mod cases;
-
-use cases::calls::{answered, call_raw, compare, expect, independent, Written, UNANSWERED};
-use cases::common::Random;
-use cases::{add, any_numbers, random_case, record_size, Call, Case};
-use cases::{BOUNDS, CALLS, FAULTS, FILLING, H, TOTALS, U, V};
+use crate::cases::calls::{answered, call_raw, compare, expect, independent, Written, UNANSWERED};
+use crate::cases::common::Random;
+use crate::cases::{add, any_numbers, random_case, record_size, Call, Case};
+use crate::cases::{BOUNDS, CALLS, FAULTS, FILLING, H, TOTALS, U, V};
 
 // ---- random calls
 

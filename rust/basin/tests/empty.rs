@@ -7,17 +7,15 @@
 //!
 //! What is told and left is compared as everywhere ([`cases`]).
 
-mod cases;
-
+use crate::cases::calls::{answered, array, call_raw, expect, independent, Written, UNANSWERED};
+use crate::cases::changes::Changed;
+use crate::cases::common::{record_of, Random};
+use crate::cases::memory::{Guarded, Plain};
+use crate::cases::records::{self, basin, expect_pair, expect_read};
+use crate::cases::records::{hex, of_record, Lent, TIMESTAMP};
+use crate::cases::rounding::{self, random_quotient};
+use crate::cases::{any_numbers, random_case, Call, Case, CALLS};
 use basin::raw;
-use cases::calls::{answered, array, call_raw, expect, independent, Written, UNANSWERED};
-use cases::changes::Changed;
-use cases::common::{record_of, Random};
-use cases::memory::{Guarded, Plain};
-use cases::records::{self, basin, expect_pair, expect_read};
-use cases::records::{hex, of_record, Lent, TIMESTAMP};
-use cases::rounding::{self, random_quotient};
-use cases::{any_numbers, random_case, Call, Case, CALLS};
 
 // ---- empty lists
 

@@ -8,16 +8,14 @@
 //! (The least and the greatest number in every field and constant, and sides
 //! whose product is the length of the fields, are in comparison.rs too.)
 
-mod cases;
-
+use crate::cases::calls::{answered, array, call_raw, compare, expect, independent, parameters};
+use crate::cases::calls::{Written, FENCE, FENCE_BYTE, UNANSWERED, UNTOUCHED};
+use crate::cases::common::{record_field, record_fields, record_of};
+use crate::cases::memory::{Mapping, Plain};
+use crate::cases::records::{self, basin, expect_pair, expect_state, independent_pair};
+use crate::cases::records::{of_record, written, Lent, TIMESTAMP};
+use crate::cases::{record_size, Call, Case, CALLS, H, S, U, V};
 use basin::{raw, Refusal};
-use cases::calls::{answered, array, call_raw, compare, expect, independent, parameters};
-use cases::calls::{Written, FENCE, FENCE_BYTE, UNANSWERED, UNTOUCHED};
-use cases::common::{record_field, record_fields, record_of};
-use cases::memory::{Mapping, Plain};
-use cases::records::{self, basin, expect_pair, expect_state, independent_pair};
-use cases::records::{of_record, written, Lent, TIMESTAMP};
-use cases::{record_size, Call, Case, CALLS, H, S, U, V};
 
 // ---- numbers
 

@@ -13,18 +13,16 @@
 //! these are lent, between memory that nobody may touch, and other numbers stand
 //! in them before the call.
 
-mod cases;
-
 use std::fs;
 use std::path::Path;
 
+use crate::cases::calls::{answered, array, independent, parameters};
+use crate::cases::changes::Changed;
+use crate::cases::common::{record_of, two_cells, Random};
+use crate::cases::memory::{Guarded, Plain};
+use crate::cases::records::{self, answer_for, independent_pair, Lent, TIMESTAMP};
+use crate::cases::{add, any_numbers, random_case, Call, Case, H, S, TOTALS};
 use basin::raw;
-use cases::calls::{answered, array, independent, parameters};
-use cases::changes::Changed;
-use cases::common::{record_of, two_cells, Random};
-use cases::memory::{Guarded, Plain};
-use cases::records::{self, answer_for, independent_pair, Lent, TIMESTAMP};
-use cases::{add, any_numbers, random_case, Call, Case, H, S, TOTALS};
 
 /// Room for the numbers that a call is lent to tell something in.
 struct Tight {

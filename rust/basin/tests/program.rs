@@ -6,8 +6,6 @@
 //! The program is the repository's `target/bin/step`, which `rt check step`
 //! makes, or the one that the environment variable `STEP_PROGRAM` names.
 
-mod cases;
-
 use std::ffi::{OsStr, OsString};
 use std::fs::File;
 use std::io::{ErrorKind, Write};
@@ -16,10 +14,10 @@ use std::process::{Child, Command, Stdio};
 use std::time::Duration;
 use std::{env, fs, thread};
 
-use cases::changes::Changed;
-use cases::common::{at_rest, random_state, record_of, record_of_length, Random, SPREADS};
-use cases::records::{hex, shuffled};
-use cases::{add, random_timestamp, Case};
+use crate::cases::changes::Changed;
+use crate::cases::common::{at_rest, random_state, record_of, record_of_length, Random, SPREADS};
+use crate::cases::records::{hex, shuffled};
+use crate::cases::{add, random_timestamp, Case};
 use reference::{step_program, State};
 
 // ---- the program

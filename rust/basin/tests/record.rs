@@ -9,16 +9,14 @@
 //! them ([`cases::records`], [`cases::calls`]). One that fails prints the record
 //! in hex, and where it was made at random the seed and the number of the case.
 
-mod cases;
-
-use cases::calls::UNANSWERED;
-use cases::changes::Changed;
-use cases::common::{any_state, random_state, within_limits, Random, SPREADS};
-use cases::common::{every_order, record_fields, record_of, two_cells};
-use cases::records::{answer_for, basin, TIMESTAMP};
-use cases::records::{compare_pair, compare_read, expect_pair, expect_read, expect_state};
-use cases::records::{field, hex, of_record, shuffled, written, Lent};
-use cases::{add, any_numbers, random_timestamp, Case, BOUNDS, U, V};
+use crate::cases::calls::UNANSWERED;
+use crate::cases::changes::Changed;
+use crate::cases::common::{any_state, random_state, within_limits, Random, SPREADS};
+use crate::cases::common::{every_order, record_fields, record_of, two_cells};
+use crate::cases::records::{answer_for, basin, TIMESTAMP};
+use crate::cases::records::{compare_pair, compare_read, expect_pair, expect_read, expect_state};
+use crate::cases::records::{field, hex, of_record, shuffled, written, Lent};
+use crate::cases::{add, any_numbers, random_timestamp, Case, BOUNDS, U, V};
 use reference::{Parameters, State};
 
 // ---- good records

@@ -7,14 +7,14 @@
 //!
 //! As in record.rs, all that is told and all that is lent is compared.
 
-mod cases;
-
-use cases::calls::UNANSWERED;
-use cases::common::{record_field, record_fields, record_of, two_cells, Random};
-use cases::records::{basin, TIMESTAMP};
-use cases::records::{compare_pair, compare_read, expect_read, expect_refused, expect_state};
-use cases::records::{field, hex, of_record, shuffle, shuffled, told_for, Lent};
-use cases::{BOUNDS, U, V};
+use crate::cases::calls::UNANSWERED;
+use crate::cases::common::{record_field, record_fields, record_of, two_cells, Random};
+use crate::cases::records::{basin, TIMESTAMP};
+use crate::cases::records::{
+    compare_pair, compare_read, expect_read, expect_refused, expect_state,
+};
+use crate::cases::records::{field, hex, of_record, shuffle, shuffled, told_for, Lent};
+use crate::cases::{BOUNDS, U, V};
 use reference::{Parameters, State};
 
 // ---- damage

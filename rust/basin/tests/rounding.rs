@@ -1,11 +1,9 @@
 //! Rounding by the proved library and by the independent version.
 
-mod cases;
-
-use cases::add;
-use cases::calls::UNFILLED;
-use cases::common::Random;
-use cases::rounding::{compare_rnd, random_quotient, Rounded, MOST_A, MOST_B};
+use crate::cases::add;
+use crate::cases::calls::UNFILLED;
+use crate::cases::common::Random;
+use crate::cases::rounding::{compare_rnd, random_quotient, Rounded, MOST_A, MOST_B};
 
 #[test]
 fn random_quotients_are_rounded_alike() {

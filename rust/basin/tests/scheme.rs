@@ -7,11 +7,9 @@
 //! Every comparison is with the independent version, and every accepted one of
 //! tendencies asks for the rates that are 0 ([`cases::calls`]).
 
-mod cases;
-
-use cases::calls::{compare, rates, Written};
-use cases::common::{literal, Random};
-use cases::{add, random_size, Call, Case, BOUNDS, H, Q, TOTALS, U, V};
+use crate::cases::calls::{compare, rates, Written};
+use crate::cases::common::{literal, Random};
+use crate::cases::{add, random_size, Call, Case, BOUNDS, H, Q, TOTALS, U, V};
 
 /// What both write, where both accept.
 fn accepted(case: &Case, call: Call, at: &str) -> Written {

@@ -9,7 +9,7 @@
 //! times as many:
 //!
 //! ```sh
-//! SOAK=1 cargo test --offline --manifest-path rust/Cargo.toml -p basin --test soak
+//! SOAK=1 cargo test --offline --manifest-path rust/Cargo.toml -p basin --test all soak
 //! ```
 //!
 //! The calls come in rounds, and each round has a seed. A call that fails
@@ -17,19 +17,17 @@
 //! begins with the same round. Should the library ever bring the whole process
 //! down, the last line of progress has a seed to begin with.
 
-mod cases;
-
 use std::env;
 use std::io::{self, Write};
 use std::time::{Instant, SystemTime, UNIX_EPOCH};
 
-use cases::calls;
-use cases::changes::{change_bytes, Changed};
-use cases::common::Random;
-use cases::lists::{take_stepped, Entry};
-use cases::records::{answer_for, compare_pair, compare_read, expect_state, Lent};
-use cases::rounding::{compare_rnd, random_quotient, Rounded};
-use cases::{any_numbers, put_faults, random_timestamp, Call, Case, CALLS, Q};
+use crate::cases::calls;
+use crate::cases::changes::{change_bytes, Changed};
+use crate::cases::common::Random;
+use crate::cases::lists::{take_stepped, Entry};
+use crate::cases::records::{answer_for, compare_pair, compare_read, expect_state, Lent};
+use crate::cases::rounding::{compare_rnd, random_quotient, Rounded};
+use crate::cases::{any_numbers, put_faults, random_timestamp, Call, Case, CALLS, Q};
 use reference::State;
 
 /// Places in [`Soak::told`] after those of the calls on a state.

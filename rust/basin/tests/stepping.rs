@@ -8,11 +8,9 @@
 //! the work space with what lies past the part that is used, and the fences
 //! beside them ([`cases::calls`]).
 
-mod cases;
-
-use cases::calls::compare;
-use cases::common::Random;
-use cases::{add, small_size, Call, Case, H, S, STEPPING, U, V};
+use crate::cases::calls::compare;
+use crate::cases::common::Random;
+use crate::cases::{add, small_size, Call, Case, H, S, STEPPING, U, V};
 
 /// h, u and v after a call that tells this.
 fn stepped(case: &Case, call: Call, told: &[u64], at: &str) -> [Vec<i64>; 3] {

@@ -2,9 +2,7 @@
 //! of `crates/agreement/specs/Agreement.antt`, which the checker computes from
 //! the model's definitions, are worked out here anew and compared as text.
 
-mod common;
-
-use common::{record_field, record_fields, record_of};
+use crate::common::{record_field, record_fields, record_of};
 use reference::{
     energy_rate, enstrophy_rate, potential_vorticity, run, step, step_program, tendencies,
     total_energy, FillAnswer, Parameters, RunAnswer, State, StepAnswer, TotalAnswer,

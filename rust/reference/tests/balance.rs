@@ -3,10 +3,8 @@
 //! inflow. Steps done are worked out here, from the first state and the calls
 //! alone, by single steps of the literal formulas.
 
-mod common;
-
-use common::literal::PAPER;
-use common::{
+use crate::common::literal::PAPER;
+use crate::common::{
     numbers, random_state, run_state, step_state, within_limits, Random, Spread, SPREADS,
 };
 use reference::{total_depth, State};

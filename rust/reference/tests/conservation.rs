@@ -2,10 +2,8 @@
 //! fills in: energy exactly 0 for every boundary, enstrophy exactly 0 where
 //! no edge is closed, for any lent q.
 
-mod common;
-
-use common::literal::{self, Three, Variant, NO_E_F, PAPER};
-use common::{random_q, random_size, random_state, Random, Spread, SPREADS};
+use crate::common::literal::{self, Three, Variant, NO_E_F, PAPER};
+use crate::common::{random_q, random_size, random_state, Random, Spread, SPREADS};
 use reference::{energy_rate, enstrophy_rate, potential_vorticity, tendencies, FillAnswer, State};
 
 /// A random state, a q for it (its own or any), and the tendencies that the

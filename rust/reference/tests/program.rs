@@ -1,12 +1,10 @@
 //! The step program, as a function and as a program.
 
-mod common;
-
 use std::io::Write;
 use std::process::{Command, Stdio};
 
-use common::literal::PAPER;
-use common::{at_rest, random_state, record_of, record_of_length, Random, Spread};
+use crate::common::literal::PAPER;
+use crate::common::{at_rest, random_state, record_of, record_of_length, Random, Spread};
 use reference::{step_program, Parameters, State};
 
 /// Runs the program itself.

@@ -1,10 +1,8 @@
 //! The record: both round trips, tags in any order, every kind of damage, and
 //! the comparison of two records.
 
-mod common;
-
-use common::{any_state, every_order, random_state, record_field, record_fields, record_of};
-use common::{two_cells, written, Random, Spread};
+use crate::common::{any_state, every_order, random_state, record_field, record_fields, record_of};
+use crate::common::{two_cells, written, Random, Spread, SPREADS};
 use reference::{compare, read, CompareAnswer, State};
 
 /// A destination place that reading must not touch.
@@ -417,7 +415,7 @@ fn comparison_orders_by_timestamp_and_tells_states_apart() {
     for _ in 0..4_000 {
         let size = (2 + random.below(4), 2 + random.below(4));
         let kind = random.below(3) as u8;
-        let spread = random.pick(&common::SPREADS);
+        let spread = random.pick(&SPREADS);
         let first = random_state(&mut random, spread, size, kind);
         let second = if random.once_in(2) {
             first.clone()

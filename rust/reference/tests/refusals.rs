@@ -3,11 +3,9 @@
 //! leaves as it was. Refusals of the reader and of the comparison are in
 //! record.rs.
 
-mod common;
-
-use common::literal::PAPER;
-use common::{any_state, numbers, random_state, run_state, step_state, within_limits};
-use common::{Random, Spread};
+use crate::common::literal::PAPER;
+use crate::common::{any_state, numbers, random_state, run_state, step_state, within_limits};
+use crate::common::{Random, Spread, SPREADS};
 use reference::{
     potential_vorticity, run, step, tendencies, test_call, total_depth, total_energy, write,
     Beside, Parameters, State,
@@ -666,7 +664,7 @@ fn a_step_that_leaves_a_bound_is_refused_with_6_and_changes_nothing() {
     // By pass and field.
     let mut met = [[0; 4]; 3];
     for _ in 0..30_000 {
-        let spread = random.pick(&common::SPREADS);
+        let spread = random.pick(&SPREADS);
         let size = (1 + random.below(4), 1 + random.below(4));
         let kind = random.below(3) as u8;
         let mut state = random_state(&mut random, spread, size, kind);

@@ -1,10 +1,9 @@
 //! Vorticity, tendencies, step and totals against 01's formulas taken
 //! literally, and the ways in which copies of the scheme go astray.
 
-mod common;
-
-use common::literal::{self, Three, Variant, NO_E_F, PAPER};
-use common::{any_state, numbers, random_q, random_state, Random, Spread, SPREADS};
+use crate::common::literal::{self, Three, Variant, NO_E_F, PAPER};
+use crate::common::{any_state, numbers, random_q, random_state, step_state};
+use crate::common::{Random, Spread, SPREADS};
 use reference::scheme::{round_div, WEIGHTS};
 use reference::{potential_vorticity, tendencies, total_depth, total_energy, FillAnswer, State};
 
@@ -155,7 +154,7 @@ fn the_greatest_totals_fit() {
 fn step_of(state: &State, inflow: &[i64]) -> Result<State, (i128, i128, i128)> {
     let mut after = state.clone();
     let mut work = vec![-1; 8 * inflow.len()];
-    let told = common::step_state(&mut after, inflow, &mut work).told();
+    let told = step_state(&mut after, inflow, &mut work).told();
     assert!(work.iter().all(|&x| x == 0), "{state:?} {inflow:?}");
     match told[..] {
         [0] => Ok(after),

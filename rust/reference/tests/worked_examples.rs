@@ -1,8 +1,6 @@
 //! The worked examples of 01 (01: soundings), one test each.
 
-mod common;
-
-use common::{step_state, within_limits};
+use crate::common::{run_state, step_state, within_limits};
 use reference::scheme::round_div;
 use reference::{
     potential_vorticity, read, step_program, tendencies, total_depth, total_energy, write, Field,
@@ -201,7 +199,7 @@ fn example_8_greatest_vorticity() {
 fn example_9_work_space_and_run_length() {
     let steps = |steps: u64, work: &mut [i64]| {
         let mut state = example_2();
-        let answer = common::run_state(&mut state, &[0], steps, work);
+        let answer = run_state(&mut state, &[0], steps, work);
         assert_eq!(state, example_2());
         answer
     };

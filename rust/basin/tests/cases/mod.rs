@@ -1,9 +1,6 @@
 //! Calls made at random: a state within the limits, what is taken beside it
 //! and what is lent to be filled, with faults put into some.
 
-// Each file of tests uses a part.
-#![allow(dead_code)]
-
 pub mod calls;
 pub mod changes;
 pub mod lists;

@@ -1,13 +1,16 @@
 //! What the tests share: a random generator, random states, the limits and
 //! the record written out once more, and 01's formulas in their literal form.
 
-// Each file of tests uses a part.
-#![allow(dead_code, unused_imports)]
+// Each package that shares this uses a part.
+#![allow(dead_code)]
 
 pub mod literal;
 mod random;
 
 pub use random::Random;
+
+use std::fs;
+use std::path::Path;
 
 use reference::{Parameters, RunAnswer, State, StepAnswer};
 
@@ -296,5 +299,18 @@ pub fn every_order(fields: &mut [Vec<u8>], from: usize, visit: &mut impl FnMut(&
         fields.swap(from, k);
         every_order(fields, from + 1, visit);
         fields.swap(from, k);
+    }
+}
+
+/// Every file of tests in this package is a module of `all.rs`, whose text this
+/// is: one that is not would never run.
+pub fn assert_all_named(package: &str, all: &str) {
+    for file in fs::read_dir(Path::new(package).join("tests")).expect("the tests") {
+        let path = file.expect("a file").path();
+        let name = path.file_stem().unwrap_or_default().display();
+        if path.extension().is_some_and(|end| end == "rs") && !path.ends_with("all.rs") {
+            let module = format!("\nmod {name};\n");
+            assert!(all.contains(&module), "{} is no module", path.display());
+        }
     }
 }

@@ -1,0 +1,23 @@
+//! The tests of this package as one program, so that what they share is built
+//! once. Should a call end the process, `-- --test-threads=1` shows in which
+//! test.
+
+mod cases;
+
+mod balance;
+mod comparison;
+mod empty;
+mod limits;
+mod nothing_lost;
+mod program;
+mod record;
+mod record_refusals;
+mod rounding;
+mod scheme;
+mod soak;
+mod stepping;
+
+#[test]
+fn every_file_of_tests_is_named_here() {
+    cases::common::assert_all_named(env!("CARGO_MANIFEST_DIR"), include_str!("all.rs"));
+}
