@@ -424,6 +424,12 @@ fn answered(call: impl FnOnce(&mut [u64; 8]) -> u64) -> Result<(), Refusal> {
     accepted(told(call))
 }
 
+/// The version of the library that is linked: 10,000 times major, 100 times
+/// minor, and patch. It is that of this package.
+pub fn version() -> u64 {
+    raw::version()
+}
+
 /// 01's rnd(a/b): the nearest whole number, halves away from zero. `None`
 /// unless |a| is at most 2^58 and b is 1 to 2^43, which is more than the scheme
 /// needs.

@@ -11,6 +11,8 @@
 use crate::Parameters;
 
 extern "C" {
+    fn basin_version() -> u64;
+
     fn basin_rnd(a: i64, b: i64, rounded: *mut i64) -> u64;
 
     fn basin_potential_vorticity(
@@ -291,6 +293,11 @@ macro_rules! on_stepped_state {
             $(, $further)*
         )
     };
+}
+
+pub fn version() -> u64 {
+    // SAFETY: it takes nothing and touches no memory.
+    unsafe { basin_version() }
 }
 
 /// 0, and `rounded` is rnd(a/b); or 4, and `rounded` is untouched.

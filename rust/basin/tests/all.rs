@@ -16,6 +16,7 @@ mod rounding;
 mod scheme;
 mod soak;
 mod stepping;
+mod version;
 
 #[test]
 fn every_file_of_tests_is_named_here() {

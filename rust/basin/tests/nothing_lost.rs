@@ -227,9 +227,9 @@ fn the_header_takes_no_length_for_what_is_told() {
     for name in ["answer", "total", "constants", "rounded"] {
         assert!(!header.contains(&format!("{name}_len")), "{name}");
     }
-    // Every function ends with its answer, but for rnd.
+    // Every function ends with its answer, but for rnd and the version.
     let functions = header.matches("\nuint64_t basin_").count();
-    assert_eq!(functions, 14);
+    assert_eq!(functions, 15);
     assert_eq!(header.matches("uint64_t answer[8]);").count(), 13);
     assert_eq!(header.matches("int64_t *rounded);").count(), 1);
     assert_eq!(header.matches("int64_t *total,").count(), 2);

@@ -67,7 +67,7 @@ impl Nine {
         let mut q = [0; 9];
         let answer = potential_vorticity(&self.p, &self.h, &self.b, &self.u, &self.v, &mut q);
         assert_eq!(answer, FillAnswer::Done);
-        format!("vorticities {} (zeros 9) accepted {}", self.name, list(&q))
+        format!("vorticities {} (zeros 9) done {}", self.name, list(&q))
     }
 
     fn tends(&self) -> String {
@@ -83,7 +83,7 @@ impl Nine {
         let answer = tendencies(p, h, b, u, v, &LENT, &mut dh, &mut du, &mut dv);
         assert_eq!(answer, FillAnswer::Done);
         format!(
-            "tends {name} lent (zeros 9) (zeros 9) (zeros 9) accepted {} {} {}",
+            "tends {name} lent (zeros 9) (zeros 9) (zeros 9) done {} {} {}",
             list(&dh),
             list(&du),
             list(&dv)
@@ -135,7 +135,7 @@ impl Nine {
         );
         assert_eq!(answer, StepAnswer::Done);
         format!(
-            "steps {name} inflow (sevens 73) accepted {} {} {} (zeros 72 ++ sevens 1)",
+            "steps {name} inflow (sevens 73) done {} {} {} (zeros 72 ++ sevens 1)",
             list(&h),
             list(&u),
             list(&v)
@@ -183,7 +183,7 @@ fn steep() -> [String; 2] {
         assert_eq!(told[..2], [6, 2]);
         let told: Vec<i64> = told.iter().map(|&x| x as i64).collect();
         let (answer, depth) = (list(&told), list(&h));
-        format!("{call} (steep (pos 2000)) none2 {length}(sevens 16) {answer} {depth} none2 none2 (zeros 16)")
+        format!("{call} (steep (pos 2000)) (zeros 2) {length}(sevens 16) {answer} {depth} (zeros 2) (zeros 2) (zeros 16)")
     })
 }
 
