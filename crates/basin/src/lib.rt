@@ -6,7 +6,8 @@ ghost use mathlib.Core.List.{[]};
 ghost use Rattle.model.specs.State.{before, after};
 ghost use Rattle.model.specs.Promises.{TotalDepthPromise, TotalEnergyPromise};
 ghost use Rattle.model.specs.declared.Beside.the-variants.{Nothing, Vorticity, Inflow, Run};
-ghost use Rattle.basin.specs.FromC.{TestFromC, VorticityFromC, TendenciesFromC, StepFromC, RunFromC, TotalFromC, WriteFromC, ReadFromC, CompareFromC, parameters, roundable, Rounded, version};
+ghost use Rattle.basin.specs.FromC.{TestFromC, VorticityFromC, TendenciesFromC, StepFromC, RunFromC, TotalFromC, WriteFromC};
+ghost use Rattle.basin.specs.FromC.{ReadFromC, CompareFromC, parameters, roundable, Rounded, version};
 use integers::Range;
 use model::Beside;
 use model::Parameters;
@@ -367,9 +368,9 @@ pub extern "C" fn basin_total_energy(
 // ---- the record
 
 // Each is the proved call, its answer told as above: the writer's with the number of bytes; the reader's with w, n, kind and the
-// timestamp, while G, c and R, which have a sign, go into three lent numbers; the
-// comparison's with 0 same, 1 first newer, 2 second newer, 3 conflict, or which record is refused. They rule out, for instance: the
-// fields of a record swapped; the records swapped; G told in the place of c.
+// timestamp, while G, c and R, which have a sign, go into three lent numbers, which a refusal leaves; the comparison's with 0 same,
+// 1 first newer, 2 second newer, 3 conflict, or which record is refused. They rule out, for instance: the fields of a record swapped;
+// the records swapped; G told in the place of c.
 
 #[no_mangle]
 pub extern "C" fn basin_write(
@@ -466,7 +467,7 @@ pub extern "C" fn basin_rnd(a: i64, b: i64, rounded: &mut i64) -> u64
 // ---- version
 
 // The version of this interface: 10,000 times major, 100 times minor, and patch. include/basin.h has the same number, so that a caller
-// can see that header and library fit. It rules out, for instance: the number of the version before; no number.
+// can see that header and library fit. It rules out, for instance: the number of the version before; 0.
 #[no_mangle]
 pub extern "C" fn basin_version() -> u64
     ensures { λ k. ⌜ k ≡ version ⌝ }

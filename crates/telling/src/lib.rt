@@ -2,7 +2,8 @@
 // a sign goes into places of its own.
 ghost use mathlib.Core.Path.{_≡_};
 ghost use lib.ListN.{getD};
-ghost use Rattle.model.specs.Answers.{number, fieldNumber, refusalNumbers, testNumbers, fillNumbers, stepNumbers, runNumbers, writeNumbers, totalNumbers, totalIn, readNumbers, constantsIn, refusalNumbersOf, compareNumbers};
+ghost use Rattle.model.specs.Answers.{number, fieldNumber, refusalNumbers, testNumbers, fillNumbers, stepNumbers, runNumbers, writeNumbers};
+ghost use Rattle.model.specs.Answers.{totalNumbers, totalIn, readNumbers, constantsIn, refusalNumbersOf, compareNumbers};
 ghost use Rattle.telling.specs.Told.{eight, orKept};
 use model::CompareAnswer;
 use model::Field;
@@ -172,7 +173,7 @@ pub fn compare_numbers(comparison: CompareAnswer) -> [u64; 8]
 
 // ---- what has a sign
 
-// A total, or what stood in its place where there is none.
+// A total, or what stood in its place where there is none. It rules out, for instance: a refusal that clears it; another number.
 pub fn total_or(x: TotalAnswer, kept: i64) -> i64
     ensures { λ r. ⌜ r ≡ getD (totalIn x) 0 kept ⌝ }
 {
@@ -182,7 +183,8 @@ pub fn total_or(x: TotalAnswer, kept: i64) -> i64
     }
 }
 
-// G, c and R of a record that is read, or what stood in their places where there are none.
+// G, c and R of a record that is read, or what stood in their places where there are none. It rules out, for instance: c before G; a
+// refusal that clears them.
 pub fn constants_or(x: ReadAnswer, kept: [i64; 3]) -> [i64; 3]
     ensures { λ r. ⌜ r ≡ orKept (constantsIn x) kept ⌝ }
 {
@@ -197,7 +199,7 @@ pub fn constants_or(x: ReadAnswer, kept: [i64; 3]) -> [i64; 3]
 
 // ---- telling
 
-// Stores the eight numbers, and returns the first.
+// Stores the eight numbers, and returns the first. It rules out, for instance: the second one returned; a number not stored.
 pub fn tell(answer: &mut [u64; 8], numbers: [u64; 8]) -> u64
     ensures { λ r. ⌜ (r ≡ getD numbers 0 0) × (now (answer .exit) ≡ numbers) ⌝ }
 {
