@@ -3,11 +3,15 @@
 use mathlib.Core.Path.{_≡_, refl, sym, ap, subst, _∙_}
 use native.Mathlib.Omega.{arith}
 use Prim.Native.Nat.{_≤_}
+use contract.Lifetimes.{Lfts}
+use denote.Ref.{now}
+use denote.Triple.Clauses.{AtExit}
+use borrow.Fn.Kinds.{Dens, resT, endedOf}
 use lib.Dec.{lit≤}
 use lib.IntN.{pos}
 use lib.ListN.{length, getD}
 use Rattle.model.specs.Numbers.{vorticityLimits}
-use Rattle.model.specs.State.{cells, FieldWithin, WithinLimits}
+use Rattle.model.specs.State.{stateOf, cells, FieldWithin, WithinLimits}
 use Rattle.model.specs.Answers.{number, fillNumbers}
 use Rattle.model.specs.Rates.{energyRate, enstrophyRate}
 use Rattle.model.specs.Promises.{TendenciesPromise}
@@ -16,7 +20,10 @@ use Rattle.model.specs.declared.Refusal.the-variants.{Grid, Lengths, Constants,
 use Rattle.model.specs.declared.FillAnswer.{FillAnswer}
 use Rattle.model.specs.declared.FillAnswer.the-variants.{Done, Refused}
 use Rattle.theorems.specs.Theorems.{theorems}
-use Rattle.basin.proofs.Calls.{TendenciesCall}
+use Rattle.basin.specs.FromC.{parameters}
+use Rattle.basin.proofs.basin_tendencies.Kinds as tendencies-kinds
+use Rattle.basin.proofs.basin_tendencies.Reads as tendencies-reads
+use Rattle.basin.proofs.Calls.{TendenciesCall, tendencies-call}
 
 -- 0 is told of nothing else
 pub from-one : (x : Refusal) → 1 ≤ number x
@@ -68,3 +75,18 @@ module _ (call : TendenciesCall) where
   -- at every such state within the limits
   pub enstrophy-rate-zero-within : call .state .kind ≡ 0 → Taken call → enstrophyRate (call .state) (call .dh′) (call .du′) (call .dv′) (call .q) ≡ pos 0
   enstrophy-rate-zero-within k t = enstrophy-rate-zero k (returns-0 t)
+
+-- ---- the same of the code itself: from what a caller learns of a call, of its own parameters
+
+module _ (κs : Lfts 9) (a : Dens κs tendencies-kinds.ps) (returned : resT tendencies-kinds.r κs .Denot) (e : AtExit (endedOf 9 tendencies-kinds.ps tendencies-kinds.r) κs) where
+  pub code-energy-rate-zero : tendencies-reads.Learnt κs a returned e → returned ≡ 0
+      → let (w, (n, (kind, (g, (c, (r, (h, (b, (u, (v, _)))))))))) = a in
+      let (_, (_, (_, (_, (_, (_, (_, (_, (_, (_, (_, (dh′, (du′, (dv′, _)))))))))))))) = e in
+      energyRate (stateOf (parameters w n kind g c r) (now h) (now b) (now u) (now v)) (now dh′) (now du′) (now dv′) ≡ pos 0
+  code-energy-rate-zero told z = energy-rate-zero (tendencies-call κs a returned e told) z
+
+  pub code-enstrophy-rate-zero : tendencies-reads.Learnt κs a returned e → returned ≡ 0
+      → let (w, (n, (kind, (g, (c, (r, (h, (b, (u, (v, (q, _))))))))))) = a in
+      let (_, (_, (_, (_, (_, (_, (_, (_, (_, (_, (_, (dh′, (du′, (dv′, _)))))))))))))) = e in
+      kind ≡ 0 → enstrophyRate (stateOf (parameters w n kind g c r) (now h) (now b) (now u) (now v)) (now dh′) (now du′) (now dv′) (now q) ≡ pos 0
+  code-enstrophy-rate-zero told z k = enstrophy-rate-zero (tendencies-call κs a returned e told) k z

@@ -43,7 +43,7 @@ pub record TendenciesCall : Type 0 where
   pub told : TendenciesFromC state q dh du dv dh′ du′ dv′ returned answer
 
 module _ (κs : Lfts 9) (a : Dens κs tendencies-kinds.ps) (returned : resT tendencies-kinds.r κs .Denot) (e : AtExit (endedOf 9 tendencies-kinds.ps tendencies-kinds.r) κs) where
-  pub tendencies-call : tendencies-reads.Learnt κs a returned e → TendenciesCall
+  abbrev pub tendencies-call : tendencies-reads.Learnt κs a returned e → TendenciesCall
   tendencies-call told =
       let (w, (n, (kind, (g, (c, (r, (h, (b, (u, (v, (q, (dh, (du, (dv, (_, _))))))))))))))) = a in
       let (_, (_, (_, (_, (_, (_, (_, (_, (_, (_, (_, (dh′, (du′, (dv′, (answer′, _))))))))))))))) = e in
@@ -62,7 +62,7 @@ pub record StepCall : Type 0 where
   pub told : StepFromC before inflow work after work′ returned answer
 
 module _ (κs : Lfts 7) (a : Dens κs step-kinds.ps) (returned : resT step-kinds.r κs .Denot) (e : AtExit (endedOf 7 step-kinds.ps step-kinds.r) κs) where
-  pub step-call : step-reads.Learnt κs a returned e → StepCall
+  abbrev pub step-call : step-reads.Learnt κs a returned e → StepCall
   step-call told =
       let (w, (n, (kind, (g, (c, (r, (h, (b, (u, (v, (inflow, (work, (_, _))))))))))))) = a in
       let (_, (_, (_, (_, (_, (_, (h′, (_, (u′, (v′, (_, (work′, (answer′, _))))))))))))) = e in
@@ -82,7 +82,7 @@ pub record RunCall : Type 0 where
   pub told : RunFromC before inflow steps work after work′ returned answer
 
 module _ (κs : Lfts 7) (a : Dens κs run-kinds.ps) (returned : resT run-kinds.r κs .Denot) (e : AtExit (endedOf 7 run-kinds.ps run-kinds.r) κs) where
-  pub run-call : run-reads.Learnt κs a returned e → RunCall
+  abbrev pub run-call : run-reads.Learnt κs a returned e → RunCall
   run-call told =
       let (w, (n, (kind, (g, (c, (r, (h, (b, (u, (v, (inflow, (steps, (work, (_, _)))))))))))))) = a in
       let (_, (_, (_, (_, (_, (_, (h′, (_, (u′, (v′, (_, (_, (work′, (answer′, _)))))))))))))) = e in
@@ -99,7 +99,7 @@ pub record DepthCall : Type 0 where
   pub told : TotalFromC (TotalDepthPromise state) total total′ returned answer
 
 module _ (κs : Lfts 6) (a : Dens κs depth-kinds.ps) (returned : resT depth-kinds.r κs .Denot) (e : AtExit (endedOf 6 depth-kinds.ps depth-kinds.r) κs) where
-  pub depth-call : depth-reads.Learnt κs a returned e → DepthCall
+  abbrev pub depth-call : depth-reads.Learnt κs a returned e → DepthCall
   depth-call told =
       let (w, (n, (kind, (g, (c, (r, (h, (b, (u, (v, (total, (_, _)))))))))))) = a in
       let (_, (_, (_, (_, (_, (_, (_, (_, (_, (_, (total′, (answer′, _)))))))))))) = e in
@@ -117,7 +117,7 @@ pub record WriteCall : Type 0 where
   pub told : WriteFromC state timestamp bytes bytes′ returned answer
 
 module _ (κs : Lfts 6) (a : Dens κs write-kinds.ps) (returned : resT write-kinds.r κs .Denot) (e : AtExit (endedOf 6 write-kinds.ps write-kinds.r) κs) where
-  pub write-call : write-reads.Learnt κs a returned e → WriteCall
+  abbrev pub write-call : write-reads.Learnt κs a returned e → WriteCall
   write-call told =
       let (w, (n, (kind, (g, (c, (r, (h, (b, (u, (v, (timestamp, (bytes, (_, _))))))))))))) = a in
       let (_, (_, (_, (_, (_, (_, (_, (_, (_, (_, (_, (bytes′, (answer′, _))))))))))))) = e in
@@ -142,7 +142,7 @@ pub record ReadCall : Type 0 where
   pub told : ReadFromC bytes h b u v h′ b′ u′ v′ constants constants′ returned answer
 
 module _ (κs : Lfts 7) (a : Dens κs read-kinds.ps) (returned : resT read-kinds.r κs .Denot) (e : AtExit (endedOf 7 read-kinds.ps read-kinds.r) κs) where
-  pub read-call : read-reads.Learnt κs a returned e → ReadCall
+  abbrev pub read-call : read-reads.Learnt κs a returned e → ReadCall
   read-call told =
       let (bytes, (h, (b, (u, (v, (constants, (_, _))))))) = a in
       let (_, (h′, (b′, (u′, (v′, (constants′, (answer′, _))))))) = e in
@@ -158,7 +158,7 @@ pub record CompareCall : Type 0 where
   pub told : CompareFromC first second returned answer
 
 module _ (κs : Lfts 3) (a : Dens κs compare-kinds.ps) (returned : resT compare-kinds.r κs .Denot) (e : AtExit (endedOf 3 compare-kinds.ps compare-kinds.r) κs) where
-  pub compare-call : compare-reads.Learnt κs a returned e → CompareCall
+  abbrev pub compare-call : compare-reads.Learnt κs a returned e → CompareCall
   compare-call told =
       let (first, (second, (_, _))) = a in
       let (_, (_, (answer′, _))) = e in

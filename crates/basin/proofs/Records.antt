@@ -4,6 +4,10 @@ use mathlib.Core.Path.{_≡_, refl, sym, ap, subst, _∙_}
 use mathlib.Core.Logic.{_↔_, _⊎_, inl, inr}
 use mathlib.Core.List.{List, [], _∷_}
 use native.Mathlib.Omega.{arith}
+use contract.Lifetimes.{Lfts}
+use denote.Ref.{now}
+use denote.Triple.Clauses.{AtExit}
+use borrow.Fn.Kinds.{Dens, resT, endedOf}
 use Prim.Native.Nat.{ℕ, _*_, _^_, _≤_, _<_}
 use lib.Dec.{T}
 use lib.IntN.{ℤ, pos}
@@ -25,7 +29,9 @@ use Rattle.telling.specs.Told.{eight, orKept}
 use Rattle.reading.specs.Rooms.{Room}
 use Rattle.basin.specs.FromC.{parameters}
 use Rattle.basin.proofs.Applied.{from-one}
-use Rattle.basin.proofs.Calls.{WriteCall, ReadCall, CompareCall}
+use Rattle.basin.proofs.basin_compare.Kinds as compare-kinds
+use Rattle.basin.proofs.basin_compare.Reads as compare-reads
+use Rattle.basin.proofs.Calls.{WriteCall, ReadCall, CompareCall, compare-call}
 
 -- ---- write, then read
 
@@ -189,3 +195,12 @@ swapped-result c d p q {s} {t} {i} {j} one two =
     by Conflict e b = let x = is c e in let y = is d (b ∙ ap swapped e) in record { both = (x .returns, y .returns); results = inr (inr (inr (x .tells, y .tells))) }
     by (FirstRefused r) e b = absurd (accepted-not-refused one (theorems .compare .first-refused (c .first) (c .second) (c .told .answer) r (c .told .promise) .0 e))
     by (SecondRefused r) e b = absurd (accepted-not-refused two (theorems .compare .second-refused (c .first) (c .second) (c .told .answer) r s i one (c .told .promise) .0 e))
+
+-- ---- the same of the code itself: from what a caller learns of a call, of its own parameters
+
+module _ (κs : Lfts 3) (a : Dens κs compare-kinds.ps) (returned : resT compare-kinds.r κs .Denot) (e : AtExit (endedOf 3 compare-kinds.ps compare-kinds.r) κs) where
+  pub code-same-means : compare-reads.Learnt κs a returned e
+      → let (first, (second, _)) = a in
+      let (_, (_, (answer, _))) = e in
+      ((returned ≡ 0) × (getD (now answer) 1 0 ≡ 0)) ↔ BothAre (now first) (now second)
+  code-same-means told = same-means (compare-call κs a returned e told)

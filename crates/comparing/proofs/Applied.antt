@@ -28,7 +28,7 @@ pub record CompareCall : Type 0 where
 -- it is read off `Learnt`: what a caller learns of a call, the function's `ensures` in src/lib.rt as the checker reads it, of the
 -- arguments a in the order of the signature, the answer, and the parameters e as the call returns
 module _ (κs : Lfts 2) (a : Dens κs compare-kinds.ps) (answer : resT compare-kinds.r κs .Denot) (e : AtExit (endedOf 2 compare-kinds.ps compare-kinds.r) κs) where
-  pub compare-call : compare-reads.Learnt κs a answer e → CompareCall
+  abbrev pub compare-call : compare-reads.Learnt κs a answer e → CompareCall
   compare-call told =
       let (first, (second, _)) = a in
       record { first = now first; second = now second; answer = answer; promise = told }
@@ -45,3 +45,9 @@ pub swapped-answer : (c d : CompareCall) → d .first ≡ c .second → d .secon
 swapped-answer c d p q {s} {t} {x} {y} one two =
     let back = subst (λ l. ComparePromise l (c .first) (d .answer)) p (subst (λ l. ComparePromise (d .first) l (d .answer)) q (d .promise)) in
     theorems .compare .swap (c .first) (c .second) (c .answer) (d .answer) s t x y one two (c .promise) back
+
+-- ---- the same of the code itself: from what a caller learns of a call, of its own parameters
+
+module _ (κs : Lfts 2) (a : Dens κs compare-kinds.ps) (answer : resT compare-kinds.r κs .Denot) (e : AtExit (endedOf 2 compare-kinds.ps compare-kinds.r) κs) where
+  pub code-same-means : compare-reads.Learnt κs a answer e → let (first, (second, _)) = a in (answer ≡ Same) ↔ BothAre (now first) (now second)
+  code-same-means told = same-means (compare-call κs a answer e told)

@@ -2,15 +2,21 @@
 -- one step. Assumes nothing.
 use mathlib.Core.Path.{_≡_, subst}
 use Prim.Native.Nat.{_≤_}
+use contract.Lifetimes.{Lfts}
+use denote.Ref.{now}
+use denote.Triple.Clauses.{AtExit}
+use borrow.Fn.Kinds.{Dens, resT, endedOf}
 use lib.IntN.{pos}
 use lib.ListN.{length, take}
 use Rattle.model.specs.Numbers.{vorticityLimits}
-use Rattle.model.specs.State.{cells, FieldWithin, WithinLimits}
+use Rattle.model.specs.State.{stateOf, cells, FieldWithin, WithinLimits}
 use Rattle.model.specs.Rates.{energyRate, enstrophyRate}
 use Rattle.model.specs.Promises.{VorticityPromise, TendenciesPromise}
 use Rattle.model.specs.declared.FillAnswer.the-variants.{Done}
 use Rattle.theorems.specs.Theorems.{theorems}
-use Rattle.filling.proofs.Calls.{TendenciesCall, VorticityCall}
+use Rattle.filling.proofs.Calls.{TendenciesCall, VorticityCall, tendencies-call}
+use Rattle.filling.proofs.tendencies.Kinds as tendencies-kinds
+use Rattle.filling.proofs.tendencies.Reads as tendencies-reads
 
 -- ---- a call of `tendencies`
 
@@ -52,3 +58,18 @@ module _ (call : TendenciesCall) where
 pub vorticity-may-be-lent : (call : VorticityCall) → call .answer ≡ Done → FieldWithin vorticityLimits (cells (call .state)) (take (cells (call .state)) (call .d′))
 vorticity-may-be-lent call d =
     theorems .vorticity (call .state) (call .d) (call .d′) (subst (λ x. VorticityPromise (call .state) (call .d) x (call .d′)) d (call .promise)) .1
+
+-- ---- the same of the code itself: from what a caller learns of a call, of its own parameters
+
+module _ (κs : Lfts 8) (a : Dens κs tendencies-kinds.ps) (answer : resT tendencies-kinds.r κs .Denot) (e : AtExit (endedOf 8 tendencies-kinds.ps tendencies-kinds.r) κs) where
+  pub code-energy-rate-zero : tendencies-reads.Learnt κs a answer e → answer ≡ Done
+      → let (p, (h, (b, (u, (v, _))))) = a in
+      let (_, (_, (_, (_, (_, (_, (dh′, (du′, (dv′, _))))))))) = e in
+      energyRate (stateOf p (now h) (now b) (now u) (now v)) (now dh′) (now du′) (now dv′) ≡ pos 0
+  code-energy-rate-zero told d = energy-rate-zero (tendencies-call κs a answer e told) d
+
+  pub code-enstrophy-rate-zero : tendencies-reads.Learnt κs a answer e → answer ≡ Done
+      → let (p, (h, (b, (u, (v, (q, _)))))) = a in
+      let (_, (_, (_, (_, (_, (_, (dh′, (du′, (dv′, _))))))))) = e in
+      p .kind ≡ 0 → enstrophyRate (stateOf p (now h) (now b) (now u) (now v)) (now dh′) (now du′) (now dv′) (now q) ≡ pos 0
+  code-enstrophy-rate-zero told d k = enstrophy-rate-zero (tendencies-call κs a answer e told) k d

@@ -31,7 +31,7 @@ pub record TendenciesCall : Type 0 where
   pub promise : TendenciesPromise state q dh du dv answer dh′ du′ dv′
 
 module _ (κs : Lfts 8) (a : Dens κs tendencies-kinds.ps) (answer : resT tendencies-kinds.r κs .Denot) (e : AtExit (endedOf 8 tendencies-kinds.ps tendencies-kinds.r) κs) where
-  pub tendencies-call : tendencies-reads.Learnt κs a answer e → TendenciesCall
+  abbrev pub tendencies-call : tendencies-reads.Learnt κs a answer e → TendenciesCall
   tendencies-call told =
       let (p, (h, (b, (u, (v, (q, (dh, (du, (dv, _))))))))) = a in
       let (_, (_, (_, (_, (_, (_, (dh′, (du′, (dv′, _))))))))) = e in
@@ -47,7 +47,7 @@ pub record VorticityCall : Type 0 where
   pub promise : VorticityPromise state d answer d′
 
 module _ (κs : Lfts 5) (a : Dens κs vorticity-kinds.ps) (answer : resT vorticity-kinds.r κs .Denot) (e : AtExit (endedOf 5 vorticity-kinds.ps vorticity-kinds.r) κs) where
-  pub vorticity-call : vorticity-reads.Learnt κs a answer e → VorticityCall
+  abbrev pub vorticity-call : vorticity-reads.Learnt κs a answer e → VorticityCall
   vorticity-call told =
       let (p, (h, (b, (u, (v, (d, _)))))) = a in
       let (_, (_, (_, (_, (_, (d′, _)))))) = e in

@@ -1,6 +1,10 @@
 -- The round trips speak of this code, by calls of `write` and `read` (Calls). Assumes nothing.
 use mathlib.Core.Path.{_≡_, subst}
 use Prim.Native.Nat.{_*_, _^_, _≤_, _<_}
+use contract.Lifetimes.{Lfts}
+use denote.Ref.{now}
+use denote.Triple.Clauses.{AtExit}
+use borrow.Fn.Kinds.{Dens, resT, endedOf}
 use lib.Dec.{T}
 use lib.ListN.{length, take}
 use Rattle.model.specs.State.{State, stateOf, parametersOf, cells, WithinLimits}
@@ -12,7 +16,9 @@ use Rattle.model.specs.declared.ReadAnswer.the-variants.{Read}
 use Rattle.model.specs.declared.WriteAnswer.the-variants.{Written}
 use Rattle.theorems.specs.Theorems.{theorems}
 use Rattle.reading.specs.Rooms.{Room}
-use Rattle.reading.proofs.Calls.{ReadCall, WriteCall}
+use Rattle.reading.proofs.read.Kinds as read-kinds
+use Rattle.reading.proofs.read.Reads as read-reads
+use Rattle.reading.proofs.Calls.{ReadCall, WriteCall, read-call}
 
 -- ---- a call of `read`
 
@@ -45,3 +51,11 @@ pub read-then-write : (g : ReadCall) (w : WriteCall) {p : Parameters} {t : Times
 read-then-write g w {p} {t} bytes rises q same time room =
     theorems .read-then-write (g .rec) (w .d) (w .d′) _ _ _ _ _ _ _ _ p t (w .answer) bytes rises (accepted-read g q)
     (subst (λ x. WritePromise (left g p) x (w .d) (w .answer) (w .d′)) time (subst (λ s. WritePromise s (w .timestamp) (w .d) (w .answer) (w .d′)) same (w .promise))) room
+
+-- ---- the same of the code itself: from what a caller learns of a call, of its own parameters
+
+module _ (κs : Lfts 5) (a : Dens κs read-kinds.ps) (answer : resT read-kinds.r κs .Denot) (e : AtExit (endedOf 5 read-kinds.ps read-kinds.r) κs) where
+  pub code-read-is-within : read-reads.Learnt κs a answer e → {p : Parameters} {t : Timestamp} → answer ≡ Read p t
+      → let (_, (h′, (b′, (u′, (v′, _))))) = e in
+      let m = p .w * p .n in WithinLimits (stateOf p (take m (now h′)) (take m (now b′)) (take m (now u′)) (take m (now v′)))
+  code-read-is-within told q = read-is-within (read-call κs a answer e told) q

@@ -35,7 +35,7 @@ pub record ReadCall : Type 0 where
   pub promise : ReadPromise rec h b u v answer h′ b′ u′ v′
 
 module _ (κs : Lfts 5) (a : Dens κs read-kinds.ps) (answer : resT read-kinds.r κs .Denot) (e : AtExit (endedOf 5 read-kinds.ps read-kinds.r) κs) where
-  pub read-call : read-reads.Learnt κs a answer e → ReadCall
+  abbrev pub read-call : read-reads.Learnt κs a answer e → ReadCall
   read-call told =
       let (rec, (h, (b, (u, (v, _))))) = a in
       let (_, (h′, (b′, (u′, (v′, _))))) = e in
@@ -52,7 +52,7 @@ pub record WriteCall : Type 0 where
   pub promise : WritePromise state timestamp d answer d′
 
 module _ (κs : Lfts 5) (a : Dens κs write-kinds.ps) (answer : resT write-kinds.r κs .Denot) (e : AtExit (endedOf 5 write-kinds.ps write-kinds.r) κs) where
-  pub write-call : write-reads.Learnt κs a answer e → WriteCall
+  abbrev pub write-call : write-reads.Learnt κs a answer e → WriteCall
   write-call told =
       let (p, (h, (b, (u, (v, (timestamp, (d, _))))))) = a in
       let (_, (_, (_, (_, (_, (_, (d′, _))))))) = e in

@@ -33,7 +33,7 @@ pub record StepCall : Type 0 where
   pub promise : StepPromise before inflow work answer after work′
 
 module _ (κs : Lfts 6) (a : Dens κs step-kinds.ps) (answer : resT step-kinds.r κs .Denot) (e : AtExit (endedOf 6 step-kinds.ps step-kinds.r) κs) where
-  pub step-call : step-reads.Learnt κs a answer e → StepCall
+  abbrev pub step-call : step-reads.Learnt κs a answer e → StepCall
   step-call told =
       let (p, (h, (b, (u, (v, (inflow, (work, _))))))) = a in
       let (_, (h′, (_, (u′, (v′, (_, (work′, _))))))) = e in
@@ -52,7 +52,7 @@ pub record RunCall : Type 0 where
   pub promise : RunPromise before inflow steps work answer after work′
 
 module _ (κs : Lfts 6) (a : Dens κs run-kinds.ps) (answer : resT run-kinds.r κs .Denot) (e : AtExit (endedOf 6 run-kinds.ps run-kinds.r) κs) where
-  pub run-call : run-reads.Learnt κs a answer e → RunCall
+  abbrev pub run-call : run-reads.Learnt κs a answer e → RunCall
   run-call told =
       let (p, (h, (b, (u, (v, (inflow, (steps, (work, _)))))))) = a in
       let (_, (h′, (_, (u′, (v′, (_, (_, (work′, _)))))))) = e in
@@ -66,7 +66,7 @@ pub record DepthCall : Type 0 where
   pub promise : TotalDepthPromise state answer
 
 module _ (κs : Lfts 4) (a : Dens κs depth-kinds.ps) (answer : resT depth-kinds.r κs .Denot) (e : AtExit (endedOf 4 depth-kinds.ps depth-kinds.r) κs) where
-  pub depth-call : depth-reads.Learnt κs a answer e → DepthCall
+  abbrev pub depth-call : depth-reads.Learnt κs a answer e → DepthCall
   depth-call told =
       let (p, (h, (b, (u, (v, _))))) = a in
       record { state = stateOf p (now h) (now b) (now u) (now v); answer = answer; promise = told }
