@@ -9,7 +9,7 @@ use lib.Dec.{T}
 use lib.IntN.{ℤ, pos, negℤ, natAbs, _+ℤ_, _-ℤ_, _*ℤ_}
 use lib.ListN.{length, getD, take, drop, replicate}
 use lib.Signed.{_≤ℤ_}
-use Rattle.model.specs.Numbers.{rnd, vorticityLimits, inflowLimits, tendencyScale, divergenceScale, all}
+use Rattle.model.specs.Numbers.{rnd, vorticityLimits, inflowLimits, longestRun, tendencyScale, divergenceScale, all}
 use Rattle.model.specs.Grid.{at, byCell, filled, firstFrom}
 use Rattle.model.specs.State.{State, stateOf, parametersOf, withFlow, cells, closedWest, closedSouth, WithinLimits, FieldWithin, OpenEverywhere}
 use Rattle.model.specs.Answers.{number}
@@ -383,6 +383,21 @@ Ended inflow m (RunAnswer.Stopped k p f c) t = (k < m) × (twoPass t inflow ≡ 
 abbrev pub RunClaim : Type 0
 RunClaim = (s s′ : State) (inflow work work′ : List ℤ) (m : ℕ) (answer : RunAnswer) → RunPromise s inflow m work answer s′ work′
     → Steps inflow (runCount answer) s s′ × Ended inflow m answer s′
+
+-- what a run takes, with nothing wrong
+abbrev pub RunTaken : State → (inflow : List ℤ) (m : ℕ) (work : List ℤ) → Type 0
+RunTaken s inflow m work = StepTaken s inflow work × (m ≤ longestRun)
+
+-- and the other way round: a run with nothing wrong finishes exactly where each of its steps leads on, and stops with 6 after k steps
+-- exactly where k steps lead on and the next one is stuck as it tells
+pub record RunEndsClaim : Type 0 where
+  pub finished : (s s′ : State) (inflow work work′ : List ℤ) (m k : ℕ)
+      → RunPromise s inflow m work (RunAnswer.Finished k) s′ work′
+      ↔ (RunTaken s inflow m work × (k ≡ m) × Steps inflow m s s′ × (work′ ≡ cleared s work))
+  pub stopped : (s s′ : State) (inflow work work′ : List ℤ) (m k p c : ℕ) (f : Field)
+      → RunPromise s inflow m work (RunAnswer.Stopped k p f c) s′ work′
+      ↔ (RunTaken s inflow m work × (k < m) × Steps inflow k s s′ × (twoPass s′ inflow ≡ stuck p (record { field = f; cell = c }))
+      × (work′ ≡ cleared s work))
 
 -- a run that is not refused leaves what as many public step calls leave; where it stopped, the next one answers the 6 that it tells
 abbrev pub NextStep : List ℤ → (room : ℕ) → RunAnswer → State → Type 0

@@ -20,6 +20,7 @@ pub mod ProductRule
 pub mod Depth
 pub mod Stepping
 pub mod Runs
+pub mod RunEnds
 pub mod RunSteps
 pub mod Histories
 -- the record

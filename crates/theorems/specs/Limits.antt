@@ -7,10 +7,10 @@ use mathlib.Core.Option.{Option, none}
 use Prim.Native.Nat.{ℕ, _≤_, _<_}
 use lib.Dec.{T, leb}
 use lib.IntN.{pos}
-use Rattle.model.specs.Numbers.{within, Within, all, gravityLimits, coriolisLimits, ratioLimits, longestSide}
+use Rattle.model.specs.Numbers.{within, Within, all, gravityLimits, coriolisLimits, ratioLimits, longestSide, longestRun}
 use Rattle.model.specs.Grid.{firstFrom, at}
 use Rattle.model.specs.State.{State, cells, known, boundaryOf, closedWest, closedSouth, Side, WithinLimits}
-use Rattle.model.specs.Refusals.{_then_, placed, Taken, fieldsOf, firstOutside, long, moving, gridKnown, gridTest, lengthTest, workLength, workTest, constantsWithin, constantsTest, valueTest, edgeTest, roomTest, contentTest, stateTest, callTest}
+use Rattle.model.specs.Refusals.{_then_, placed, Taken, fieldsOf, firstOutside, long, moving, gridKnown, gridTest, runLengthTest, lengthTest, workLength, workTest, constantsWithin, constantsTest, valueTest, edgeTest, roomTest, contentTest, stateTest, callTest}
 use Rattle.model.specs.Claims.{LimitsClaim, EachWithin, EachRoom, AcceptedClaim}
 use Rattle.model.specs.declared.Field.the-variants.{VelocityU, VelocityV}
 use Rattle.model.specs.declared.Refusal.{Refusal}
@@ -218,3 +218,7 @@ accepted = record { state = accepted-iff; call = call-iff }
 pub work-iff : (s : State) (m : ℕ) → (workTest s m ≡ none) ↔ (workLength s ≤ m)
 unfolding workTest
 work-iff s m = must-iff (leb (workLength s) m) Lengths ⟫ le-iff (workLength s) m
+
+pub run-length-iff : (m : ℕ) → (runLengthTest m ≡ none) ↔ (m ≤ longestRun)
+unfolding runLengthTest
+run-length-iff m = must-iff (leb m longestRun) Grid ⟫ le-iff m longestRun

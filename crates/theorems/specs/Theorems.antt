@@ -1,5 +1,5 @@
 -- Every theorem. `theorems` has each claim of the model, proved. Assumes nothing.
-use Rattle.model.specs.Claims.{LimitsClaim, AcceptedClaim, ScanClaim, TestClaim, RoomClaim, CallCausesClaim, ReadCausesClaim, MetClaim, FixedClaim, RefusedClaim, WorkClaim, RoundingClaim, OwnVorticityClaim, VorticityClaim, TendenciesAcceptedClaim, TendenciesClaim, PassClaim, StepClaim, RunClaim, RunStepsClaim, TotalsClaim, RoundTripClaim, ReadClaim, ProgramClaim, OutputClaim, RewriteClaim, AnyOrderClaim, CompareClaim, EnergyRateClaim, EnergyClaim, EnstrophyClaim, PeriodicEnstrophyClaim, BalanceClaim, KeptClaim}
+use Rattle.model.specs.Claims.{LimitsClaim, AcceptedClaim, ScanClaim, TestClaim, RoomClaim, CallCausesClaim, ReadCausesClaim, MetClaim, FixedClaim, RefusedClaim, WorkClaim, RoundingClaim, OwnVorticityClaim, VorticityClaim, TendenciesAcceptedClaim, TendenciesClaim, PassClaim, StepClaim, RunClaim, RunEndsClaim, RunStepsClaim, TotalsClaim, RoundTripClaim, ReadClaim, ProgramClaim, OutputClaim, RewriteClaim, AnyOrderClaim, CompareClaim, EnergyRateClaim, EnergyClaim, EnstrophyClaim, PeriodicEnstrophyClaim, BalanceClaim, KeptClaim}
 use Rattle.theorems.specs.Limits.{limits-tested, accepted}
 use Rattle.theorems.specs.Scans.{scan}
 use Rattle.theorems.specs.Tested.{tests}
@@ -13,6 +13,7 @@ use Rattle.theorems.specs.Vorticity.{within-limit, vorticity-within}
 use Rattle.theorems.specs.Filling.{tendencies-accepted, tendencies-fill}
 use Rattle.theorems.specs.Stepping.{pass-given, step-within}
 use Rattle.theorems.specs.Runs.{run-counts}
+use Rattle.theorems.specs.RunEnds.{run-ends}
 use Rattle.theorems.specs.RunSteps.{run-steps}
 use Rattle.theorems.specs.RoundTrip.{round-trip}
 use Rattle.theorems.specs.Rewrite.{read-within, rewritten}
@@ -51,6 +52,7 @@ pub record Theorems : Type 0 where
   pub pass : PassClaim
   pub step : StepClaim
   pub run : RunClaim
+  pub run-ends : RunEndsClaim
   pub run-steps : RunStepsClaim
   pub totals : TotalsClaim
   pub write-then-read : RoundTripClaim
@@ -90,6 +92,7 @@ theorems =
       pass = pass-given;
       step = step-within;
       run = run-counts;
+      run-ends = run-ends;
       run-steps = run-steps;
       totals = totals;
       write-then-read = round-trip;
