@@ -451,8 +451,8 @@ fn is_roundable(a: i64, b: i64) -> bool
     integers::within(a, dividend) && integers::within(b, divisor)
 }
 
-// 01's rnd(a/b), or 4 where the quotient is out of its range. It rules out, for instance: the largest dividend refused; rounded changed
-// by a refusal.
+// 01's rnd(a/b), or 4 where the quotient is out of its range. It rules out, for instance: the largest dividend refused; a refusal told
+// as 5.
 #[no_mangle]
 pub extern "C" fn basin_rnd(a: i64, b: i64, rounded: &mut i64) -> u64
     ensures { λ k. ⌜ Rounded a b (now (rounded .entry)) k (now (rounded .exit)) ⌝ }
