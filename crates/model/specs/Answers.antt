@@ -1,22 +1,20 @@
 -- What each answer means: 01's number, then the values returned with it in 01's order, as one list. 0 stands for no refusal.
--- 01 leaves open how a field, a comparison's answer and the refused record are numbered: the numbers here are ours.
+-- 01 leaves open how a comparison's answer and the refused record are numbered: the numbers here are ours.
 use mathlib.Core.List.{List, [], _∷_, _++_, map}
 use Prim.Native.Nat.{ℕ}
 use lib.IntN.{ℤ, pos}
-use Rattle.model.specs.declared.Field.{Field}
-use Rattle.model.specs.declared.Field.the-variants.{Depth, Bottom, VelocityU, VelocityV, Vorticity, Inflow}
+use lib.ListN.{getD, drop}
+use Rattle.model.specs.Fields.{fieldNumber}
 use Rattle.model.specs.declared.Refusal.{Refusal}
 use Rattle.model.specs.declared.Refusal.the-variants.{Grid, Lengths, Constants, Value, ClosedEdge, Record, Destination}
-use Rattle.model.specs.declared.TestAnswer.{TestAnswer}
-use Rattle.model.specs.declared.FillAnswer.{FillAnswer}
+use Rattle.model.specs.declared.Answer.{Answer}
 use Rattle.model.specs.declared.StepAnswer.{StepAnswer}
 use Rattle.model.specs.declared.RunAnswer.{RunAnswer}
 use Rattle.model.specs.declared.TotalAnswer.{TotalAnswer}
 use Rattle.model.specs.declared.WriteAnswer.{WriteAnswer}
 use Rattle.model.specs.declared.ReadAnswer.{ReadAnswer}
 use Rattle.model.specs.declared.CompareAnswer.{CompareAnswer}
-use Rattle.model.specs.declared.TestAnswer.the-variants as TestAnswer
-use Rattle.model.specs.declared.FillAnswer.the-variants as FillAnswer
+use Rattle.model.specs.declared.Answer.the-variants as Answer
 use Rattle.model.specs.declared.StepAnswer.the-variants as StepAnswer
 use Rattle.model.specs.declared.RunAnswer.the-variants as RunAnswer
 use Rattle.model.specs.declared.TotalAnswer.the-variants as TotalAnswer
@@ -24,59 +22,39 @@ use Rattle.model.specs.declared.WriteAnswer.the-variants as WriteAnswer
 use Rattle.model.specs.declared.ReadAnswer.the-variants as ReadAnswer
 use Rattle.model.specs.declared.CompareAnswer.the-variants as CompareAnswer
 
--- h, b, u, v, q, s
-abbrev pub fieldNumber : Field → ℕ
-fieldNumber Depth = 0
-fieldNumber Bottom = 1
-fieldNumber VelocityU = 2
-fieldNumber VelocityV = 3
-fieldNumber Vorticity = 4
-fieldNumber Inflow = 5
+-- ---- refusals: the number, then what is told with it; one line for each
+
+abbrev pub refusalNumbers : Refusal → List ℕ
+refusalNumbers Grid = 1 ∷ []
+refusalNumbers Lengths = 2 ∷ []
+refusalNumbers Constants = 3 ∷ []
+refusalNumbers (Value f k) = 4 ∷ fieldNumber f ∷ k ∷ []
+refusalNumbers (ClosedEdge f k) = 5 ∷ fieldNumber f ∷ k ∷ []
+refusalNumbers (Record k) = 7 ∷ k ∷ []
+refusalNumbers Destination = 8 ∷ []
 
 abbrev pub number : Refusal → ℕ
-number Grid = 1
-number Lengths = 2
-number Constants = 3
-number (Value f k) = 4
-number (ClosedEdge f k) = 5
-number (Record k) = 7
-number Destination = 8
+number r = getD (refusalNumbers r) 0 0
 
 abbrev pub values : Refusal → List ℕ
-values Grid = []
-values Lengths = []
-values Constants = []
-values (Value f k) = fieldNumber f ∷ k ∷ []
-values (ClosedEdge f k) = fieldNumber f ∷ k ∷ []
-values (Record k) = k ∷ []
-values Destination = []
+values r = drop 1 (refusalNumbers r)
 
 -- ---- whole answers
 
 abbrev whole : List ℕ → List ℤ
 whole l = map pos l
 
--- of a refusal; as naturals, which is what a caller of the C interface reads
-abbrev pub refusalNumbers : Refusal → List ℕ
-refusalNumbers r = number r ∷ values r
-
+-- `…Numbers` are naturals, which is what a caller of the C interface reads
 abbrev pub told : Refusal → List ℤ
 told r = whole (refusalNumbers r)
 
--- of the tests by themselves, and of a call that fills
-abbrev pub testNumbers : TestAnswer → List ℕ
-testNumbers TestAnswer.Passed = 0 ∷ []
-testNumbers (TestAnswer.Refused r) = refusalNumbers r
+-- of the tests, and of a call that fills
+abbrev pub answerNumbers : Answer → List ℕ
+answerNumbers Answer.Accepted = 0 ∷ []
+answerNumbers (Answer.Refused r) = refusalNumbers r
 
-abbrev pub toldTest : TestAnswer → List ℤ
-toldTest a = whole (testNumbers a)
-
-abbrev pub fillNumbers : FillAnswer → List ℕ
-fillNumbers FillAnswer.Done = 0 ∷ []
-fillNumbers (FillAnswer.Refused r) = refusalNumbers r
-
-abbrev pub toldFill : FillAnswer → List ℤ
-toldFill a = whole (fillNumbers a)
+abbrev pub toldAnswer : Answer → List ℤ
+toldAnswer a = whole (answerNumbers a)
 
 -- refusal 6: pass, field, cell
 abbrev pub stepNumbers : StepAnswer → List ℕ

@@ -13,32 +13,28 @@ use Rattle.model.specs.Numbers.{rnd, vorticityLimits, inflowLimits, long
 use Rattle.model.specs.Grid.{at, byCell, filled, firstFrom}
 use Rattle.model.specs.State.{State, stateOf, parametersOf, withFlow, cells, closedWest, closedSouth, WithinLimits, FieldWithin, OpenEverywhere}
 use Rattle.model.specs.Answers.{number}
-use Rattle.model.specs.Refusals.{Place, Taken, fieldsOf, besideTaken, runShort, workEnough, outside, long, moving, workLength, gridKnown, constantsWithin, stateTest, callTest}
+use Rattle.model.specs.Tests.{Test, asks, seeks, firstFound}
+use Rattle.model.specs.Refusals.{Taken, workLength, stateTests, callTests}
 use Rattle.model.specs.Scheme.{vorticityAt, vorticity, D, tendencyU, tendencyV}
 use Rattle.model.specs.Rates.{energyRate, enstrophyRate}
 use Rattle.model.specs.Totals.{totalDepth, energy4}
-use Rattle.model.specs.Step.{pass, leaves, moved, stuck, twoPass, stepTest, stepAnswer, cleared, workLeft}
-use Rattle.model.specs.Record.{Timestamp, Part, joined, valueOf, tagAt, sizeAt, partAt, stateIn, timestampIn, recordLength, rising, decode, accepted, refused}
+use Rattle.model.specs.Step.{Place, place, pass, leaves, moved, stuck, twoPass, stepTests, stepTest, runTests, stepAnswer, cleared, workLeft}
+use Rattle.model.specs.Record.{Timestamp, Part, joined, valueOf, tagAt, sizeAt, partAt, stateIn, timestampIn, recordLength, rising, recordTests, decode, accepted, refused}
 use Rattle.model.specs.Program.{programCells, programWork, outputRoom, programOutput}
-use Rattle.model.specs.Promises.{TestPromise, VorticityPromise, TendenciesPromise, StepPromise, RunPromise, TotalDepthPromise, TotalEnergyPromise, WritePromise, ReadPromise, ComparePromise}
+use Rattle.model.specs.Promises.{Filling, Fills, vorticityTests, tendenciesTests, totalTests, writeTests, VorticityPromise, TendenciesPromise, StepPromise, RunPromise, TotalDepthPromise, TotalEnergyPromise, WritePromise, ReadPromise, ComparePromise}
 use Rattle.model.specs.Histories.{Call, step, History, inflowDue, runCount}
 use Rattle.model.specs.declared.Parameters.{Parameters}
 use Rattle.model.specs.declared.Field.{Field}
-use Rattle.model.specs.declared.Field.the-variants.{VelocityU, VelocityV}
 use Rattle.model.specs.declared.Refusal.{Refusal}
-use Rattle.model.specs.declared.Refusal.the-variants.{Grid, Lengths, Constants, Value, ClosedEdge, Record, Destination}
-use Rattle.model.specs.declared.Beside.{Beside}
-use Rattle.model.specs.declared.Beside.the-variants.{Nothing, Vorticity, Inflow, Run}
-use Rattle.model.specs.declared.TestAnswer.{TestAnswer}
-use Rattle.model.specs.declared.FillAnswer.{FillAnswer}
+use Rattle.model.specs.declared.Refusal.the-variants.{Record}
+use Rattle.model.specs.declared.Answer.{Answer}
 use Rattle.model.specs.declared.StepAnswer.{StepAnswer}
 use Rattle.model.specs.declared.RunAnswer.{RunAnswer}
 use Rattle.model.specs.declared.TotalAnswer.{TotalAnswer}
 use Rattle.model.specs.declared.WriteAnswer.{WriteAnswer}
 use Rattle.model.specs.declared.ReadAnswer.{ReadAnswer}
 use Rattle.model.specs.declared.CompareAnswer.{CompareAnswer}
-use Rattle.model.specs.declared.TestAnswer.the-variants as TestAnswer
-use Rattle.model.specs.declared.FillAnswer.the-variants as FillAnswer
+use Rattle.model.specs.declared.Answer.the-variants as Answer
 use Rattle.model.specs.declared.StepAnswer.the-variants as StepAnswer
 use Rattle.model.specs.declared.RunAnswer.the-variants as RunAnswer
 use Rattle.model.specs.declared.TotalAnswer.the-variants as TotalAnswer
@@ -47,25 +43,6 @@ use Rattle.model.specs.declared.ReadAnswer.the-variants as ReadAnswer
 use Rattle.model.specs.declared.CompareAnswer.the-variants.{Same, FirstNewer, SecondNewer, Conflict, FirstRefused, SecondRefused}
 
 -- ==== demand 1: the full result, or a refusal where its cause holds and only there
-
--- tests 1 to 5 pass exactly the states within the limits
-abbrev pub LimitsClaim : Type 0
-LimitsClaim = (s : State) → (stateTest s [] none none ≡ none) ↔ WithinLimits s
-
--- the same with what else a call takes: further fields, a run length, a work space and destinations
-abbrev pub EachWithin : List Taken → Type 0
-EachWithin [] = Unit
-EachWithin (f ∷ l) = FieldWithin (f .limits) (f .count) (f .numbers) × EachWithin l
-
-abbrev pub EachRoom : ℕ → List ℕ → Type 0
-EachRoom m [] = Unit
-EachRoom m (room ∷ l) = (m ≤ room) × EachRoom m l
-
-pub record AcceptedClaim : Type 0 where
-  pub state : (s : State) (extra : List Taken) (run work : Option Refusal)
-      → (stateTest s extra run work ≡ none) ↔ (WithinLimits s × EachWithin extra × (run ≡ none) × (work ≡ none))
-  pub call : (s : State) (extra : List Taken) (m : ℕ) (rooms : List ℕ)
-      → (callTest s extra m rooms ≡ none) ↔ (WithinLimits s × EachWithin extra × EachRoom m rooms)
 
 -- a scan finds the lowest index at which its test holds
 abbrev pub FirstAt : (ℕ → Bool) → ℕ → ℕ → Type 0
@@ -77,77 +54,76 @@ Clean bad m = (i : ℕ) → i < m → bad i ≡ false
 abbrev pub ScanClaim : Type 0
 ScanClaim = (bad : ℕ → Bool) (m k : ℕ) → (firstFrom bad m 0 ≡ some k) ↔ FirstAt bad m k
 
--- a test stops at its own refusal where what it asks does not hold; where it does, the rest decides
-abbrev pub Stops : Type 0 → Refusal → Type 0 → Refusal → Type 0
-Stops asked own rest r = ((asked → ⊥) × (own ≡ r)) ⊎ (asked × rest)
+-- what a test asks, and how it comes to find r: what it asks does not hold, or it names the lowest bad index
+abbrev pub Passes : {R : Type 0} → Test R → Type 0
+Passes (asks t own) = T t
+Passes (seeks bad m own) = Clean bad m
 
--- a place outside, in the first field that has one, and there at the lowest cell
-abbrev pub FirstOutside : List Taken → Place → Type 0
-FirstOutside [] p = ⊥
-FirstOutside (f ∷ l) p = ((f .field ≡ p .field) × FirstAt (outside f) (f .count) (p .cell)) ⊎ (Clean (outside f) (f .count) × FirstOutside l p)
+abbrev pub Fails : {R : Type 0} → Test R → R → Type 0
+Fails (asks t own) r = (T t → ⊥) × (own ≡ r)
+Fails (seeks bad m own) r = (k : ℕ) × (own k ≡ r) × FirstAt bad m k
 
-abbrev pub Inside : List Taken → Type 0
-Inside [] = Unit
-Inside (f ∷ l) = Clean (outside f) (f .count) × Inside l
+abbrev pub EachPasses : {R : Type 0} → List (Test R) → Type 0
+EachPasses [] = Unit
+EachPasses (t ∷ l) = Passes t × EachPasses l
 
--- a velocity on a closed edge: u before v, lowest cell
-abbrev pub FirstMoving : State → Place → Type 0
-FirstMoving s p =
-    ((VelocityU ≡ p .field) × FirstAt (moving s closedWest (s .u)) (cells s) (p .cell))
-    ⊎ (Clean (moving s closedWest (s .u)) (cells s) × ((VelocityV ≡ p .field) × FirstAt (moving s closedSouth (s .v)) (cells s) (p .cell)))
+-- why a list of tests finds r: the first one that fails is r's. What each test asks is the model's own (Refusals.antt); this adds the
+-- order and the place
+abbrev pub Cause : {R : Type 0} → List (Test R) → R → Type 0
+Cause [] r = ⊥
+Cause (t ∷ l) r = Fails t r ⊎ (Passes t × Cause l r)
 
--- why the tests by themselves refuse with r: the first test in number order that does not hold is r's, and r names the first place.
--- What each test asks is the model's own (`gridKnown`, `long`, `constantsWithin`, `outside`, `moving`); this adds order and place.
-abbrev pub Cause : State → Beside → List ℤ → Refusal → Type 0
-Cause s beside x r =
-    let extra = besideTaken (cells s) beside x in
-    Stops (T (gridKnown s && runShort beside)) Grid
-    (Stops (T (all long (fieldsOf s) && (all long extra && workEnough (cells s) beside))) Lengths
-    (Stops (T (constantsWithin s)) Constants
-    (((p : Place) × (Value (p .field) (p .cell) ≡ r) × FirstOutside (fieldsOf s ++ extra) p)
-    ⊎ (Inside (fieldsOf s ++ extra) × ((p : Place) × (ClosedEdge (p .field) (p .cell) ≡ r) × FirstMoving s p))) r) r) r
+-- a list of tests finds nothing exactly where each passes, and r exactly where r's cause holds
+pub record TestClaim (R : Type 0) : Type 0 where
+  pub passes : (l : List (Test R)) → (firstFound l ≡ none) ↔ EachPasses l
+  pub finds : (l : List (Test R)) (r : R) → (firstFound l ≡ some r) ↔ Cause l r
 
--- the tests by themselves pass exactly where all is within its limits, and refuse with r exactly where r's cause holds
-pub record TestClaim : Type 0 where
-  pub passed : (s : State) (beside : Beside) (x : List ℤ)
-      → TestPromise s beside x TestAnswer.Passed ↔ (WithinLimits s × EachWithin (besideTaken (cells s) beside x) × T (runShort beside) × T (workEnough (cells s) beside))
-  pub refused : (s : State) (beside : Beside) (x : List ℤ) (r : Refusal)
-      → TestPromise s beside x (TestAnswer.Refused r) ↔ Cause s beside x r
+-- tests 1 to 5 pass exactly the states within the limits
+abbrev pub LimitsClaim : Type 0
+LimitsClaim = (s : State) → EachPasses (stateTests s [] [] []) ↔ WithinLimits s
 
--- why a call that fills m places of each destination refuses with r, where the destinations have these lengths (`rooms`):
--- a cause of 1 to 5, the same as for the tests by themselves; or none of these, and 8: not each destination has m places
-abbrev pub FillCause : State → Beside → List ℤ → ℕ → List ℕ → Refusal → Type 0
-FillCause s beside x m rooms r =
-    Cause s beside x r
-    ⊎ (WithinLimits s × EachWithin (besideTaken (cells s) beside x) × (EachRoom m rooms → ⊥) × (Destination ≡ r))
+-- the same with what else a call takes: further fields, a run length, a work space and destinations
+abbrev pub EachWithin : List Taken → Type 0
+EachWithin [] = Unit
+EachWithin (f ∷ l) = FieldWithin (f .limits) (f .count) (f .numbers) × EachWithin l
 
--- potential vorticity, tendencies and the writer refuse with r exactly where r's cause holds, and leave each destination as it was
-pub record RoomClaim : Type 0 where
-  pub vorticity : (s : State) (d d′ : List ℤ) (r : Refusal)
-      → VorticityPromise s d (FillAnswer.Refused r) d′ ↔ (FillCause s Nothing [] (cells s) (length d ∷ []) r × (d′ ≡ d))
-  pub tendencies : (s : State) (q dh du dv dh′ du′ dv′ : List ℤ) (r : Refusal)
-      → TendenciesPromise s q dh du dv (FillAnswer.Refused r) dh′ du′ dv′
-      ↔ (FillCause s Vorticity q (cells s) (length dh ∷ length du ∷ length dv ∷ []) r × (dh′ ≡ dh) × (du′ ≡ du) × (dv′ ≡ dv))
-  pub write : (s : State) (t : Timestamp) (d d′ : List ℕ) (r : Refusal)
-      → WritePromise s t d (WriteAnswer.Refused r) d′ ↔ (FillCause s Nothing [] (recordLength s) (length d ∷ []) r × (d′ ≡ d))
+abbrev pub EachRoom : ℕ → List ℕ → Type 0
+EachRoom m [] = Unit
+EachRoom m (room ∷ l) = (m ≤ room) × EachRoom m l
+
+pub record AcceptedClaim : Type 0 where
+  pub state : (s : State) (further : List Taken) (run work : List (Test Refusal))
+      → EachPasses (stateTests s further run work) ↔ (WithinLimits s × EachWithin further × EachPasses run × EachPasses work)
+  pub call : (s : State) (further : List Taken) (m : ℕ) (rooms : List ℕ)
+      → EachPasses (callTests s further m rooms) ↔ (WithinLimits s × EachWithin further × EachRoom m rooms)
 
 -- what a step takes, with nothing wrong
-abbrev pub StepTaken : State → (inflow work : List ℤ) → Type 0
-StepTaken s inflow work = WithinLimits s × FieldWithin inflowLimits (cells s) inflow × (workLength s ≤ length work)
+abbrev pub StepTaken : State → (inflow : List ℤ) (room : ℕ) → Type 0
+StepTaken s inflow room = WithinLimits s × FieldWithin inflowLimits (cells s) inflow × (workLength s ≤ room)
 
--- the totals, step and run refuse with r exactly where r's cause holds; a step is stuck with 6, or done, exactly where the two passes are
-pub record CallCausesClaim : Type 0 where
-  pub depth : (s : State) (r : Refusal) → TotalDepthPromise s (TotalAnswer.Refused r) ↔ Cause s Nothing [] r
-  pub energy : (s : State) (r : Refusal) → TotalEnergyPromise s (TotalAnswer.Refused r) ↔ Cause s Nothing [] r
+-- each call on a state is refused with r exactly where r's cause holds in the list of its tests, and leaves each destination as it was; a
+-- step is stuck with 6, or done, exactly where the two passes are
+pub record CausesClaim : Type 0 where
+  pub vorticity : (s : State) (d d′ : List ℤ) (r : Refusal)
+      → VorticityPromise s d (Answer.Refused r) d′ ↔ (Cause (vorticityTests s (length d)) r × (d′ ≡ d))
+  pub tendencies : (s : State) (q dh du dv dh′ du′ dv′ : List ℤ) (r : Refusal)
+      → TendenciesPromise s q dh du dv (Answer.Refused r) dh′ du′ dv′
+      ↔ (Cause (tendenciesTests s q (length dh) (length du) (length dv)) r × (dh′ ≡ dh) × (du′ ≡ du) × (dv′ ≡ dv))
+  pub write : (s : State) (t : Timestamp) (d d′ : List ℕ) (r : Refusal)
+      → WritePromise s t d (WriteAnswer.Refused r) d′ ↔ (Cause (writeTests s (length d)) r × (d′ ≡ d))
+  pub depth : (s : State) (r : Refusal) → TotalDepthPromise s (TotalAnswer.Refused r) ↔ Cause (totalTests s) r
+  pub energy : (s : State) (r : Refusal) → TotalEnergyPromise s (TotalAnswer.Refused r) ↔ Cause (totalTests s) r
   pub step : (s s′ : State) (inflow work work′ : List ℤ) (r : Refusal)
-      → StepPromise s inflow work (StepAnswer.Refused r) s′ work′ ↔ (Cause s (Inflow (length work)) inflow r × (s′ ≡ s) × (work′ ≡ workLeft (some r) s work))
+      → StepPromise s inflow work (StepAnswer.Refused r) s′ work′
+      ↔ (Cause (stepTests s inflow (length work)) r × (s′ ≡ s) × (work′ ≡ workLeft (some r) s work))
   pub run : (s s′ : State) (inflow : List ℤ) (m : ℕ) (work work′ : List ℤ) (r : Refusal)
-      → RunPromise s inflow m work (RunAnswer.Refused r) s′ work′ ↔ (Cause s (Run m (length work)) inflow r × (s′ ≡ s) × (work′ ≡ workLeft (some r) s work))
+      → RunPromise s inflow m work (RunAnswer.Refused r) s′ work′
+      ↔ (Cause (runTests s inflow m (length work)) r × (s′ ≡ s) × (work′ ≡ workLeft (some r) s work))
   pub step-6 : (s s′ : State) (inflow work work′ : List ℤ) (p k : ℕ) (f : Field)
       → StepPromise s inflow work (StepAnswer.OutOfBounds p f k) s′ work′
-      ↔ (StepTaken s inflow work × (twoPass s inflow ≡ stuck p (record { field = f; cell = k })) × (s′ ≡ s) × (work′ ≡ cleared s work))
+      ↔ (StepTaken s inflow (length work) × (twoPass s inflow ≡ stuck p (place f k)) × (s′ ≡ s) × (work′ ≡ cleared s work))
   pub step-done : (s s′ : State) (inflow work work′ : List ℤ)
-      → StepPromise s inflow work StepAnswer.Done s′ work′ ↔ (StepTaken s inflow work × (twoPass s inflow ≡ moved s′) × (work′ ≡ cleared s work))
+      → StepPromise s inflow work StepAnswer.Done s′ work′ ↔ (StepTaken s inflow (length work) × (twoPass s inflow ≡ moved s′) × (work′ ≡ cleared s work))
 
 -- ---- why a record is refused: 7, then 1, 2, 8, 3, 4, 5
 
@@ -194,21 +170,9 @@ WholeIn rec parts = Reaches rec (length rec) parts × (Missing parts → ⊥)
 abbrev pub BytesOf : ℕ → List Part → Type 0
 BytesOf m parts = (length (valueOf 4 parts) ≡ 4 * m) × (length (valueOf 5 parts) ≡ 4 * m) × (length (valueOf 6 parts) ≡ 2 * m) × (length (valueOf 7 parts) ≡ 2 * m)
 
--- why a record of these fields is refused with r, for destinations of these lengths: the first test in the order 1, 2, 8, 3, 4, 5 that
--- does not hold is r's, and r names the first place. What 1, 3, 4 and 5 ask is as in `Cause`, of the state that the fields mean (`stateIn`)
-abbrev pub FieldsCause : List Part → List ℕ → Refusal → Type 0
-FieldsCause parts rooms r =
-    let s = stateIn parts in
-    Stops (T (gridKnown s)) Grid
-    (Stops (BytesOf (cells s) parts) Lengths
-    (Stops (EachRoom (cells s) rooms) Destination
-    (Stops (T (constantsWithin s)) Constants
-    (((p : Place) × (Value (p .field) (p .cell) ≡ r) × FirstOutside (fieldsOf s) p)
-    ⊎ (Inside (fieldsOf s) × ((p : Place) × (ClosedEdge (p .field) (p .cell) ≡ r) × FirstMoving s p))) r) r) r) r
-
--- why a record is refused with r: a 7; or no 7, and its fields' cause
-abbrev pub ReadCause : List ℕ → List ℕ → Refusal → Type 0
-ReadCause rec rooms r = Damaged rec r ⊎ ((parts : List Part) × WholeIn rec parts × FieldsCause parts rooms r)
+-- why a record is refused with r: a 7; or no 7, and the cause in the list of its fields' tests
+abbrev pub ReadCause : List ℕ → (rooms : List ℕ) → Refusal → Type 0
+ReadCause rec rooms r = Damaged rec r ⊎ ((parts : List Part) × WholeIn rec parts × Cause (recordTests (stateIn parts) parts rooms) r)
 
 -- no cause holds of a record: no 7, the bytes of w·n numbers, room, and a state within the limits. s and t are what its fields mean
 pub record Readable (rec rooms : List ℕ) (s : State) (t : Timestamp) : Type 0 where
@@ -233,18 +197,19 @@ pub record ReadCausesClaim : Type 0 where
       ↔ ((s : State) × Readable rec (length h ∷ length b ∷ length u ∷ length v ∷ []) s t × (p ≡ parametersOf s)
       × (h′ ≡ filled (cells s) (s .h) h) × (b′ ≡ filled (cells s) (s .b) b) × (u′ ≡ filled (cells s) (s .u) u) × (v′ ≡ filled (cells s) (s .v) v))
 
--- each promise can be met, for any numbers and any lengths
+-- each promise can be met, for any numbers and any lengths; that of a call that fills for any test, count and destinations
+abbrev pub FillMet : (B A : Type 0) → Type 0
+FillMet B A = (by : Option Refusal → B) (tell : B → List ℤ) (test : Option Refusal) (m : ℕ) (ds : List (Filling A))
+    → (a : B) × (ds′ : List (List A)) × Fills by tell test m ds a ds′
+
 pub record MetClaim : Type 0 where
-  pub test : (s : State) (beside : Beside) (x : List ℤ) → (a : TestAnswer) × TestPromise s beside x a
-  pub vorticity : (s : State) (d : List ℤ) → (a : FillAnswer) × (d′ : List ℤ) × VorticityPromise s d a d′
-  pub tendencies : (s : State) (q dh du dv : List ℤ)
-      → (a : FillAnswer) × (dh′ : List ℤ) × (du′ : List ℤ) × (dv′ : List ℤ) × TendenciesPromise s q dh du dv a dh′ du′ dv′
+  pub fill : FillMet Answer ℤ
+  pub write : FillMet WriteAnswer ℕ
   pub step : (s : State) (inflow work : List ℤ) → (a : StepAnswer) × (s′ : State) × (work′ : List ℤ) × StepPromise s inflow work a s′ work′
   pub run : (s : State) (inflow : List ℤ) (m : ℕ) (work : List ℤ)
       → (a : RunAnswer) × (s′ : State) × (work′ : List ℤ) × RunPromise s inflow m work a s′ work′
   pub depth : (s : State) → (a : TotalAnswer) × TotalDepthPromise s a
   pub energy : (s : State) → (a : TotalAnswer) × TotalEnergyPromise s a
-  pub write : (s : State) (t : Timestamp) (d : List ℕ) → (a : WriteAnswer) × (d′ : List ℕ) × WritePromise s t d a d′
   pub read : (rec : List ℕ) (h b u v : List ℤ)
       → (a : ReadAnswer) × (h′ : List ℤ) × (b′ : List ℤ) × (u′ : List ℤ) × (v′ : List ℤ) × ReadPromise rec h b u v a h′ b′ u′ v′
   pub compare : (first second : List ℕ) → (a : CompareAnswer) × ComparePromise first second a
@@ -252,20 +217,19 @@ pub record MetClaim : Type 0 where
   pub history : (s : State) (calls : List Call) → (t : State) × History s calls t
 
 -- and leaves nothing free: not the answer, and no lent number afterwards
+abbrev pub FillFixed : (B A : Type 0) → Type 0
+FillFixed B A = (by : Option Refusal → B) (tell : B → List ℤ) (test : Option Refusal) (m : ℕ) (ds : List (Filling A)) (a b : B) (x y : List (List A))
+    → Fills by tell test m ds a x → Fills by tell test m ds b y → (a ≡ b) × (x ≡ y)
+
 pub record FixedClaim : Type 0 where
-  pub test : (s : State) (beside : Beside) (x : List ℤ) (a b : TestAnswer) → TestPromise s beside x a → TestPromise s beside x b → a ≡ b
-  pub vorticity : (s : State) (d x y : List ℤ) (a b : FillAnswer) → VorticityPromise s d a x → VorticityPromise s d b y → (a ≡ b) × (x ≡ y)
-  pub tendencies : (s : State) (q dh du dv x y z x′ y′ z′ : List ℤ) (a b : FillAnswer) → TendenciesPromise s q dh du dv a x y z
-      → TendenciesPromise s q dh du dv b x′ y′ z′
-      → (a ≡ b) × (x ≡ x′) × (y ≡ y′) × (z ≡ z′)
+  pub fill : FillFixed Answer ℤ
+  pub write : FillFixed WriteAnswer ℕ
   pub step : (s x y : State) (inflow work k l : List ℤ) (a b : StepAnswer) → StepPromise s inflow work a x k
       → StepPromise s inflow work b y l → (a ≡ b) × (x ≡ y) × (k ≡ l)
   pub run : (s x y : State) (inflow : List ℤ) (m : ℕ) (work k l : List ℤ) (a b : RunAnswer) → RunPromise s inflow m work a x k
       → RunPromise s inflow m work b y l → (a ≡ b) × (x ≡ y) × (k ≡ l)
   pub depth : (s : State) (a b : TotalAnswer) → TotalDepthPromise s a → TotalDepthPromise s b → a ≡ b
   pub energy : (s : State) (a b : TotalAnswer) → TotalEnergyPromise s a → TotalEnergyPromise s b → a ≡ b
-  pub write : (s : State) (t : Timestamp) (d x y : List ℕ) (a b : WriteAnswer) → WritePromise s t d a x → WritePromise s t d b y
-      → (a ≡ b) × (x ≡ y)
   pub read : (rec : List ℕ) (h b u v h′ b′ u′ v′ h″ b″ u″ v″ : List ℤ) (a c : ReadAnswer) → ReadPromise rec h b u v a h′ b′ u′ v′
       → ReadPromise rec h b u v c h″ b″ u″ v″
       → (a ≡ c) × (h′ ≡ h″) × (b′ ≡ b″) × (u′ ≡ u″) × (v′ ≡ v″)
@@ -273,18 +237,23 @@ pub record FixedClaim : Type 0 where
   -- and the state that it leaves is one alone
   pub history : (s x y : State) (calls : List Call) → History s calls x → History s calls y → x ≡ y
 
--- a refused call leaves everything but its work space as it was
+-- a refused call leaves everything but its work space as it was: one that fills leaves each destination, whatever it fills in
+abbrev pub held : {A : Type 0} → List (Filling A) → List (List A)
+held [] = []
+held (d ∷ ds) = d .old ∷ held ds
+
+abbrev pub FillRefused : (B A : Type 0) → Type 0
+FillRefused B A = (by : Option Refusal → B) (tell : B → List ℤ) (test : Option Refusal) (m : ℕ) (ds : List (Filling A)) (a : B) (ds′ : List (List A))
+    → (a ≡ by none → ⊥) → Fills by tell test m ds a ds′ → ds′ ≡ held ds
+
 pub record RefusedClaim : Type 0 where
-  pub vorticity : (s : State) (d d′ : List ℤ) (r : Refusal) → VorticityPromise s d (FillAnswer.Refused r) d′ → d′ ≡ d
-  pub tendencies : (s : State) (q dh du dv dh′ du′ dv′ : List ℤ) (r : Refusal)
-      → TendenciesPromise s q dh du dv (FillAnswer.Refused r) dh′ du′ dv′
-      → (dh′ ≡ dh) × (du′ ≡ du) × (dv′ ≡ dv)
+  pub fill : FillRefused Answer ℤ
+  pub write : FillRefused WriteAnswer ℕ
   pub step : (s s′ : State) (inflow work work′ : List ℤ) (r : Refusal) → StepPromise s inflow work (StepAnswer.Refused r) s′ work′ → s′ ≡ s
   pub step-6 : (s s′ : State) (inflow work work′ : List ℤ) (p k : ℕ) (f : Field)
       → StepPromise s inflow work (StepAnswer.OutOfBounds p f k) s′ work′ → s′ ≡ s
   pub run : (s s′ : State) (inflow work work′ : List ℤ) (m : ℕ) (r : Refusal) → RunPromise s inflow m work (RunAnswer.Refused r) s′ work′
       → s′ ≡ s
-  pub write : (s : State) (t : ℕ) (d d′ : List ℕ) (r : Refusal) → WritePromise s t d (WriteAnswer.Refused r) d′ → d′ ≡ d
   pub read : (rec : List ℕ) (h b u v h′ b′ u′ v′ : List ℤ) (r : Refusal) → ReadPromise rec h b u v (ReadAnswer.Refused r) h′ b′ u′ v′
       → (h′ ≡ h) × (b′ ≡ b) × (u′ ≡ u) × (v′ ≡ v)
 
@@ -326,18 +295,18 @@ OwnVorticityClaim = (s : State) → WithinLimits s → FieldWithin vorticityLimi
 
 -- an accepted potential vorticity call fills it in, and it may then be lent to the tendency call
 abbrev pub VorticityClaim : Type 0
-VorticityClaim = (s : State) (d d′ : List ℤ) → VorticityPromise s d FillAnswer.Done d′
+VorticityClaim = (s : State) (d d′ : List ℤ) → VorticityPromise s d Answer.Accepted d′
     → Holds s d′ (vorticityAt s) × FieldWithin vorticityLimits (cells s) (take (cells s) d′) × (drop (cells s) d′ ≡ drop (cells s) d)
 
 -- the tendency call accepts any state within the limits, any q within its bound and destinations that have room, and these alone
 abbrev pub TendenciesAcceptedClaim : Type 0
-TendenciesAcceptedClaim = (s : State) (q dh du dv dh′ du′ dv′ : List ℤ) (answer : FillAnswer)
+TendenciesAcceptedClaim = (s : State) (q dh du dv dh′ du′ dv′ : List ℤ) (answer : Answer)
     → TendenciesPromise s q dh du dv answer dh′ du′ dv′
-    → (answer ≡ FillAnswer.Done) ↔ (WithinLimits s × FieldWithin vorticityLimits (cells s) q × (cells s ≤ length dh) × (cells s ≤ length du) × (cells s ≤ length dv))
+    → (answer ≡ Answer.Accepted) ↔ (WithinLimits s × FieldWithin vorticityLimits (cells s) q × (cells s ≤ length dh) × (cells s ≤ length du) × (cells s ≤ length dv))
 
 -- it then fills in -D, Tu and Tv
 abbrev pub TendenciesClaim : Type 0
-TendenciesClaim = (s : State) (q dh du dv dh′ du′ dv′ : List ℤ) → TendenciesPromise s q dh du dv FillAnswer.Done dh′ du′ dv′
+TendenciesClaim = (s : State) (q dh du dv dh′ du′ dv′ : List ℤ) → TendenciesPromise s q dh du dv Answer.Accepted dh′ du′ dv′
     → Holds s dh′ (λ i j. negℤ (D s i j)) × Holds s du′ (tendencyU s q) × Holds s dv′ (tendencyV s q)
     × (drop (cells s) dh′ ≡ drop (cells s) dh) × (drop (cells s) du′ ≡ drop (cells s) du) × (drop (cells s) dv′ ≡ drop (cells s) dv)
 
@@ -350,8 +319,8 @@ pub record Given (s : State) (du dv : List ℤ) : Type 0 where
   pub du₀ : List ℤ
   pub dv₀ : List ℤ
   pub dh : List ℤ
-  pub vorticity : VorticityPromise s d FillAnswer.Done q
-  pub tendencies : TendenciesPromise s (take (cells s) q) dh₀ du₀ dv₀ FillAnswer.Done dh du dv
+  pub vorticity : VorticityPromise s d Answer.Accepted q
+  pub tendencies : TendenciesPromise s (take (cells s) q) dh₀ du₀ dv₀ Answer.Accepted dh du dv
 
 abbrev pub PassClaim : Type 0
 PassClaim = (base given : State) (inflow du dv : List ℤ) → given .w ≡ base .w → given .n ≡ base .n → Given given du dv
@@ -377,7 +346,7 @@ pub data Steps (inflow : List ℤ) : ℕ → State → State → Type 0 where
 abbrev pub Ended : List ℤ → ℕ → RunAnswer → State → Type 0
 Ended inflow m (RunAnswer.Refused r) t = Unit
 Ended inflow m (RunAnswer.Finished k) t = k ≡ m
-Ended inflow m (RunAnswer.Stopped k p f c) t = (k < m) × (twoPass t inflow ≡ stuck p (record { field = f; cell = c }))
+Ended inflow m (RunAnswer.Stopped k p f c) t = (k < m) × (twoPass t inflow ≡ stuck p (place f c))
 
 -- the number that a run answers is the number of definition steps that lead to the state left
 abbrev pub RunClaim : Type 0
@@ -385,18 +354,18 @@ RunClaim = (s s′ : State) (inflow work work′ : List ℤ) (m : ℕ) (answer :
     → Steps inflow (runCount answer) s s′ × Ended inflow m answer s′
 
 -- what a run takes, with nothing wrong
-abbrev pub RunTaken : State → (inflow : List ℤ) (m : ℕ) (work : List ℤ) → Type 0
-RunTaken s inflow m work = StepTaken s inflow work × (m ≤ longestRun)
+abbrev pub RunTaken : State → (inflow : List ℤ) (m room : ℕ) → Type 0
+RunTaken s inflow m room = StepTaken s inflow room × (m ≤ longestRun)
 
 -- and the other way round: a run with nothing wrong finishes exactly where each of its steps leads on, and stops with 6 after k steps
 -- exactly where k steps lead on and the next one is stuck as it tells
 pub record RunEndsClaim : Type 0 where
   pub finished : (s s′ : State) (inflow work work′ : List ℤ) (m k : ℕ)
       → RunPromise s inflow m work (RunAnswer.Finished k) s′ work′
-      ↔ (RunTaken s inflow m work × (k ≡ m) × Steps inflow m s s′ × (work′ ≡ cleared s work))
+      ↔ (RunTaken s inflow m (length work) × (k ≡ m) × Steps inflow m s s′ × (work′ ≡ cleared s work))
   pub stopped : (s s′ : State) (inflow work work′ : List ℤ) (m k p c : ℕ) (f : Field)
       → RunPromise s inflow m work (RunAnswer.Stopped k p f c) s′ work′
-      ↔ (RunTaken s inflow m work × (k < m) × Steps inflow k s s′ × (twoPass s′ inflow ≡ stuck p (record { field = f; cell = c }))
+      ↔ (RunTaken s inflow m (length work) × (k < m) × Steps inflow k s s′ × (twoPass s′ inflow ≡ stuck p (place f c))
       × (work′ ≡ cleared s work))
 
 -- a run that is not refused leaves what as many public step calls leave; where it stopped, the next one answers the 6 that it tells
@@ -518,19 +487,19 @@ EnergyRateClaim = (s : State) (dh du dv : List ℤ) (e : ℤ)
 
 -- the scaled energy rate is zero, for all three kinds, at every accepted tendency call
 abbrev pub EnergyClaim : Type 0
-EnergyClaim = (s : State) (q dh du dv dh′ du′ dv′ : List ℤ) → TendenciesPromise s q dh du dv FillAnswer.Done dh′ du′ dv′
+EnergyClaim = (s : State) (q dh du dv dh′ du′ dv′ : List ℤ) → TendenciesPromise s q dh du dv Answer.Accepted dh′ du′ dv′
     → energyRate s dh′ du′ dv′ ≡ pos 0
 
 -- the scaled enstrophy rate is zero where the grid wraps both ways: no edge is closed
 abbrev pub EnstrophyClaim : Type 0
 EnstrophyClaim = (s : State) (q dh du dv dh′ du′ dv′ : List ℤ) → OpenEverywhere s
-    → TendenciesPromise s q dh du dv FillAnswer.Done dh′ du′ dv′
+    → TendenciesPromise s q dh du dv Answer.Accepted dh′ du′ dv′
     → enstrophyRate s dh′ du′ dv′ q ≡ pos 0
 
 -- which is kind 0
 abbrev pub PeriodicEnstrophyClaim : Type 0
 PeriodicEnstrophyClaim = (s : State) (q dh du dv dh′ du′ dv′ : List ℤ) → s .kind ≡ 0
-    → TendenciesPromise s q dh du dv FillAnswer.Done dh′ du′ dv′
+    → TendenciesPromise s q dh du dv Answer.Accepted dh′ du′ dv′
     → enstrophyRate s dh′ du′ dv′ q ≡ pos 0
 
 -- over any list of step and run calls from any state, total depth answers after the list what it answered before, plus the inflow

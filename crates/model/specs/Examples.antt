@@ -9,23 +9,20 @@ use lib.ListN.{length, take, drop, replicate}
 use Rattle.model.specs.Numbers.{rnd, eqℤ, sameBy, all}
 use Rattle.model.specs.Grid.{filled}
 use Rattle.model.specs.State.{State, withFlow, cells}
-use Rattle.model.specs.Answers.{toldTest, toldFill, toldStep, toldRun, toldTotal, toldWrite, toldRead, toldCompare}
+use Rattle.model.specs.Answers.{toldAnswer, toldStep, toldRun, toldTotal, toldWrite, toldRead, toldCompare}
 use Rattle.model.specs.Scheme.{vorticity, hTendencies, uTendencies, vTendencies}
 use Rattle.model.specs.Rates.{energyRate, enstrophyRate}
 use Rattle.model.specs.Totals.{totalDepth, energy4}
 use Rattle.model.specs.Step.{stepTest, stepAnswer, stepState, Ran, runTest, runOf, workLeft}
 use Rattle.model.specs.Record.{bytes, Decoded, sameState, encode, recordLength, compareAnswer}
 use Rattle.model.specs.Program.{text, programOutput}
-use Rattle.model.specs.Promises.{testOf, testAnswer, fillAnswer, leftBy, totalTest, totalAnswer, writeAnswer, readAnswer, readInto, vorticityTest, tendenciesTest, writeTest, readOf}
+use Rattle.model.specs.Promises.{answerOf, leftBy, totalTest, totalAnswer, writeAnswer, readAnswer, readInto, vorticityTest, tendenciesTest, writeTest, readOf}
 use Rattle.model.specs.Opened.{everything}
-use Rattle.model.specs.declared.Beside.{Beside}
-use Rattle.model.specs.declared.Beside.the-variants.{Nothing, Vorticity, Inflow, Run}
 
 -- ---- an example: what a call takes, then what it answers (01's number and values) and what it leaves in each lent slice
 
 pub data Example : Type 0 where
   rounds : (a b r : ℤ) → Example
-  tests : State → Beside → (x : List ℤ) → (answer : List ℤ) → Example
   vorticities : State → (d : List ℤ) → (answer d′ : List ℤ) → Example
   tends : State → (q dh du dv : List ℤ) → (answer dh′ du′ dv′ : List ℤ) → Example
   rates : State → (q dh du dv : List ℤ) → (energy enstrophy : ℤ) → Example
@@ -55,12 +52,11 @@ ranIs r s a h u v = toldRun (r .answer) is a && stateIs s (r .state) h u v
 
 abbrev pub holds : Example → Bool
 holds (rounds a b r) = eqℤ (rnd a b) r
-holds (tests s beside x a) = toldTest (testAnswer (testOf s beside x)) is a
 holds (vorticities s d a d′) =
-    toldFill (fillAnswer (vorticityTest s (length d))) is a && leftBy (vorticityTest s (length d)) (filled (cells s) (vorticity s) d) d is d′
+    toldAnswer (answerOf (vorticityTest s (length d))) is a && leftBy (vorticityTest s (length d)) (filled (cells s) (vorticity s) d) d is d′
 holds (tends s q dh du dv a dh′ du′ dv′) =
     let t = tendenciesTest s q (length dh) (length du) (length dv) in
-    toldFill (fillAnswer t) is a
+    toldAnswer (answerOf t) is a
     && leftBy t (filled (cells s) (hTendencies s) dh) dh is dh′
     && leftBy t (filled (cells s) (uTendencies s q) du) du is du′
     && leftBy t (filled (cells s) (vTendencies s q) dv) dv is dv′
@@ -74,7 +70,7 @@ holds (runs s inflow m work a h u v work′) =
 holds (depth s a) = toldTotal (totalAnswer (totalTest s) (totalDepth s)) is a
 holds (energy s a) = toldTotal (totalAnswer (totalTest s) (energy4 s)) is a
 holds (writes s t d a d′) =
-    toldWrite (writeAnswer (writeTest s (length d)) (recordLength s)) is a
+    toldWrite (writeAnswer (recordLength s) (writeTest s (length d))) is a
     && sameBy eqb (leftBy (writeTest s (length d)) (filled (recordLength s) (encode s t) d) d) d′
 holds (reads rec h b u v a h′ b′ u′ v′) = readIs (readOf rec h b u v) h b u v a h′ b′ u′ v′
 holds (compares x y a) = toldCompare (compareAnswer x y) is a
@@ -279,19 +275,17 @@ orders =
     ∷ tends (faulty 1 (pos 1) (just (pos 1000)) (zeros 1) (zeros 1) (zeros 1)) (zeros 1) (zeros 1) [] (zeros 1) (just (pos 8)) (zeros 1) [] (zeros 1)
     ∷ tends (faulty 1 (pos 1) (just (pos 1000)) (zeros 1) (zeros 1) (zeros 1)) (zeros 1) (zeros 1) (zeros 1) [] (just (pos 8)) (zeros 1) (zeros 1) []
     ∷ writes (one (pos 2000)) 0 (replicate 55 7) (just (pos 8)) (replicate 55 7)
-    -- the tests by themselves, by what a call takes beside its state
-    ∷ tests (one (pos 2000)) Nothing [] done
-    ∷ tests (two 2 (pos 1000)) Nothing [] (pos 5 ∷ pos 2 ∷ pos 0 ∷ [])
-    ∷ tests (one (pos 2000)) Vorticity (just (pos 2000000)) done
-    ∷ tests (one (pos 2000)) Vorticity (just (pos 2000001)) (pos 4 ∷ pos 4 ∷ pos 0 ∷ [])
-    ∷ tests (one (pos 2000)) Vorticity [] (just (pos 2))
-    ∷ tests (one (pos 2000)) (Inflow 8) (zeros 1) done
-    ∷ tests (one (pos 2000)) (Inflow 7) (zeros 1) (just (pos 2))
-    ∷ tests (one (pos 2000)) (Inflow 8) (just (pos 1001)) (pos 4 ∷ pos 5 ∷ pos 0 ∷ [])
-    ∷ tests (one (pos 2000)) (Run 10000 8) (zeros 1) done
-    ∷ tests (one (pos 2000)) (Run 10001 0) [] (just (pos 1))
-    ∷ tests (one (pos 999)) (Run 10000 7) (zeros 1) (just (pos 2))
-    ∷ tests (one (pos 999)) (Run 10000 8) (just (pos 1001)) (pos 4 ∷ pos 0 ∷ pos 0 ∷ [])
+    -- a state alone, with a potential vorticity, with an inflow and a work space, and with a run length too
+    ∷ depth (one (pos 2000)) (pos 0 ∷ pos 2000 ∷ [])
+    ∷ depth (two 2 (pos 1000)) (pos 5 ∷ pos 2 ∷ pos 0 ∷ [])
+    ∷ tends (one (pos 2000)) (just (pos 2000001)) (zeros 1) (zeros 1) (zeros 1) (pos 4 ∷ pos 4 ∷ pos 0 ∷ []) (zeros 1) (zeros 1) (zeros 1)
+    ∷ tends (one (pos 2000)) [] (zeros 1) (zeros 1) (zeros 1) (just (pos 2)) (zeros 1) (zeros 1) (zeros 1)
+    ∷ steps (one (pos 2000)) (just (pos 1001)) (sevens 8) (pos 4 ∷ pos 5 ∷ pos 0 ∷ []) (just (pos 2000)) (just (pos 100)) (just (minus 50)) (zeros 8)
+    ∷ runs (one (pos 2000)) [] 10001 [] (just (pos 1)) (just (pos 2000)) (just (pos 100)) (just (minus 50)) []
+    ∷ runs (one (pos 999)) (zeros 1) 10000 (sevens 7) (just (pos 2)) (just (pos 999)) (just (pos 100)) (just (minus 50)) (sevens 7)
+    ∷ runs (one (pos 999)) (just (pos 1001)) 10000 (sevens 8) (pos 4 ∷ pos 0 ∷ pos 0 ∷ []) (just (pos 999)) (just (pos 100)) (just (minus 50)) (zeros 8)
+    -- a run of 10,000 steps is short enough: it is refused with 6, not with 1
+    ∷ runs (one (pos 100000)) (just (pos 1)) 10000 (sevens 8) (pos 6 ∷ pos 1 ∷ pos 0 ∷ pos 0 ∷ pos 0 ∷ []) (just (pos 100000)) (just (pos 100)) (just (minus 50)) (zeros 8)
     -- a channel has a wall in the south and none in the west
     ∷ depth (cell 1 (pos 1) (pos 0) (pos 1000) (pos 1000) (pos 0) (pos 1) (pos 0)) (pos 0 ∷ pos 1000 ∷ [])
     ∷ depth (cell 1 (pos 1) (pos 0) (pos 1000) (pos 1000) (pos 0) (pos 0) (pos 1)) (pos 5 ∷ pos 3 ∷ pos 0 ∷ [])

@@ -1,11 +1,13 @@
 -- Document 01 as definitions, in the order in which it is best read.
 
--- rounding, bounds and tests; the grid and its wrap; the state, its boundary and its limits
+-- rounding and bounds; the grid and its wrap; the state, its boundary and its limits
 pub mod Numbers
 pub mod Grid
 pub mod State
--- 01's number and values of each answer; the table of refusals
+-- the fields; 01's number and values of each answer; tests in order; the table of refusals
+pub mod Fields
 pub mod Answers
+pub mod Tests
 pub mod Refusals
 -- the scheme: weights, potential vorticity, tendencies; the rates that the theorems speak of; totals
 pub mod Weights

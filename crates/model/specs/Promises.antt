@@ -1,8 +1,9 @@
 -- The promises of the public calls, which their `ensures` cite. Each says, for any numbers and any lengths, what the call answers
 -- (`answers`), what that means in 01's numbers and values (`tells`), and what each lent slice holds afterwards, refused calls too.
 -- A prime marks what stands in a lent slice as the call returns. No call changes any other slice.
--- The public calls are the nine of 01 (potential vorticity, tendencies, step, run, two totals, write, read, compare), and the tests by
--- themselves. Their promises are here; that of the step program is in Program.antt. Every other `pub fn` serves a crate above it.
+-- The public calls are the nine of 01 (potential vorticity, tendencies, step, run, two totals, write, read, compare). Their promises are
+-- here; that of the step program is in Program.antt. Every other `pub fn` serves a crate above it.
+-- A call's tests stand as a list (`…Tests`); its test (`…Test`) is what this list finds first.
 use mathlib.Core.Path.{_≡_}
 use mathlib.Core.List.{List, [], _∷_}
 use mathlib.Core.Option.{Option, none, some}
@@ -11,25 +12,23 @@ use lib.IntN.{ℤ}
 use lib.ListN.{length}
 use Rattle.model.specs.Grid.{filled}
 use Rattle.model.specs.State.{State, parametersOf, cells}
-use Rattle.model.specs.Answers.{toldTest, toldFill, toldStep, toldRun, toldTotal, toldWrite, toldRead, toldCompare}
-use Rattle.model.specs.Refusals.{vorticityTaken, callTest, stateTest}
+use Rattle.model.specs.Answers.{toldAnswer, toldStep, toldRun, toldTotal, toldWrite, toldRead, toldCompare}
+use Rattle.model.specs.Tests.{Test, firstFound}
+use Rattle.model.specs.Refusals.{taken, stateTests, callTests}
 use Rattle.model.specs.Scheme.{vorticity, hTendencies, uTendencies, vTendencies}
 use Rattle.model.specs.Totals.{totalDepth, energy4}
 use Rattle.model.specs.Step.{stepTest, stepAnswer, stepState, runTest, runOf, workLeft}
 use Rattle.model.specs.Record.{Timestamp, Decoded, accepted, refused, decode, encode, recordLength, compareAnswer}
+use Rattle.model.specs.declared.Field.the-variants.{Vorticity}
 use Rattle.model.specs.declared.Refusal.{Refusal}
-use Rattle.model.specs.declared.Beside.{Beside}
-use Rattle.model.specs.declared.Beside.the-variants.{Nothing, Vorticity, Inflow, Run}
-use Rattle.model.specs.declared.TestAnswer.{TestAnswer}
-use Rattle.model.specs.declared.FillAnswer.{FillAnswer}
+use Rattle.model.specs.declared.Answer.{Answer}
 use Rattle.model.specs.declared.StepAnswer.{StepAnswer}
 use Rattle.model.specs.declared.RunAnswer.{RunAnswer}
 use Rattle.model.specs.declared.TotalAnswer.{TotalAnswer}
 use Rattle.model.specs.declared.WriteAnswer.{WriteAnswer}
 use Rattle.model.specs.declared.ReadAnswer.{ReadAnswer}
 use Rattle.model.specs.declared.CompareAnswer.{CompareAnswer}
-use Rattle.model.specs.declared.TestAnswer.the-variants as TestAnswer
-use Rattle.model.specs.declared.FillAnswer.the-variants as FillAnswer
+use Rattle.model.specs.declared.Answer.the-variants as Answer
 use Rattle.model.specs.declared.TotalAnswer.the-variants as TotalAnswer
 use Rattle.model.specs.declared.WriteAnswer.the-variants as WriteAnswer
 use Rattle.model.specs.declared.ReadAnswer.the-variants as ReadAnswer
@@ -39,51 +38,57 @@ abbrev pub leftBy : {A : Type 0} → Option Refusal → List A → List A → Li
 leftBy none new old = new
 leftBy (some r) new old = old
 
--- ---- the tests by themselves, of a state and what a call takes beside it (x is its q or inflow): 1 to 5
+abbrev pub answerOf : Option Refusal → Answer
+answerOf none = Answer.Accepted
+answerOf (some r) = Answer.Refused r
 
--- the test of each call, by what it takes
-abbrev pub testOf : State → Beside → List ℤ → Option Refusal
-testOf s Nothing x = stateTest s [] none none
-testOf s Vorticity x = stateTest s (vorticityTaken s x) none none
-testOf s (Inflow m) x = stepTest s x m
-testOf s (Run k m) x = runTest s x k m
+-- ---- calls that fill
 
-abbrev pub testAnswer : Option Refusal → TestAnswer
-testAnswer none = TestAnswer.Passed
-testAnswer (some r) = TestAnswer.Refused r
+-- a destination of such a call: the numbers that belong into its first places, and what it holds before
+pub record Filling (A : Type 0) : Type 0 where
+  pub new : List A
+  pub old : List A
 
--- It rules out, for instance: 4 told before 3; the last bad cell instead of the first.
-pub record TestPromise (s : State) (beside : Beside) (x : List ℤ) (answer : TestAnswer) : Type 0 where
-  pub answers : answer ≡ testAnswer (testOf s beside x)
-  pub tells : toldTest answer ≡ toldTest (testAnswer (testOf s beside x))
+infix 70 _into_
+abbrev pub _into_ : {A : Type 0} → List A → List A → Filling A
+new into old = record { new = new; old = old }
+
+-- what it holds afterwards
+abbrev pub filledBy : {A : Type 0} → Option Refusal → ℕ → List (Filling A) → List (List A)
+filledBy test m [] = []
+filledBy test m (d ∷ l) = leftBy test (filled m (d .new) (d .old)) (d .old) ∷ filledBy test m l
+
+-- the promise of such a call: its answer, and m places filled in each destination where its test refuses nothing; the rest as it was
+pub record Fills {B A : Type 0} (by : Option Refusal → B) (tell : B → List ℤ) (test : Option Refusal) (m : ℕ) (ds : List (Filling A)) (answer : B) (ds′ : List (List A)) : Type 0 where
+  pub answers : answer ≡ by test
+  pub tells : tell answer ≡ tell (by test)
+  pub fills : ds′ ≡ filledBy test m ds
 
 -- ---- potential vorticity, into d: 1, 2, 3, 4, 5, 8
 
-abbrev pub fillAnswer : Option Refusal → FillAnswer
-fillAnswer none = FillAnswer.Done
-fillAnswer (some r) = FillAnswer.Refused r
+abbrev pub vorticityTests : State → (room : ℕ) → List (Test Refusal)
+vorticityTests s room = callTests s [] (cells s) (room ∷ [])
 
 unfoldable pub vorticityTest : State → ℕ → Option Refusal
-vorticityTest s room = callTest s [] (cells s) (room ∷ [])
+vorticityTest s room = firstFound (vorticityTests s room)
 
 -- It rules out, for instance: q of the neighbour's corner; a refusal that has filled a part of d.
-pub record VorticityPromise (s : State) (d : List ℤ) (answer : FillAnswer) (d′ : List ℤ) : Type 0 where
-  pub answers : answer ≡ fillAnswer (vorticityTest s (length d))
-  pub tells : toldFill answer ≡ toldFill (fillAnswer (vorticityTest s (length d)))
-  pub fills : d′ ≡ leftBy (vorticityTest s (length d)) (filled (cells s) (vorticity s) d) d
+abbrev pub VorticityPromise : State → (d : List ℤ) (answer : Answer) (d′ : List ℤ) → Type 0
+VorticityPromise s d answer d′ = Fills answerOf toldAnswer (vorticityTest s (length d)) (cells s) (vorticity s into d ∷ []) answer (d′ ∷ [])
 
 -- ---- tendencies, from a lent q into dh (-D), du (Tu) and dv (Tv): 1, 2, 3, 4, 5, 8
 
+abbrev pub tendenciesTests : State → (q : List ℤ) (h u v : ℕ) → List (Test Refusal)
+tendenciesTests s q h u v = callTests s (taken s Vorticity q ∷ []) (cells s) (h ∷ u ∷ v ∷ [])
+
 unfoldable pub tendenciesTest : State → List ℤ → ℕ → ℕ → ℕ → Option Refusal
-tendenciesTest s q a b c = callTest s (vorticityTaken s q) (cells s) (a ∷ b ∷ c ∷ [])
+tendenciesTest s q h u v = firstFound (tendenciesTests s q h u v)
 
 -- It rules out: tendencies of zeros; β's weights from the edge's own cell; 8 told before 4.
-pub record TendenciesPromise (s : State) (q dh du dv : List ℤ) (answer : FillAnswer) (dh′ du′ dv′ : List ℤ) : Type 0 where
-  pub answers : answer ≡ fillAnswer (tendenciesTest s q (length dh) (length du) (length dv))
-  pub tells : toldFill answer ≡ toldFill (fillAnswer (tendenciesTest s q (length dh) (length du) (length dv)))
-  pub fills-h : dh′ ≡ leftBy (tendenciesTest s q (length dh) (length du) (length dv)) (filled (cells s) (hTendencies s) dh) dh
-  pub fills-u : du′ ≡ leftBy (tendenciesTest s q (length dh) (length du) (length dv)) (filled (cells s) (uTendencies s q) du) du
-  pub fills-v : dv′ ≡ leftBy (tendenciesTest s q (length dh) (length du) (length dv)) (filled (cells s) (vTendencies s q) dv) dv
+abbrev pub TendenciesPromise : State → (q dh du dv : List ℤ) (answer : Answer) (dh′ du′ dv′ : List ℤ) → Type 0
+TendenciesPromise s q dh du dv answer dh′ du′ dv′ =
+    Fills answerOf toldAnswer (tendenciesTest s q (length dh) (length du) (length dv)) (cells s)
+    (hTendencies s into dh ∷ uTendencies s q into du ∷ vTendencies s q into dv ∷ []) answer (dh′ ∷ du′ ∷ dv′ ∷ [])
 
 -- ---- step and run: 1 to 6. s is the state before, s′ the state after (its parameters and b are s's).
 
@@ -103,8 +108,11 @@ pub record RunPromise (s : State) (inflow : List ℤ) (m : ℕ) (work : List ℤ
 
 -- ---- totals: 1 to 5
 
+abbrev pub totalTests : State → List (Test Refusal)
+totalTests s = stateTests s [] [] []
+
 unfoldable pub totalTest : State → Option Refusal
-totalTest s = stateTest s [] none none
+totalTest s = firstFound (totalTests s)
 
 abbrev pub totalAnswer : Option Refusal → ℤ → TotalAnswer
 totalAnswer none x = TotalAnswer.Total x
@@ -121,18 +129,20 @@ pub record TotalEnergyPromise (s : State) (answer : TotalAnswer) : Type 0 where
 
 -- ---- record writer, into d: 1, 2, 3, 4, 5, 8
 
-unfoldable pub writeTest : State → ℕ → Option Refusal
-writeTest s room = callTest s [] (recordLength s) (room ∷ [])
+abbrev pub writeTests : State → (room : ℕ) → List (Test Refusal)
+writeTests s room = callTests s [] (recordLength s) (room ∷ [])
 
-abbrev pub writeAnswer : Option Refusal → ℕ → WriteAnswer
-writeAnswer none m = WriteAnswer.Written m
-writeAnswer (some r) m = WriteAnswer.Refused r
+unfoldable pub writeTest : State → ℕ → Option Refusal
+writeTest s room = firstFound (writeTests s room)
+
+abbrev pub writeAnswer : ℕ → Option Refusal → WriteAnswer
+writeAnswer m none = WriteAnswer.Written m
+writeAnswer m (some r) = WriteAnswer.Refused r
 
 -- It rules out: a field little-endian; a byte written past the record.
-pub record WritePromise (s : State) (timestamp : Timestamp) (d : List ℕ) (answer : WriteAnswer) (d′ : List ℕ) : Type 0 where
-  pub answers : answer ≡ writeAnswer (writeTest s (length d)) (recordLength s)
-  pub tells : toldWrite answer ≡ toldWrite (writeAnswer (writeTest s (length d)) (recordLength s))
-  pub fills : d′ ≡ leftBy (writeTest s (length d)) (filled (recordLength s) (encode s timestamp) d) d
+abbrev pub WritePromise : State → Timestamp → (d : List ℕ) (answer : WriteAnswer) (d′ : List ℕ) → Type 0
+WritePromise s timestamp d answer d′ =
+    Fills (writeAnswer (recordLength s)) toldWrite (writeTest s (length d)) (recordLength s) (encode s timestamp into d ∷ []) answer (d′ ∷ [])
 
 -- ---- record reader, into h, b, u, v: 7, 1, 2, 8, 3, 4, 5
 

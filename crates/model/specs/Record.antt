@@ -1,5 +1,5 @@
 -- The record: fields of a one-byte tag, a two-byte length and the value; numbers big-endian, negative ones two's complement.
-use mathlib.Core.Bool.{Bool, true, false, not, cond, _&&_}
+use mathlib.Core.Bool.{Bool, true, false, not, cond, _&&_, _||_}
 use mathlib.Core.List.{List, [], _∷_, _++_, map}
 use mathlib.Core.Option.{Option, none, some}
 use Prim.Native.Nat.{ℕ, zero, suc, _+_, _*_, _/_, _%_, _^_}
@@ -10,10 +10,11 @@ use mir.Syntax.{w16, w32}
 use mir.Val.{toZ, ofZ}
 use Rattle.model.specs.Numbers.{all, any, eqℤ, sameBy}
 use Rattle.model.specs.Grid.{tabulate}
-use Rattle.model.specs.State.{State, cells}
-use Rattle.model.specs.Refusals.{_then_, must, fieldsOf, gridTest, contentTest, roomTest}
+use Rattle.model.specs.State.{State, parametersOf, cells}
+use Rattle.model.specs.Tests.{Test, asks, found, firstFound}
+use Rattle.model.specs.Refusals.{fieldsOf, gridTest, lengthTest, roomTests, contentTests}
 use Rattle.model.specs.declared.Refusal.{Refusal}
-use Rattle.model.specs.declared.Refusal.the-variants.{Lengths, Record}
+use Rattle.model.specs.declared.Refusal.the-variants.{Record}
 use Rattle.model.specs.declared.CompareAnswer.{CompareAnswer}
 use Rattle.model.specs.declared.CompareAnswer.the-variants.{Same, FirstNewer, SecondNewer, Conflict, FirstRefused, SecondRefused}
 
@@ -43,6 +44,30 @@ signed2 l = toZ w16 (unsigned l)
 
 abbrev pub signed4 : List ℕ → ℤ
 signed4 l = toZ w32 (unsigned l)
+
+-- ---- the table of tags
+
+-- how many bytes the value of a tag has: so many, or so many a cell
+pub data Size : Type 0 where
+  fixed : ℕ → Size
+  perCell : ℕ → Size
+
+pub record TagRow : Type 0 where
+  pub tag : ℕ
+  pub size : Size
+  pub required : Bool
+
+-- tag 1: w, n, kind. 2: G, c, R. 3: the timestamp. 4 to 7: h, b, u, v
+abbrev pub tagTable : List TagRow
+tagTable =
+    record { tag = 1; size = fixed 3; required = true }
+    ∷ record { tag = 2; size = fixed 12; required = true }
+    ∷ record { tag = 3; size = fixed 8; required = true }
+    ∷ record { tag = 4; size = perCell 4; required = true }
+    ∷ record { tag = 5; size = perCell 4; required = true }
+    ∷ record { tag = 6; size = perCell 2; required = true }
+    ∷ record { tag = 7; size = perCell 2; required = true }
+    ∷ []
 
 -- ---- the writer: by rising tag
 
@@ -86,9 +111,6 @@ recordLength s = 44 + 12 * cells s
 
 -- ---- the reader: fields in any order
 
-abbrev pub tags : List ℕ
-tags = 1 ∷ 2 ∷ 3 ∷ 4 ∷ 5 ∷ 6 ∷ 7 ∷ []
-
 abbrev pub has : ℕ → List Part → Bool
 has t parts = any (λ p. eqb (p .tag) t) parts
 
@@ -108,25 +130,36 @@ abbrev pub partAt : List ℕ → ℕ → Part
 partAt rec k = record { tag = tagAt rec k; value = take (sizeAt rec k) (drop (k + 3) rec) }
 
 abbrev pub knownTag : ℕ → Bool
-knownTag t = any (eqb t) tags
+knownTag t = any (λ row. eqb t (row .tag)) tagTable
 
--- tags 1, 2 and 3 have one length
+-- a size that the table has for a tag; what it says of an unknown tag does not matter, as that is refused first
+abbrev pub sizeIn : List TagRow → ℕ → Size
+sizeIn [] t = perCell 0
+sizeIn (row ∷ l) t = cond (eqb t (row .tag)) (row .size) (sizeIn l t)
+
+-- whether it allows so many bytes, whatever the grid
+abbrev pub allows : Size → ℕ → Bool
+allows (fixed k) size = eqb size k
+allows (perCell k) size = true
+
 abbrev pub rightSize : ℕ → ℕ → Bool
-rightSize t size = cond (eqb t 1) (eqb size 3) (cond (eqb t 2) (eqb size 12) (cond (eqb t 3) (eqb size 8) true))
+rightSize t size = allows (sizeIn tagTable t) size
 
 -- 7, at the tag at offset k, past the fields found so far:
 -- 1 or 2 bytes left; unknown tag; repeated tag; value past the end; tag 1, 2, 3 of wrong length
 unfoldable pub tagTest : List ℕ → ℕ → List Part → Option Refusal
 tagTest rec k parts =
-    must (leb (k + 3) (length rec)) (Record k)
-    then must (knownTag (tagAt rec k)) (Record k)
-    then must (not (has (tagAt rec k) parts)) (Record k)
-    then must (leb (k + 3 + sizeAt rec k) (length rec)) (Record k)
-    then must (rightSize (tagAt rec k) (sizeAt rec k)) (Record k)
+    firstFound
+    (asks (leb (k + 3) (length rec)) (Record k)
+    ∷ asks (knownTag (tagAt rec k)) (Record k)
+    ∷ asks (not (has (tagAt rec k) parts)) (Record k)
+    ∷ asks (leb (k + 3 + sizeAt rec k) (length rec)) (Record k)
+    ∷ asks (rightSize (tagAt rec k) (sizeAt rec k)) (Record k)
+    ∷ [])
 
 -- 7, at the end: a tag missing
 unfoldable pub missingTest : List ℕ → List Part → Option Refusal
-missingTest rec parts = must (all (λ t. has t parts) tags) (Record (length rec))
+missingTest rec parts = found (asks (all (λ row. not (row .required) || has (row .tag) parts) tagTable) (Record (length rec)))
 
 -- the fields in the order in which they stand, or refusal 7
 pub data Walked : Type 0 where
@@ -174,16 +207,14 @@ stateIn parts =
 unfoldable pub timestampIn : List Part → Timestamp
 timestampIn parts = unsigned (valueOf 3 parts)
 
--- 2, in a record: a field's length is not that of the bytes of w·n numbers
-unfoldable pub bytesRight : State → List Part → Bool
-bytesRight s parts =
-    eqb (length (valueOf 4 parts)) (4 * cells s)
-    && eqb (length (valueOf 5 parts)) (4 * cells s)
-    && eqb (length (valueOf 6 parts)) (2 * cells s)
-    && eqb (length (valueOf 7 parts)) (2 * cells s)
+-- 2, in a record of m cells: the value of a tag has other than the bytes of m numbers
+abbrev pub bytesTest : ℕ → List ℕ → Size → List (Test Refusal)
+bytesTest m value (fixed k) = []
+bytesTest m value (perCell k) = lengthTest (k * m) (length value) ∷ []
 
-unfoldable pub bytesTest : State → List Part → Option Refusal
-bytesTest s parts = must (bytesRight s parts) Lengths
+abbrev pub bytesTests : ℕ → List Part → List TagRow → List (Test Refusal)
+bytesTests m parts [] = []
+bytesTests m parts (row ∷ l) = bytesTest m (valueOf (row .tag) parts) (row .size) ++ bytesTests m parts l
 
 -- ---- a record read: 7, then 1, 2, 8, 3, 4, 5
 
@@ -195,8 +226,12 @@ abbrev pub judged : Option Refusal → State → Timestamp → Decoded
 judged none s t = accepted s t
 judged (some r) s t = refused r
 
+abbrev pub recordTests : State → List Part → (rooms : List ℕ) → List (Test Refusal)
+recordTests s parts rooms =
+    gridTest (parametersOf s) ∷ (bytesTests (cells s) parts tagTable ++ (roomTests (cells s) rooms ++ contentTests s (fieldsOf s)))
+
 unfoldable pub recordTest : State → List Part → List ℕ → Option Refusal
-recordTest s parts rooms = gridTest s then bytesTest s parts then roomTest (cells s) rooms then contentTest s (fieldsOf s)
+recordTest s parts rooms = firstFound (recordTests s parts rooms)
 
 abbrev pub readBy : List ℕ → Walked → Decoded
 readBy rooms (damaged r) = refused r
@@ -209,7 +244,7 @@ decode rec rooms = readBy rooms (walked rec)
 -- whether the tags of a record that passes test 7 rise
 abbrev pub risingBy : Walked → Bool
 risingBy (damaged r) = false
-risingBy (whole parts) = sameBy eqb (map (λ p. p .tag) parts) tags
+risingBy (whole parts) = sameBy eqb (map (λ p. p .tag) parts) (map (λ row. row .tag) tagTable)
 
 unfoldable pub rising : List ℕ → Bool
 rising rec = risingBy (walked rec)

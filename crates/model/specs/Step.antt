@@ -1,17 +1,21 @@
 -- The two-pass step, the run, and the work space.
-use mathlib.Core.Bool.{Bool, true, false, cond}
+use mathlib.Core.Bool.{Bool, cond}
 use mathlib.Core.List.{List, [], _∷_}
 use mathlib.Core.Option.{Option, none, some}
 use Prim.Native.Nat.{ℕ, zero, suc}
+use lib.Dec.{leb}
 use lib.IntN.{ℤ, pos, _+ℤ_, _-ℤ_, _*ℤ_}
 use lib.ListN.{replicate}
 use Rattle.model.specs.Numbers.{rnd, tendencyScale}
 use Rattle.model.specs.Grid.{at, byCell, filled}
-use Rattle.model.specs.State.{State, withFlow}
-use Rattle.model.specs.Refusals.{Place, depthOf, uOf, vOf, firstOutside, inflowTaken, runLengthTest, workLength, workTest, stateTest}
+use Rattle.model.specs.State.{State, withFlow, cells}
+use Rattle.model.specs.Answers.{number}
+use Rattle.model.specs.Tests.{Test, firstFound}
+use Rattle.model.specs.Refusals.{taken, valueTests, runLengthTest, workLength, workTest, stateTests}
 use Rattle.model.specs.Scheme.{fluxU, fluxV, toEast, toNorth, vorticity, tendencyU, tendencyV}
+use Rattle.model.specs.declared.Field.{Field}
+use Rattle.model.specs.declared.Field.the-variants.{Depth, VelocityU, VelocityV, Inflow}
 use Rattle.model.specs.declared.Refusal.{Refusal}
-use Rattle.model.specs.declared.Refusal.the-variants.{Grid, Lengths, Constants, Value, ClosedEdge, Record, Destination}
 use Rattle.model.specs.declared.StepAnswer.{StepAnswer}
 use Rattle.model.specs.declared.StepAnswer.the-variants as StepAnswer
 use Rattle.model.specs.declared.RunAnswer.{RunAnswer}
@@ -51,9 +55,20 @@ pass base given inflow =
 
 -- ---- the two-pass step, of a state and an inflow that passed the tests
 
+-- a field and a cell of it
+pub record Place : Type 0 where
+  pub field : Field
+  pub cell : ℕ
+
+abbrev pub place : Field → ℕ → Place
+place f k = record { field = f; cell = k }
+
 -- 6: where a pass leaves a bound: h, u, v, then lowest cell
+abbrev pub leavesTests : State → List (Test Place)
+leavesTests s = valueTests place (taken s Depth (s .h) ∷ taken s VelocityU (s .u) ∷ taken s VelocityV (s .v) ∷ [])
+
 unfoldable pub leaves : State → Option Place
-leaves s = firstOutside (depthOf s ∷ uOf s ∷ vOf s ∷ [])
+leaves s = firstFound (leavesTests s)
 
 -- what a step comes to: the state that it leads to, or the pass and the place at which it leaves a bound
 pub data Outcome : Type 0 where
@@ -73,8 +88,12 @@ twoPass s inflow = let r = pass s s inflow in passed (leaves r) 1 (second s r in
 
 -- ---- the step call; `room` is the length of its work space
 
+-- 1 to 5, with the inflow and the work space
+abbrev pub stepTests : State → (inflow : List ℤ) (room : ℕ) → List (Test Refusal)
+stepTests s inflow room = stateTests s (taken s Inflow inflow ∷ []) [] (workTest (cells s) room ∷ [])
+
 unfoldable pub stepTest : State → List ℤ → ℕ → Option Refusal
-stepTest s inflow room = stateTest s (inflowTaken s inflow) none (workTest s room)
+stepTest s inflow room = firstFound (stepTests s inflow room)
 
 abbrev pub outcomeAnswer : Outcome → StepAnswer
 outcomeAnswer (moved t) = StepAnswer.Done
@@ -116,8 +135,11 @@ unfoldable pub runFrom : ℕ → ℕ → State → List ℤ → Ran
 runFrom zero done s inflow = record { answer = RunAnswer.Finished done; state = s }
 runFrom (suc m) done s inflow = runOn (λ t. runFrom m (suc done) t inflow) done s (twoPass s inflow)
 
+abbrev pub runTests : State → (inflow : List ℤ) (m room : ℕ) → List (Test Refusal)
+runTests s inflow m room = stateTests s (taken s Inflow inflow ∷ []) (runLengthTest m ∷ []) (workTest (cells s) room ∷ [])
+
 unfoldable pub runTest : State → List ℤ → ℕ → ℕ → Option Refusal
-runTest s inflow m room = stateTest s (inflowTaken s inflow) (runLengthTest m) (workTest s room)
+runTest s inflow m room = firstFound (runTests s inflow m room)
 
 abbrev pub runBy : Option Refusal → State → Ran → Ran
 runBy none s r = r
@@ -129,15 +151,9 @@ runOf s inflow m room = let r = runFrom m 0 s inflow in runBy (runTest s inflow 
 
 -- ---- the work space: once the length test has passed, its first 8w·n numbers are zero after the call, accepted or not
 
--- the refusals that leave everything as it was, by the table's last column
+-- 1 and 2 leave it as it was, by the table's last column
 abbrev pub leavesAll : Refusal → Bool
-leavesAll Grid = true
-leavesAll Lengths = true
-leavesAll Constants = false
-leavesAll (Value f k) = false
-leavesAll (ClosedEdge f k) = false
-leavesAll (Record k) = true
-leavesAll Destination = true
+leavesAll r = leb (number r) 2
 
 abbrev pub cleared : State → List ℤ → List ℤ
 cleared s work = filled (workLength s) (replicate (workLength s) (pos 0)) work

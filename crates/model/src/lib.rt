@@ -46,24 +46,9 @@ pub enum Refusal {
     Destination,
 }
 
-// What a call takes beside its state, which falls under refusals 1 to 5 as well: nothing (totals, potential vorticity, writer);
-// a potential vorticity (tendencies); an inflow and a work space of so many numbers (step); a run length too (run).
-pub enum Beside {
-    Nothing,
-    Vorticity,
-    Inflow { work: usize },
-    Run { steps: u64, work: usize },
-}
-
-// The answer of the tests by themselves: whether a call would refuse with 1 to 5.
-pub enum TestAnswer {
-    Passed,
-    Refused(Refusal),
-}
-
-// The answer of a call that fills lent fields: potential vorticity, and tendencies.
-pub enum FillAnswer {
-    Done,
+// The answer of tests, and of a call that fills lent fields (potential vorticity, tendencies): accepted, or the first refusal.
+pub enum Answer {
+    Accepted,
     Refused(Refusal),
 }
 

@@ -2,15 +2,13 @@
 use mathlib.Core.Path.{_≡_, refl, sym, subst, _∙_}
 use mathlib.Core.List.{List, [], _∷_}
 use lib.ListN.{length}
-use Rattle.model.specs.Grid.{filled}
-use Rattle.model.specs.State.{State, cells}
-use Rattle.model.specs.Scheme.{vorticity, hTendencies, uTendencies, vTendencies}
+use Rattle.model.specs.State.{State}
 use Rattle.model.specs.Totals.{totalDepth, energy4}
 use Rattle.model.specs.Step.{stepTest, stepAnswer, stepState, runTest, runOf, workLeft}
-use Rattle.model.specs.Record.{encode, recordLength, compareAnswer}
-use Rattle.model.specs.Promises.{testOf, testAnswer, leftBy, fillAnswer, vorticityTest, tendenciesTest, totalTest, totalAnswer, writeTest, writeAnswer, readAnswer, readInto, readOf}
+use Rattle.model.specs.Record.{compareAnswer}
+use Rattle.model.specs.Promises.{filledBy, totalTest, totalAnswer, readAnswer, readInto, readOf}
 use Rattle.model.specs.Histories.{Call, step, run, stateAfter, History, nothing, stepped, ran}
-use Rattle.model.specs.Claims.{MetClaim, FixedClaim}
+use Rattle.model.specs.Claims.{FillMet, MetClaim, FillFixed, FixedClaim}
 
 made : (s : State) (calls : List Call) → (t : State) × History s calls t
 made s [] = (s, nothing)
@@ -21,19 +19,13 @@ made s (run inflow m work ∷ calls) =
     let r = made (stateAfter s (run inflow m work)) calls in
     (r .0, ran {work′ = workLeft (runTest s inflow m (length work)) s work} {answer = runOf s inflow m (length work) .answer} (record { answers = refl; tells = refl; steps = refl; clears = refl }) (r .1))
 
+fill-met : {B A : Type 0} → FillMet B A
+fill-met by tell test m ds = (by test, filledBy test m ds, record { answers = refl; tells = refl; fills = refl })
+
 pub met : MetClaim
 met = record {
-  test = λ s beside x. (testAnswer (testOf s beside x), record { answers = refl; tells = refl });
-  vorticity = λ s d.
-      let t = vorticityTest s (length d) in (fillAnswer t, leftBy t (filled (cells s) (vorticity s) d) d, record { answers = refl; tells = refl; fills = refl });
-  tendencies = λ s q dh du dv.
-      let t = tendenciesTest s q (length dh) (length du) (length dv) in (
-        fillAnswer t,
-        leftBy t (filled (cells s) (hTendencies s) dh) dh,
-        leftBy t (filled (cells s) (uTendencies s q) du) du,
-        leftBy t (filled (cells s) (vTendencies s q) dv) dv,
-        record { answers = refl; tells = refl; fills-h = refl; fills-u = refl; fills-v = refl },
-      );
+  fill = fill-met;
+  write = fill-met;
   step = λ s inflow work. (
     stepAnswer s inflow (length work),
     stepState s inflow (length work),
@@ -48,9 +40,6 @@ met = record {
   );
   depth = λ s. (totalAnswer (totalTest s) (totalDepth s), record { answers = refl; tells = refl });
   energy = λ s. (totalAnswer (totalTest s) (energy4 s), record { answers = refl; tells = refl });
-  write = λ s t d.
-      let o = writeTest s (length d) in
-      (writeAnswer o (recordLength s), leftBy o (filled (recordLength s) (encode s t) d) d, record { answers = refl; tells = refl; fills = refl });
   read = λ rec h b u v.
       let x = readOf rec h b u v in (
         readAnswer x,
@@ -74,21 +63,17 @@ leads s t calls (nothing {s = x}) = refl
 leads s t calls (stepped {t = y} {e = z} {calls = cs} p r) = subst (λ (x : State). z ≡ after x cs) (p .steps) (leads y z cs r)
 leads s t calls (ran {t = y} {e = z} {calls = cs} p r) = subst (λ (x : State). z ≡ after x cs) (p .steps) (leads y z cs r)
 
+fill-fixed : {B A : Type 0} → FillFixed B A
+fill-fixed by tell test m ds a b x y p q = (p .answers ∙ sym (q .answers), p .fills ∙ sym (q .fills))
+
 pub fixed : FixedClaim
 fixed = record {
-  test = λ s beside x a b p q. p .answers ∙ sym (q .answers);
-  vorticity = λ s d x y a b p q. (p .answers ∙ sym (q .answers), p .fills ∙ sym (q .fills));
-  tendencies = λ s q dh du dv x y z x′ y′ z′ a b p r. (
-    p .answers ∙ sym (r .answers),
-    p .fills-h ∙ sym (r .fills-h),
-    p .fills-u ∙ sym (r .fills-u),
-    p .fills-v ∙ sym (r .fills-v),
-  );
+  fill = fill-fixed;
+  write = fill-fixed;
   step = λ s x y inflow work k l a b p q. (p .answers ∙ sym (q .answers), p .steps ∙ sym (q .steps), p .clears ∙ sym (q .clears));
   run = λ s x y inflow m work k l a b p q. (p .answers ∙ sym (q .answers), p .steps ∙ sym (q .steps), p .clears ∙ sym (q .clears));
   depth = λ s a b p q. p .answers ∙ sym (q .answers);
   energy = λ s a b p q. p .answers ∙ sym (q .answers);
-  write = λ s t d x y a b p q. (p .answers ∙ sym (q .answers), p .fills ∙ sym (q .fills));
   read = λ rec h b u v h′ b′ u′ v′ h″ b″ u″ v″ a c p q. (
     p .answers ∙ sym (q .answers),
     p .fills-h ∙ sym (q .fills-h),

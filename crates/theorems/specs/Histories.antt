@@ -7,7 +7,6 @@ use lib.IntN.{ℤ, pos, _+ℤ_, _*ℤ_, +ℤ-assoc, +ℤ-comm, +ℤ-idr, zero-*�
 use lib.ListN.{length}
 use Rattle.model.specs.Numbers.{total}
 use Rattle.model.specs.State.{State, cells, WithinLimits}
-use Rattle.model.specs.Refusals.{inflowTaken, runLengthTest, workTest, stateTest}
 use Rattle.model.specs.Step.{Outcome, moved, stuck, Ran, twoPass, outcomeAnswer, afterStep, stepTest, stepAnswerBy, stepStateBy, stepAnswer, stepState, runFrom, runTest, runBy, runOf}
 use Rattle.model.specs.Totals.{totalDepth, energy4}
 use Rattle.model.specs.Histories.{Call, step, run, inflowOf, stepCount, runCount, stepsDone, stateAfter, inflowDue, History, nothing, stepped, ran}
@@ -16,8 +15,8 @@ use Rattle.model.specs.Claims.{Steps, start, onward, raised, BalanceClaim, Tota
 use Rattle.model.specs.declared.Refusal.{Refusal}
 use Rattle.model.specs.declared.TotalAnswer.{TotalAnswer}
 use Rattle.model.specs.declared.TotalAnswer.the-variants.{Total, Refused}
-use Rattle.theorems.specs.Tests.{some≢}
-use Rattle.theorems.specs.Limits.{accepted, limits-tested}
+use Rattle.theorems.specs.Truth.{some≢}
+use Rattle.theorems.specs.Limits.{total-taken, step-taken, run-taken}
 use Rattle.theorems.specs.Runs.{run-told}
 use Rattle.theorems.specs.Stepping.{step-within, step-total, step-cells}
 
@@ -44,10 +43,6 @@ steps-linked inflow k s t e l (onward {m = m} {s = x} {t = y} {e = z} h r) =
     let d = steps-linked inflow m y z (e ∙ sym (step-cells x y inflow h)) (step-within .moves x y inflow l .0 h .1) r in
     record { inside = d .inside; balance = one-done m (total (x .h)) (total (y .h)) (total (z .h)) (total inflow) (step-total x y inflow l e h) (d .balance) }
 
--- an accepted call's inflow has a number for each cell
-inflow-long : (s : State) (inflow : List ℤ) (a b : Option Refusal) → stateTest s (inflowTaken s inflow) a b ≡ none → length inflow ≡ cells s
-inflow-long s inflow a b h = accepted .state s (inflowTaken s inflow) a b .0 h .1 .0 .long
-
 step-by : (s : State) (inflow : List ℤ) → WithinLimits s → (length inflow ≡ cells s) → (o : Outcome) → twoPass s inflow ≡ o
     → Linked s (afterStep s o) (stepCount (outcomeAnswer o)) inflow
 step-by s inflow l e (moved t) h = steps-linked inflow 1 s t e l (onward h start)
@@ -65,17 +60,14 @@ run-tested s inflow l (some x) e r h = stays s inflow l
 
 call-linked : (s : State) → WithinLimits s → (c : Call) → Linked s (stateAfter s c) (stepsDone s c) (inflowOf c)
 unfolding stepState stepAnswer stepTest runOf runTest
-call-linked s l (step inflow work) = step-tested s inflow l (stepTest s inflow (length work)) (inflow-long s inflow none (workTest s (length work)))
+call-linked s l (step inflow work) = step-tested s inflow l (stepTest s inflow (length work)) (λ e. step-taken s inflow (length work) .0 e .1 .long)
 call-linked s l (run inflow m work) =
-    run-tested s inflow l (runTest s inflow m (length work)) (inflow-long s inflow (runLengthTest m) (workTest s (length work))) (runFrom m 0 s inflow) (run-told s inflow m (length work) .0)
+    run-tested s inflow l (runTest s inflow m (length work)) (λ e. run-taken s inflow m (length work) .0 e .0 .1 .long) (runFrom m 0 s inflow) (run-told s inflow m (length work) .0)
 
 -- ---- from a state that is refused: every call refuses it
 
 abbrev Refuses : State → Type 0
 Refuses s = WithinLimits s → ⊥
-
-refuses : (s : State) → Refuses s → (inflow : List ℤ) (a b : Option Refusal) → stateTest s (inflowTaken s inflow) a b ≡ none → ⊥
-refuses s n inflow a b h = n (accepted .state s (inflowTaken s inflow) a b .0 h .0)
 
 step-refused : (s : State) (o : Outcome) (x : Option Refusal) → (x ≡ none → ⊥) → stepStateBy x s o ≡ s
 step-refused s o none n = absurd (n refl)
@@ -87,8 +79,8 @@ run-refused s r (some x) n = refl
 
 call-refused : (s : State) → Refuses s → (c : Call) → stateAfter s c ≡ s
 unfolding stepState stepTest runOf runTest
-call-refused s n (step inflow work) = step-refused s (twoPass s inflow) (stepTest s inflow (length work)) (refuses s n inflow none (workTest s (length work)))
-call-refused s n (run inflow m work) = run-refused s (runFrom m 0 s inflow) (runTest s inflow m (length work)) (refuses s n inflow (runLengthTest m) (workTest s (length work)))
+call-refused s n (step inflow work) = step-refused s (twoPass s inflow) (stepTest s inflow (length work)) (λ e. n (step-taken s inflow (length work) .0 e .0))
+call-refused s n (run inflow m work) = run-refused s (runFrom m 0 s inflow) (runTest s inflow m (length work)) (λ e. n (run-taken s inflow m (length work) .0 e .0 .0))
 
 -- ---- lists of calls
 
@@ -128,19 +120,19 @@ unmoved s calls t n (ran {s = x} {t = y} {e = z} {inflow = i} {work = k} {m = m}
 pub totals : TotalsClaim
 unfolding totalTest
 totals = record {
-  depth = λ s answer l p. p .answers ∙ ap (λ x. totalAnswer x (totalDepth s)) (limits-tested s .1 l);
-  energy = λ s answer l p. p .answers ∙ ap (λ x. totalAnswer x (energy4 s)) (limits-tested s .1 l);
+  depth = λ s answer l p. p .answers ∙ ap (λ x. totalAnswer x (totalDepth s)) (total-taken s .1 l);
+  energy = λ s answer l p. p .answers ∙ ap (λ x. totalAnswer x (energy4 s)) (total-taken s .1 l);
 }
 
 by-test : (s t : State) (calls : List Call) (before after : TotalAnswer) → History s calls t → TotalDepthPromise s before → TotalDepthPromise t after
     → (x : Option Refusal) → totalTest s ≡ x → after ≡ raised (inflowDue s calls) before
 unfolding totalTest totalDepth
 by-test s t calls before after h p q none e =
-    let l = limits-tested s .0 e in
+    let l = total-taken s .0 e in
     let b = balanced s calls t l h in
     totals .depth t after (b .inside) q ∙ ap Total (b .balance) ∙ ap (raised (inflowDue s calls)) (sym (totals .depth s before l p))
 by-test s t calls before after h p q (some r) e =
-    let n : Refuses s = λ l. some≢ (sym e ∙ limits-tested s .1 l) in
+    let n : Refuses s = λ l. some≢ (sym e ∙ total-taken s .1 l) in
     let here : before ≡ Refused r = p .answers ∙ ap (λ x. totalAnswer x (totalDepth s)) e in
     let there : after ≡ Refused r = q .answers ∙ ap (λ (x : State). totalAnswer (totalTest x) (totalDepth x)) (unmoved s calls t n h) ∙ ap (λ x. totalAnswer x (totalDepth s)) e in
     there ∙ ap (raised (inflowDue s calls)) (sym here)

@@ -1,11 +1,10 @@
 -- The proofs of the model's claims; Theorems.antt lists them all.
 
 -- tests and refusals
-pub mod Tests
+pub mod Truth
 pub mod Scans
+pub mod TestLaws
 pub mod Limits
-pub mod Tested
-pub mod Rooms
 pub mod Causes
 pub mod Fixed
 pub mod Refused

@@ -1,224 +1,238 @@
 -- Tests 1 to 5 pass exactly the states within the limits, with what else a call takes. Assumes nothing.
-use mathlib.Core.Path.{_≡_, refl}
+use mathlib.Core.Path.{_≡_, refl, sym, ap, subst, _∙_}
 use mathlib.Core.Logic.{_↔_}
-use mathlib.Core.Bool.{_&&_}
+use mathlib.Core.Bool.{Bool, true, false, not, _&&_}
 use mathlib.Core.List.{List, [], _∷_, _++_}
-use mathlib.Core.Option.{Option, none}
-use Prim.Native.Nat.{ℕ, _≤_, _<_}
-use lib.Dec.{T, leb}
-use lib.IntN.{pos}
-use Rattle.model.specs.Numbers.{within, Within, all, gravityLimits, coriolisLimits, ratioLimits, longestSide, longestRun}
-use Rattle.model.specs.Grid.{firstFrom, at}
-use Rattle.model.specs.State.{State, cells, known, boundaryOf, closedWest, closedSouth, Side, WithinLimits}
-use Rattle.model.specs.Refusals.{_then_, placed, Taken, fieldsOf, firstOutside, long, moving, gridKnown, gridTest, runLengthTest, lengthTest, workLength, workTest, constantsWithin, constantsTest, valueTest, edgeTest, roomTest, contentTest, stateTest, callTest}
-use Rattle.model.specs.Claims.{LimitsClaim, EachWithin, EachRoom, AcceptedClaim}
-use Rattle.model.specs.declared.Field.the-variants.{VelocityU, VelocityV}
+use mathlib.Core.Option.{none}
+use Prim.Native.Nat.{ℕ, _*_, _+_, _/_, _%_, _≤_, _<_}
+use native.Mathlib.Nat.{div-add-mod', mod-lt, div-lt-iff-lt-mul, mul-comm}
+use lib.Arith.{digits-lt, digits-div, digits-mod}
+use lib.Dec.{T, eqb, leb, eqb→eq}
+use lib.IntN.{ℤ, pos, negsuc}
+use lib.ListN.{length, getD}
+use lib.Signed.{leZ}
+use borrow.Author.Tests.{eq-eqb}
+use Rattle.model.specs.Numbers.{Limits, within, Within, eqℤ, gravityLimits, coriolisLimits, ratioLimits, longestSide, longestRun}
+use Rattle.model.specs.Grid.{at}
+use Rattle.model.specs.State.{State, parametersOf, cells, known, boundaryOf, closedWest, closedSouth, Side, WithinLimits}
+use Rattle.model.specs.Tests.{Test}
+use Rattle.model.specs.Refusals.{Taken, taken, fieldsOf, runLengthTest, workLength, workTest, outside, moving, gridKnown, constantsWithin, lengthTests, valueTests, edgeTests, contentTests, roomTests, stateTests, callTests}
+use Rattle.model.specs.Step.{stepTests, stepTest, runTests, runTest}
+use Rattle.model.specs.Promises.{totalTests, totalTest}
+use Rattle.model.specs.Claims.{Clean, EachPasses, LimitsClaim, EachWithin, EachRoom, AcceptedClaim, StepTaken, RunTaken}
+use Rattle.model.specs.declared.Parameters.{Parameters}
+use Rattle.model.specs.declared.Field.{Field}
+use Rattle.model.specs.declared.Field.the-variants.{Inflow}
 use Rattle.model.specs.declared.Refusal.{Refusal}
-use Rattle.model.specs.declared.Refusal.the-variants.{Grid, Lengths, Constants, Value, ClosedEdge, Destination}
-use Rattle.theorems.specs.Tests.{_⟫_, and-iff, le-iff, then-iff, must-iff, placed-iff, refused-iff, within-iff, each-iff, edge-iff}
+use Rattle.model.specs.declared.Refusal.the-variants.{Value}
+use Rattle.theorems.specs.Truth.{_⟫_, true-T, and-iff, not-iff, le-iff, eq-iff, differ}
+use Rattle.theorems.specs.TestLaws.{passes, passes-append}
 
--- ---- test by test
+-- ---- 1 and 3
 
-pub record Known (s : State) : Type 0 where
-  pub columns : Side (s .w)
-  pub rows : Side (s .n)
-  pub boundary : T (known (boundaryOf (s .kind)))
+pub record Known (p : Parameters) : Type 0 where
+  pub columns : Side (p .w)
+  pub rows : Side (p .n)
+  pub boundary : T (known (boundaryOf (p .kind)))
 
-pub known-iff : (s : State) → T (gridKnown s) ↔ Known s
+pub known-iff : (p : Parameters) → T (gridKnown p) ↔ Known p
 unfolding gridKnown
-known-iff s =
-    let a = leb 1 (s .w) in
-    let b = leb (s .w) longestSide in
-    let c = leb 1 (s .n) in
-    let d = leb (s .n) longestSide in
-    let e = known (boundaryOf (s .kind)) in (
+known-iff p =
+    let a = leb 1 (p .w) in
+    let b = leb (p .w) longestSide in
+    let c = leb 1 (p .n) in
+    let d = leb (p .n) longestSide in
+    let e = known (boundaryOf (p .kind)) in (
       λ t.
-          let p = and-iff (a && b && c && d) e .0 t in
-          let q = and-iff (a && b && c) d .0 (p .0) in
+          let x = and-iff (a && b && c && d) e .0 t in
+          let q = and-iff (a && b && c) d .0 (x .0) in
           let r = and-iff (a && b) c .0 (q .0) in
           let o = and-iff a b .0 (r .0) in
           record {
-            columns = record { some = le-iff 1 (s .w) .0 (o .0); most = le-iff (s .w) longestSide .0 (o .1) };
-            rows = record { some = le-iff 1 (s .n) .0 (r .1); most = le-iff (s .n) longestSide .0 (q .1) };
-            boundary = p .1;
+            columns = record { some = le-iff 1 (p .w) .0 (o .0); most = le-iff (p .w) longestSide .0 (o .1) };
+            rows = record { some = le-iff 1 (p .n) .0 (r .1); most = le-iff (p .n) longestSide .0 (q .1) };
+            boundary = x .1;
           },
       λ k.
-          let o = and-iff a b .1 (le-iff 1 (s .w) .1 (k .columns .some), le-iff (s .w) longestSide .1 (k .columns .most)) in
-          let r = and-iff (a && b) c .1 (o, le-iff 1 (s .n) .1 (k .rows .some)) in
-          let q = and-iff (a && b && c) d .1 (r, le-iff (s .n) longestSide .1 (k .rows .most)) in
+          let o = and-iff a b .1 (le-iff 1 (p .w) .1 (k .columns .some), le-iff (p .w) longestSide .1 (k .columns .most)) in
+          let r = and-iff (a && b) c .1 (o, le-iff 1 (p .n) .1 (k .rows .some)) in
+          let q = and-iff (a && b && c) d .1 (r, le-iff (p .n) longestSide .1 (k .rows .most)) in
           and-iff (a && b && c && d) e .1 (q, k .boundary),
     )
 
-record Constant (s : State) : Type 0 where
-  gravity : Within gravityLimits (s .G)
-  coriolis : Within coriolisLimits (s .c)
-  ratio : Within ratioLimits (s .R)
+pub within-iff : (l : Limits) (x : ℤ) → T (within l x) ↔ Within l x
+unfolding within
+within-iff l x = (
+  λ t. let p = and-iff (leZ (l .least) x) (leZ x (l .most)) .0 t in record { low = record { le = p .0 }; high = record { le = p .1 } },
+  λ w. and-iff (leZ (l .least) x) (leZ x (l .most)) .1 (w .low .le, w .high .le),
+)
 
-constant-iff : (s : State) → T (constantsWithin s) ↔ Constant s
+record Constant (p : Parameters) : Type 0 where
+  gravity : Within gravityLimits (p .g)
+  coriolis : Within coriolisLimits (p .c)
+  ratio : Within ratioLimits (p .r)
+
+constant-iff : (p : Parameters) → T (constantsWithin p) ↔ Constant p
 unfolding constantsWithin
-constant-iff s =
-    let a = within gravityLimits (s .G) in
-    let b = within coriolisLimits (s .c) in
-    let c = within ratioLimits (s .R) in
-    let i = within-iff gravityLimits (s .G) in
-    let j = within-iff coriolisLimits (s .c) in
-    let k = within-iff ratioLimits (s .R) in (
+constant-iff p =
+    let a = within gravityLimits (p .g) in
+    let b = within coriolisLimits (p .c) in
+    let c = within ratioLimits (p .r) in
+    let i = within-iff gravityLimits (p .g) in
+    let j = within-iff coriolisLimits (p .c) in
+    let k = within-iff ratioLimits (p .r) in (
       λ t.
-          let p = and-iff (a && b) c .0 t in
-          let q = and-iff a b .0 (p .0) in
-          record { gravity = i .0 (q .0); coriolis = j .0 (q .1); ratio = k .0 (p .1) },
+          let x = and-iff (a && b) c .0 t in
+          let q = and-iff a b .0 (x .0) in
+          record { gravity = i .0 (q .0); coriolis = j .0 (q .1); ratio = k .0 (x .1) },
       λ x. and-iff (a && b) c .1 (and-iff a b .1 (i .1 (x .gravity), j .1 (x .coriolis)), k .1 (x .ratio)),
     )
 
-record Still (s : State) : Type 0 where
-  west : (i j : ℕ) → i < s .w → j < s .n → T (closedWest s i j) → at (s .w) (s .u) i j ≡ pos 0
-  south : (i j : ℕ) → i < s .w → j < s .n → T (closedSouth s i j) → at (s .w) (s .v) i j ≡ pos 0
+-- ---- 2 and 4: each field is as long as it must be, and none of its numbers is outside
 
-still-iff : (s : State) → 0 < s .w → (edgeTest s ≡ none) ↔ Still s
-unfolding edgeTest
-still-iff s l =
-    let a = firstFrom (moving s closedWest (s .u)) (cells s) 0 in
-    let b = firstFrom (moving s closedSouth (s .v)) (cells s) 0 in
-    let o = refused-iff ClosedEdge (placed VelocityU a (placed VelocityV b none)) in
-    let i = edge-iff s closedWest (s .u) l in
-    let j = edge-iff s closedSouth (s .v) l in (
-      λ h.
-          let p = placed-iff VelocityU a (placed VelocityV b none) .0 (o .0 h) in
-          record { west = i .0 (p .0); south = j .0 (placed-iff VelocityV b none .0 (p .1) .0) },
-      λ k. o .1 (placed-iff VelocityU a (placed VelocityV b none) .1 (i .1 (k .west), placed-iff VelocityV b none .1 (j .1 (k .south), refl))),
+inside-iff : (f : Taken) → Clean (outside f) (f .count) ↔ ((k : ℕ) → k < f .count → Within (f .limits) (getD (f .numbers) k (pos 0)))
+inside-iff f =
+    let x : ℕ → ℤ = λ k. getD (f .numbers) k (pos 0) in
+    let i : (k : ℕ) → (outside f k ≡ false) ↔ Within (f .limits) (x k) = λ k. not-iff (within (f .limits) (x k)) ⟫ within-iff (f .limits) (x k) in
+    (λ h k l. i k .0 (h k l), λ h k l. i k .1 (h k l))
+
+pub each-iff : {R : Type 0} (r : Field → ℕ → R) (l : List Taken) → (EachPasses (lengthTests l) × EachPasses (valueTests r l)) ↔ EachWithin l
+each-iff r [] = (λ p. tt, λ p. (tt, tt))
+each-iff r (f ∷ l) =
+    let n = eq-iff (length (f .numbers)) (f .count) in (
+      λ p. (record { long = n .0 (p .0 .0); each = inside-iff f .0 (p .1 .0) }, each-iff r l .0 (p .0 .1, p .1 .1)),
+      λ e. let q = each-iff r l .1 (e .1) in ((n .1 (e .0 .long), q .0), (inside-iff f .1 (e .0 .each), q .1)),
     )
+
+-- ---- 5
+
+zero-iff : (x : ℤ) → T (eqℤ x (pos 0)) ↔ (x ≡ pos 0)
+zero-iff (pos n) = (λ t. ap pos (eqb→eq n 0 t), λ e. true-T (eq-eqb n 0 (cc e)))
+zero-iff (negsuc n) = (λ t. absurd t, λ e. differ (cc e))
+
+still-iff : (a : Bool) (x : ℤ) → (a && not (eqℤ x (pos 0)) ≡ false) ↔ (T a → x ≡ pos 0)
+still-iff true x = (λ h t. zero-iff x .0 (not-iff (eqℤ x (pos 0)) .0 h), λ h. not-iff (eqℤ x (pos 0)) .1 (zero-iff x .1 (h tt)))
+still-iff false x = (λ h t. absurd t, λ h. refl)
+
+-- a test of each index of a grid is one of each cell
+pub by-cell : {w n : ℕ} (P : ℕ → ℕ → ℕ → Type 0) → 0 < w → ((k : ℕ) → k < w * n → P k (k % w) (k / w)) ↔ ((i j : ℕ) → i < w → j < n → P (j * w + i) i j)
+by-cell {w} {n} P h = (
+  λ f i j p q. subst (λ x. P (j * w + i) x j) (digits-mod j p) (subst (λ y. P (j * w + i) ((j * w + i) % w) y) (digits-div j p) (f (j * w + i) (rw (mul-comm w n) (digits-lt q p)))),
+  λ f k l. subst (λ x. P x (k % w) (k / w)) (div-add-mod' k w) (f (k % w) (k / w) (mod-lt k h) (div-lt-iff-lt-mul h .1 (rw (mul-comm n w) l))),
+)
+
+edge-iff : (s : State) (closed : State → ℕ → ℕ → Bool) (f : List ℤ) → 0 < s .w
+    → Clean (moving s closed f) (cells s) ↔ ((i j : ℕ) → i < s .w → j < s .n → T (closed s i j) → at (s .w) f i j ≡ pos 0)
+edge-iff s closed f h =
+    let i : (k : ℕ) → (moving s closed f k ≡ false) ↔ (T (closed s (k % s .w) (k / s .w)) → getD f k (pos 0) ≡ pos 0) = λ k. still-iff (closed s (k % s .w) (k / s .w)) (getD f k (pos 0)) in
+    let c = by-cell (λ k i j. T (closed s i j) → getD f k (pos 0) ≡ pos 0) h in
+    (λ e. c .0 (λ k l. i k .0 (e k l)), λ g k l. i k .1 (c .1 g k l))
 
 -- ---- tests 1 to 5
 
-module _ (s : State) (fields : List Taken) where
-  -- tests 3 to 5
-  record Content : Type 0 where
-    constants : Constant s
-    inside : firstOutside fields ≡ none
-    still : edgeTest s ≡ none
+-- those of a state, in any order, with those of further fields
+pub record Tested (s : State) (further : List Taken) : Type 0 where
+  pub grid : T (gridKnown (parametersOf s))
+  pub lengths : EachPasses (lengthTests (fieldsOf s ++ further))
+  pub content : EachPasses (contentTests s (fieldsOf s ++ further))
 
-  content-iff : (contentTest s fields ≡ none) ↔ Content
-  unfolding contentTest constantsTest valueTest
-  content-iff =
-      let t = then-iff (constantsTest s) (valueTest fields then edgeTest s) in
-      let u = then-iff (valueTest fields) (edgeTest s) in
-      let c = must-iff (constantsWithin s) Constants ⟫ constant-iff s in
-      let v = refused-iff Value (firstOutside fields) in (
-        λ h. let p = t .0 h in let q = u .0 (p .1) in record { constants = c .0 (p .0); inside = v .0 (q .0); still = q .1 },
-        λ k. t .1 (c .1 (k .constants), u .1 (v .1 (k .inside), k .still)),
-      )
-
-pub grid-iff : (s : State) → (gridTest s ≡ none) ↔ Known s
-unfolding gridTest
-grid-iff s = must-iff (gridKnown s) Grid ⟫ known-iff s
-
-pub length-iff : (fields : List Taken) → (lengthTest fields ≡ none) ↔ T (all long fields)
-unfolding lengthTest
-length-iff fields = must-iff (all long fields) Lengths
-
--- the three parts that make a state within the limits, and its further fields
-parts-iff : (s : State) (extra : List Taken)
-    → (Known s × T (all long (fieldsOf s ++ extra)) × (contentTest s (fieldsOf s ++ extra) ≡ none)) ↔ (WithinLimits s × EachWithin extra)
-parts-iff s extra =
-    let e = each-iff (fieldsOf s ++ extra) in
-    let c = content-iff s (fieldsOf s ++ extra) in (
-      λ p.
-          let k = p .0 in
-          let o = c .0 (p .2) in
-          let f = e .0 (p .1, o .inside) in
-          let x = still-iff s (k .columns .some) .0 (o .still) in (
+pub tested-iff : (s : State) (further : List Taken) → Tested s further ↔ (WithinLimits s × EachWithin further)
+tested-iff s further =
+    let fields = fieldsOf s ++ further in
+    let e = each-iff Value fields in
+    let a = passes-append (valueTests Value fields) (edgeTests s) in
+    let k = known-iff (parametersOf s) in
+    let c = constant-iff (parametersOf s) in (
+      λ t.
+          let x = k .0 (t .grid) in
+          let y = c .0 (t .content .0) in
+          let z = a .0 (t .content .1) in
+          let f = e .0 (t .lengths, z .0) in (
             record {
-              columns = k .columns;
-              rows = k .rows;
-              boundary = k .boundary;
-              gravity = o .constants .gravity;
-              coriolis = o .constants .coriolis;
-              ratio = o .constants .ratio;
+              columns = x .columns;
+              rows = x .rows;
+              boundary = x .boundary;
+              gravity = y .gravity;
+              coriolis = y .coriolis;
+              ratio = y .ratio;
               depths = f .0;
               bottoms = f .1 .0;
               us = f .1 .1 .0;
               vs = f .1 .1 .1 .0;
-              still-west = x .west;
-              still-south = x .south;
+              still-west = edge-iff s closedWest (s .u) (x .columns .some) .0 (z .1 .0);
+              still-south = edge-iff s closedSouth (s .v) (x .columns .some) .0 (z .1 .1 .0);
             },
             f .1 .1 .1 .1,
           ),
       λ p.
           let l = p .0 in
-          let f = e .1 (l .depths, (l .bottoms, (l .us, (l .vs, p .1)))) in (
-            record { columns = l .columns; rows = l .rows; boundary = l .boundary },
-            f .0,
-            c .1
-                (record {
-                  constants = record { gravity = l .gravity; coriolis = l .coriolis; ratio = l .ratio };
-                  inside = f .1;
-                  still = still-iff s (l .columns .some) .1 (record { west = l .still-west; south = l .still-south });
-                }),
-          ),
+          let f = e .1 (l .depths, (l .bottoms, (l .us, (l .vs, p .1)))) in
+          let w = edge-iff s closedWest (s .u) (l .columns .some) .1 (l .still-west) in
+          let v = edge-iff s closedSouth (s .v) (l .columns .some) .1 (l .still-south) in
+          record {
+            grid = k .1 (record { columns = l .columns; rows = l .rows; boundary = l .boundary });
+            lengths = f .0;
+            content = (c .1 (record { gravity = l .gravity; coriolis = l .coriolis; ratio = l .ratio }), a .1 (f .1, (w, (v, tt))));
+          },
     )
 
-accepted-iff : (s : State) (extra : List Taken) (run work : Option Refusal) → (stateTest s extra run work ≡ none) ↔ (WithinLimits s × EachWithin extra × (run ≡ none) × (work ≡ none))
-unfolding stateTest
-accepted-iff s extra run work =
-    let fields = fieldsOf s ++ extra in
-    let t1 = then-iff (gridTest s) (run then lengthTest fields then work then contentTest s fields) in
-    let t2 = then-iff run (lengthTest fields then work then contentTest s fields) in
-    let t3 = then-iff (lengthTest fields) (work then contentTest s fields) in
-    let t4 = then-iff work (contentTest s fields) in (
-      λ h.
-          let p = t1 .0 h in
-          let q = t2 .0 (p .1) in
-          let r = t3 .0 (q .1) in
-          let o = t4 .0 (r .1) in
-          let x = parts-iff s extra .0 (grid-iff s .0 (p .0), length-iff fields .0 (r .0), o .1) in
-          (x .0, x .1, q .0, o .0),
+accepted-iff : (s : State) (further : List Taken) (run work : List (Test Refusal))
+    → EachPasses (stateTests s further run work) ↔ (WithinLimits s × EachWithin further × EachPasses run × EachPasses work)
+accepted-iff s further run work =
+    let fields = fieldsOf s ++ further in
+    let i = tested-iff s further in
+    let a = passes-append run (lengthTests fields ++ (work ++ contentTests s fields)) in
+    let b = passes-append (lengthTests fields) (work ++ contentTests s fields) in
+    let c = passes-append work (contentTests s fields) in (
       λ p.
-          let x = parts-iff s extra .1 (p .0, p .1) in
-          t1 .1 (grid-iff s .1 (x .0), t2 .1 (p .2, t3 .1 (length-iff fields .1 (x .1), t4 .1 (p .3, x .2)))),
+          let x = a .0 (p .1) in
+          let y = b .0 (x .1) in
+          let z = c .0 (y .1) in
+          let t = i .0 (record { grid = p .0; lengths = y .0; content = z .1 }) in
+          (t .0, t .1, x .0, z .0),
+      λ p. let t = i .1 (p .0, p .1) in (t .grid, a .1 (p .2, b .1 (t .lengths, c .1 (p .3, t .content)))),
     )
 
 pub limits-tested : LimitsClaim
-limits-tested s = (λ h. accepted-iff s [] none none .0 h .0, λ l. accepted-iff s [] none none .1 (l, tt, refl, refl))
-
--- a record's tests are these in another order
-pub grid-passes : (s : State) → WithinLimits s → gridTest s ≡ none
-grid-passes s l = grid-iff s .1 (parts-iff s [] .1 (l, tt) .0)
-
-pub content-passes : (s : State) → WithinLimits s → contentTest s (fieldsOf s) ≡ none
-content-passes s l = parts-iff s [] .1 (l, tt) .2
-
-pub within-of : (s : State) → gridTest s ≡ none → T (all long (fieldsOf s)) → contentTest s (fieldsOf s) ≡ none → WithinLimits s
-within-of s g n c = parts-iff s [] .0 (grid-iff s .0 g, n, c) .0
+limits-tested s = (λ h. accepted-iff s [] [] [] .0 h .0, λ l. accepted-iff s [] [] [] .1 (l, tt, tt, tt))
 
 -- ---- destinations
 
-pub rooms-iff : (m : ℕ) (l : List ℕ) → T (all (λ room. leb m room) l) ↔ EachRoom m l
+pub rooms-iff : (m : ℕ) (l : List ℕ) → EachPasses (roomTests m l) ↔ EachRoom m l
 rooms-iff m [] = (λ t. tt, λ t. tt)
-rooms-iff m (a ∷ l) =
-    let i = and-iff (leb m a) (all (λ room. leb m room) l) in
-    (λ t. let p = i .0 t in (le-iff m a .0 (p .0), rooms-iff m l .0 (p .1)), λ r. i .1 (le-iff m a .1 (r .0), rooms-iff m l .1 (r .1)))
+rooms-iff m (a ∷ l) = (λ p. (le-iff m a .0 (p .0), rooms-iff m l .0 (p .1)), λ r. (le-iff m a .1 (r .0), rooms-iff m l .1 (r .1)))
 
-pub room-iff : (m : ℕ) (l : List ℕ) → (roomTest m l ≡ none) ↔ EachRoom m l
-unfolding roomTest
-room-iff m l = must-iff (all (λ room. leb m room) l) Destination ⟫ rooms-iff m l
-
-call-iff : (s : State) (extra : List Taken) (m : ℕ) (l : List ℕ) → (callTest s extra m l ≡ none) ↔ (WithinLimits s × EachWithin extra × EachRoom m l)
-unfolding callTest
-call-iff s extra m l =
-    let t = then-iff (stateTest s extra none none) (roomTest m l) in
-    let a = accepted-iff s extra none none in (
-      λ h. let p = t .0 h in let b = a .0 (p .0) in (b .0, b .1, room-iff m l .0 (p .1)),
-      λ p. t .1 (a .1 (p .0, p .1, refl, refl), room-iff m l .1 (p .2)),
+call-iff : (s : State) (further : List Taken) (m : ℕ) (l : List ℕ)
+    → EachPasses (callTests s further m l) ↔ (WithinLimits s × EachWithin further × EachRoom m l)
+call-iff s further m l =
+    let t = passes-append (stateTests s further [] []) (roomTests m l) in
+    let a = accepted-iff s further [] [] in (
+      λ h. let p = t .0 h in let b = a .0 (p .0) in (b .0, b .1, rooms-iff m l .0 (p .1)),
+      λ p. t .1 (a .1 (p .0, p .1, tt, tt), rooms-iff m l .1 (p .2)),
     )
 
 pub accepted : AcceptedClaim
 accepted = record { state = accepted-iff; call = call-iff }
 
--- the same test by test, for a step or run
-pub work-iff : (s : State) (m : ℕ) → (workTest s m ≡ none) ↔ (workLength s ≤ m)
-unfolding workTest
-work-iff s m = must-iff (leb (workLength s) m) Lengths ⟫ le-iff (workLength s) m
+-- ---- totals, step and run
 
-pub run-length-iff : (m : ℕ) → (runLengthTest m ≡ none) ↔ (m ≤ longestRun)
-unfolding runLengthTest
-run-length-iff m = must-iff (leb m longestRun) Grid ⟫ le-iff m longestRun
+pub total-taken : (s : State) → (totalTest s ≡ none) ↔ WithinLimits s
+unfolding totalTest
+total-taken s = passes (totalTests s) ⟫ limits-tested s
+
+pub step-taken : (s : State) (inflow : List ℤ) (room : ℕ) → (stepTest s inflow room ≡ none) ↔ StepTaken s inflow room
+unfolding stepTest
+step-taken s inflow room =
+    let a = passes (stepTests s inflow room) ⟫ accepted-iff s (taken s Inflow inflow ∷ []) [] (workTest (cells s) room ∷ []) in
+    let k = le-iff (workLength s) room in
+    (λ e. let b = a .0 e in (b .0, b .1 .0, k .0 (b .3 .0)), λ b. a .1 (b .0, (b .1, tt), tt, (k .1 (b .2), tt)))
+
+pub run-taken : (s : State) (inflow : List ℤ) (m room : ℕ) → (runTest s inflow m room ≡ none) ↔ RunTaken s inflow m room
+unfolding runTest
+run-taken s inflow m room =
+    let a = passes (runTests s inflow m room) ⟫ accepted-iff s (taken s Inflow inflow ∷ []) (runLengthTest m ∷ []) (workTest (cells s) room ∷ []) in
+    let k = le-iff (workLength s) room in
+    let l = le-iff m longestRun in (
+      λ e. let b = a .0 e in ((b .0, b .1 .0, k .0 (b .3 .0)), l .0 (b .2 .0)),
+      λ b. a .1 (b .0 .0, (b .0 .1, tt), (l .1 (b .1), tt), (k .1 (b .0 .2), tt)),
+    )

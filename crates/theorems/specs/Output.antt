@@ -25,7 +25,7 @@ use Rattle.model.specs.declared.StepAnswer.{StepAnswer}
 use Rattle.model.specs.declared.StepAnswer.the-variants as StepAnswer
 use Rattle.integers.specs.Laws.{abs-add}
 use Rattle.integers.specs.Magnitudes.{depth-size, velocity-size}
-use Rattle.theorems.specs.Tests.{differ}
+use Rattle.theorems.specs.Truth.{differ}
 use Rattle.theorems.specs.Rewrite.{decoded-within}
 use Rattle.theorems.specs.Stepping.{step-leaves}
 

@@ -7,11 +7,10 @@ use lib.IntN.{pos}
 use lib.ListN.{length, getD, replicate}
 use Rattle.model.specs.Numbers.{Within, inflowLimits}
 use Rattle.model.specs.State.{FieldWithin, cells}
-use Rattle.model.specs.Refusals.{inflowTaken, workTest}
 use Rattle.model.specs.Step.{stepTest}
 use Rattle.model.specs.Program.{programWork}
 use Rattle.model.specs.Claims.{ProgramClaim}
-use Rattle.theorems.specs.Limits.{accepted, work-iff}
+use Rattle.theorems.specs.Limits.{step-taken}
 use Rattle.theorems.specs.Rewrite.{decoded-within}
 
 calm-long : (m : ℕ) → length (replicate m (pos 0)) ≡ m
@@ -31,8 +30,7 @@ calm : (m : ℕ) → FieldWithin inflowLimits m (replicate m (pos 0))
 calm m = record { long = calm-long m; each = λ k l. subst (Within inflowLimits) (sym (calm-at m k)) zero-within }
 
 pub program-steps : ProgramClaim
-unfolding stepTest
 program-steps input s t h =
     let d = decoded-within input _ s t h in
     let room : cells s ≤ 1024 = d .1 .0 in
-    accepted .state s (inflowTaken s (replicate (cells s) (pos 0))) none (workTest s programWork) .1 (d .0, (calm (cells s), tt), refl, work-iff s programWork .1 (omega arith))
+    step-taken s (replicate (cells s) (pos 0)) programWork .1 (d .0, calm (cells s), omega arith)

@@ -11,7 +11,7 @@ use Rattle.model.specs.State.{State, boundaryOf, closedWest, closedSouth, Withi
 use Rattle.model.specs.Scheme.{toWest, toSouth, fluxU, fluxV, D, B, corner, Tu, Tv, tendencyU, tendencyV}
 use Rattle.model.specs.Rates.{energyRate, vorticityTendency, D4, enstrophyRate}
 use Rattle.model.specs.Claims.{EnergyClaim, EnstrophyClaim, PeriodicEnstrophyClaim}
-use Rattle.model.specs.declared.FillAnswer.the-variants.{Done}
+use Rattle.model.specs.declared.Answer.the-variants.{Accepted}
 use Rattle.grid.specs.Sums.{grid-cong}
 use Rattle.theorems.specs.Conservation.{energy-law, enstrophy-law}
 use Rattle.theorems.specs.Filling.{tendencies-accepted, tendencies-fill}
@@ -33,7 +33,7 @@ no-flux-v s l i j p q c = no-flux (at (s .w) (s .v) i j) (at (s .w) (s .h) i (to
 pub energy-zero : EnergyClaim
 unfolding energyRate D tendencyU tendencyV Tu Tv
 energy-zero s q dh du dv dh′ du′ dv′ p =
-    let l = tendencies-accepted s q dh du dv dh′ du′ dv′ Done p .0 refl .0 in
+    let l = tendencies-accepted s q dh du dv dh′ du′ dv′ Accepted p .0 refl .0 in
     let f = tendencies-fill s q dh du dv dh′ du′ dv′ p in
     grid-cong (s .w) (s .n) (λ i j a b.
     λ k.

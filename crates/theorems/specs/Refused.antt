@@ -1,43 +1,38 @@
 -- What a refused call leaves, and what every step and run leaves in its work space. Assumes nothing.
-use mathlib.Core.Path.{_≡_, refl, sym, subst, _∙_}
-use mathlib.Core.Bool.{Bool, true, false}
-use mathlib.Core.List.{List, _++_}
+use mathlib.Core.Path.{_≡_, refl, sym, ap, subst, _∙_}
+use mathlib.Core.Bool.{cond}
+use mathlib.Core.List.{List, [], _∷_, _++_}
 use mathlib.Core.Option.{Option, none, some}
 use Prim.Native.Nat.{ℕ, zero, suc, _≤_}
-use native.Mathlib.Omega.{arith}
-use lib.Dec.{leb, lit≤}
+use lib.Dec.{leb, le→leb, lit≤}
 use lib.IntN.{ℤ}
 use lib.ListN.{length}
-use Rattle.model.specs.Grid.{firstFrom}
-use Rattle.model.specs.State.{State, cells, closedWest, closedSouth}
-use Rattle.model.specs.Numbers.{all, longestRun}
+use borrow.Author.Tests.{lt-leb}
+use Rattle.model.specs.State.{State, cells}
 use Rattle.model.specs.Answers.{number}
-use Rattle.model.specs.Refusals.{_then_, must, Place, placed, refusedAt, moving, Taken, fieldsOf, inflowTaken, firstOutside, long, gridKnown, gridTest, runLengthTest, lengthTest, workLength, workTest, constantsWithin, constantsTest, valueTest, edgeTest, contentTest, stateTest}
-use Rattle.model.specs.Step.{Outcome, moved, stuck, twoPass, stepTest, stepAnswerBy, stepStateBy, stepAnswer, stepState, Ran, runOn, runFrom, runTest, runBy, runOf, workLeft}
+use Rattle.model.specs.Tests.{Test}
+use Rattle.model.specs.Refusals.{Taken, taken, fieldsOf, runLengthTest, workTest, lengthTests, valueTests, stateTests}
+use Rattle.model.specs.Step.{Outcome, moved, stuck, twoPass, stepTests, stepTest, stepAnswerBy, stepStateBy, stepAnswer, stepState, Ran, runOn, runFrom, runTests, runTest, runBy, runOf, cleared, workLeft}
 use Rattle.model.specs.Record.{Decoded, accepted, refused}
-use Rattle.model.specs.Promises.{leftBy, fillAnswer, vorticityTest, tendenciesTest, writeTest, writeAnswer, readAnswer, readInto, readOf}
-use Rattle.model.specs.Claims.{RefusedClaim, WorkClaim, RefusedWork, StepWork, RunWork}
+use Rattle.model.specs.Promises.{readAnswer, readInto, readOf}
+use Rattle.model.specs.Claims.{FillRefused, RefusedClaim, WorkClaim, RefusedWork, StepWork, RunWork}
 use Rattle.model.specs.declared.Field.{Field}
-use Rattle.model.specs.declared.Field.the-variants.{VelocityU, VelocityV}
+use Rattle.model.specs.declared.Field.the-variants.{Inflow}
 use Rattle.model.specs.declared.Refusal.{Refusal}
-use Rattle.model.specs.declared.Refusal.the-variants.{Grid, Lengths, Constants, Value, ClosedEdge, Record, Destination}
+use Rattle.model.specs.declared.Refusal.the-variants.{Value}
 use Rattle.model.specs.declared.RunAnswer.{RunAnswer}
-use Rattle.model.specs.declared.FillAnswer.the-variants as FillAnswer
 use Rattle.model.specs.declared.StepAnswer.the-variants as StepAnswer
 use Rattle.model.specs.declared.RunAnswer.the-variants as RunAnswer
-use Rattle.model.specs.declared.WriteAnswer.the-variants as WriteAnswer
 use Rattle.model.specs.declared.ReadAnswer.the-variants as ReadAnswer
-use Rattle.theorems.specs.Tests.{differ}
+use Rattle.theorems.specs.Truth.{T-true, differ}
+use Rattle.theorems.specs.TestLaws.{Only, EachOnly, only-append, found-only}
+use Rattle.theorems.specs.Causes.{kept}
 
 -- ---- destinations
 
-fill-refused : {A : Type 0} {r : Refusal} (o : Option Refusal) (new old : List A) → FillAnswer.Refused r ≡ fillAnswer o → leftBy o new old ≡ old
-fill-refused none new old h = differ (cc h)
-fill-refused (some x) new old h = refl
-
-write-refused : {r : Refusal} (m : ℕ) (o : Option Refusal) (new old : List ℕ) → WriteAnswer.Refused r ≡ writeAnswer o m → leftBy o new old ≡ old
-write-refused m none new old h = differ (cc h)
-write-refused m (some x) new old h = refl
+fill-refused : {B A : Type 0} → FillRefused B A
+fill-refused by tell none m ds a ds′ n p = absurd (n (p .answers))
+fill-refused by tell (some r) m ds a ds′ n p = p .fills ∙ kept r m ds
 
 read-refused : {r : Refusal} (f : State → List ℤ) (x : Decoded) (d : List ℤ) → ReadAnswer.Refused r ≡ readAnswer x → readInto f x d ≡ d
 read-refused f (accepted s t) d h = differ (cc h)
@@ -73,14 +68,11 @@ run-refused s (some y) q n h = refl
 pub refused-leaves : RefusedClaim
 unfolding stepState stepAnswer runOf
 refused-leaves = record {
-  vorticity = λ s d d′ r p. p .fills ∙ fill-refused (vorticityTest s (length d)) _ d (p .answers);
-  tendencies = λ s q dh du dv dh′ du′ dv′ r p.
-      let t = tendenciesTest s q (length dh) (length du) (length dv) in
-      (p .fills-h ∙ fill-refused t _ dh (p .answers), p .fills-u ∙ fill-refused t _ du (p .answers), p .fills-v ∙ fill-refused t _ dv (p .answers));
+  fill = fill-refused;
+  write = fill-refused;
   step = λ s s′ inflow work work′ r p. p .steps ∙ step-refused s (twoPass s inflow) (stepTest s inflow (length work)) (p .answers);
   step-6 = λ s s′ inflow work work′ a k f p. p .steps ∙ step-out s (twoPass s inflow) (stepTest s inflow (length work)) (p .answers);
   run = λ s s′ inflow work work′ m r p. p .steps ∙ run-refused s (runTest s inflow m (length work)) (runFrom m 0 s inflow) (ran (λ a. RunAnswer.Refused r ≡ a → ⊥) (λ k h. differ (cc h)) (λ k p f c h. differ (cc h)) m 0 s inflow) (p .answers);
-  write = λ s t d d′ r p. p .fills ∙ write-refused _ (writeTest s (length d)) _ d (p .answers);
   read = λ rec h b u v h′ b′ u′ v′ r p.
       let x = readOf rec h b u v in (
         p .fills-h ∙ read-refused (λ s. s .h) x h (p .answers),
@@ -92,65 +84,44 @@ refused-leaves = record {
 
 -- ---- the work space
 
--- a row of tests refuses with none but what one of them refuses with
-abbrev Only : (Refusal → Type 0) → Option Refusal → Type 0
-Only Q none = Unit
-Only Q (some r) = Q r
-
-then-only : (Q : Refusal → Type 0) (a b : Option Refusal) → Only Q a → Only Q b → Only Q (a then b)
-then-only Q none b p q = q
-then-only Q (some r) b p q = p
-
-must-only : (Q : Refusal → Type 0) (t : Bool) (r : Refusal) → Q r → Only Q (must t r)
-must-only Q true r q = tt
-must-only Q false r q = q
-
-at-only : (Q : Refusal → Type 0) (f : Field → ℕ → Refusal) (o : Option Place) → ((x : Field) (k : ℕ) → Q (f x k)) → Only Q (refusedAt f o)
-at-only Q f none q = tt
-at-only Q f (some p) q = q (p .field) (p .cell)
-
 abbrev UpTo5 : Refusal → Type 0
 UpTo5 r = number r ≤ 5
 
-edge-only : (s : State) → Only UpTo5 (edgeTest s)
-unfolding edgeTest
-edge-only s =
-    at-only UpTo5 ClosedEdge (placed VelocityU (firstFrom (moving s closedWest (s .u)) (cells s) 0) (placed VelocityV (firstFrom (moving s closedSouth (s .v)) (cells s) 0) none)) (λ x k. lit≤ tt)
+lengths-only : (l : List Taken) → EachOnly UpTo5 (lengthTests l)
+lengths-only [] = tt
+lengths-only (f ∷ l) = (lit≤ tt, lengths-only l)
 
-state-only : (s : State) (extra : List Taken) (run work : Option Refusal) → Only UpTo5 run → Only UpTo5 work → Only UpTo5 (stateTest s extra run work)
-unfolding stateTest contentTest gridTest lengthTest constantsTest valueTest
-state-only s extra run work p q =
-    let fields = fieldsOf s ++ extra in
-    then-only UpTo5 (gridTest s) _ (must-only UpTo5 (gridKnown s) Grid (lit≤ tt))
-    (then-only UpTo5 run _ p
-    (then-only UpTo5 (lengthTest fields) _ (must-only UpTo5 (all long fields) Lengths (lit≤ tt))
-    (then-only UpTo5 work _ q
-    (then-only UpTo5 (constantsTest s) _ (must-only UpTo5 (constantsWithin s) Constants (lit≤ tt))
-    (then-only UpTo5 (valueTest fields) _ (at-only UpTo5 Value (firstOutside fields) (λ x k. lit≤ tt))
-    (edge-only s))))))
+values-only : (l : List Taken) → EachOnly UpTo5 (valueTests Value l)
+values-only [] = tt
+values-only (f ∷ l) = (λ k. lit≤ tt, values-only l)
 
-work-only : (s : State) (room : ℕ) → Only UpTo5 (workTest s room)
-unfolding workTest
-work-only s room = must-only UpTo5 (leb (workLength s) room) Lengths (lit≤ tt)
+state-only : (s : State) (further : List Taken) (run work : List (Test Refusal)) → EachOnly UpTo5 run → EachOnly UpTo5 work
+    → EachOnly UpTo5 (stateTests s further run work)
+state-only s further run work p q =
+    let fields = fieldsOf s ++ further in (
+      lit≤ tt,
+      only-append UpTo5 run _ p
+          (only-append UpTo5 (lengthTests fields) _ (lengths-only fields)
+          (only-append UpTo5 work _ q
+          (lit≤ tt, only-append UpTo5 (valueTests Value fields) _ (values-only fields) (λ k. lit≤ tt, (λ k. lit≤ tt, tt))))),
+    )
 
 step-only : (s : State) (inflow : List ℤ) (room : ℕ) → Only UpTo5 (stepTest s inflow room)
 unfolding stepTest
-step-only s inflow room = state-only s (inflowTaken s inflow) none (workTest s room) tt (work-only s room)
+step-only s inflow room = found-only UpTo5 (stepTests s inflow room) (state-only s (taken s Inflow inflow ∷ []) [] (workTest (cells s) room ∷ []) tt (lit≤ tt, tt))
 
 run-only : (s : State) (inflow : List ℤ) (m room : ℕ) → Only UpTo5 (runTest s inflow m room)
-unfolding runTest runLengthTest
-run-only s inflow m room = state-only s (inflowTaken s inflow) (runLengthTest m) (workTest s room) (must-only UpTo5 (leb m longestRun) Grid (lit≤ tt)) (work-only s room)
+unfolding runTest
+run-only s inflow m room = found-only UpTo5 (runTests s inflow m room) (state-only s (taken s Inflow inflow ∷ []) (runLengthTest m ∷ []) (workTest (cells s) room ∷ []) (lit≤ tt, tt) (lit≤ tt, tt))
 
 -- what each of them leaves
 refused-work : (r : Refusal) (s : State) (work : List ℤ) → UpTo5 r → RefusedWork r s work (workLeft (some r) s work)
 unfolding workLeft
-refused-work Grid s work h = (h, λ l. refl, λ l. absurd (omega arith))
-refused-work Lengths s work h = (h, λ l. refl, λ l. absurd (omega arith))
-refused-work Constants s work h = (h, λ l. absurd (omega arith), λ l. refl)
-refused-work (Value f k) s work h = (h, λ l. absurd (omega arith), λ l. refl)
-refused-work (ClosedEdge f k) s work h = (h, λ l. absurd (omega arith), λ l. refl)
-refused-work (Record k) s work h = absurd (omega arith)
-refused-work Destination s work h = absurd (omega arith)
+refused-work r s work h = (
+  h,
+  λ l. ap (λ b. cond b work (cleared s work)) (T-true (leb (number r) 2) (le→leb (number r) 2 l)),
+  λ l. ap (λ b. cond b work (cleared s work)) (lt-leb (number r) 2 l),
+)
 
 step-work : (s : State) (work : List ℤ) (x : Option Refusal) (o : Outcome) → Only UpTo5 x → StepWork (stepAnswerBy x o) s work (workLeft x s work)
 unfolding workLeft

@@ -10,29 +10,18 @@ use lib.IntN.{ℤ}
 use lib.ListN.{length}
 use Rattle.model.specs.State.{State}
 use Rattle.model.specs.Answers.{toldRun}
-use Rattle.model.specs.Refusals.{inflowTaken, runLengthTest, workTest}
-use Rattle.model.specs.Step.{moved, stuck, Ran, twoPass, runOn, runFrom, runTest, runBy, runOf, workLeft, cleared}
+use Rattle.model.specs.Step.{place, moved, stuck, Ran, twoPass, runOn, runFrom, runTest, runBy, runOf, workLeft, cleared}
 use Rattle.model.specs.Promises.{RunPromise}
-use Rattle.model.specs.Claims.{RunTaken, Steps, start, onward, RunEndsClaim}
+use Rattle.model.specs.Claims.{Steps, start, onward, RunEndsClaim}
 use Rattle.model.specs.declared.Field.{Field}
 use Rattle.model.specs.declared.Refusal.{Refusal}
 use Rattle.model.specs.declared.RunAnswer.{RunAnswer}
 use Rattle.model.specs.declared.RunAnswer.the-variants as RunAnswer
-use Rattle.theorems.specs.Tests.{differ}
-use Rattle.theorems.specs.Limits.{accepted, work-iff, run-length-iff}
+use Rattle.theorems.specs.Truth.{differ}
+use Rattle.theorems.specs.Limits.{run-taken}
 use Rattle.theorems.specs.Runs.{run-counts}
 
 -- ---- nothing wrong
-
-taken-iff : (s : State) (inflow : List ℤ) (m : ℕ) (work : List ℤ) → (runTest s inflow m (length work) ≡ none) ↔ RunTaken s inflow m work
-unfolding runTest
-taken-iff s inflow m work =
-    let a = accepted .state s (inflowTaken s inflow) (runLengthTest m) (workTest s (length work)) in
-    let k = work-iff s (length work) in
-    let l = run-length-iff m in (
-      λ e. let b = a .0 e in ((b .0, b .1 .0, k .0 (b .3)), l .0 (b .2)),
-      λ b. a .1 (b .0 .0, (b .0 .1, tt), l .1 (b .1), k .1 (b .0 .2)),
-    )
 
 finished-passed : (o : Option Refusal) (s : State) (x : Ran) (k : ℕ) → RunAnswer.Finished k ≡ runBy o s x .answer → o ≡ none
 finished-passed none s x k e = refl
@@ -78,7 +67,7 @@ run-finished inflow m s t r = ap (λ z. runFrom z 0 s inflow) (whole m) ∙ run-
     plain : (m : ℕ) → 0 + m ≡ m
     plain m = omega arith
 
-run-stopped : (inflow : List ℤ) (m k p c : ℕ) (f : Field) (s t : State) → k < m → Steps inflow k s t → twoPass t inflow ≡ stuck p (record { field = f; cell = c })
+run-stopped : (inflow : List ℤ) (m k p c : ℕ) (f : Field) (s t : State) → k < m → Steps inflow k s t → twoPass t inflow ≡ stuck p (place f c)
     → runFrom m 0 s inflow ≡ ended (RunAnswer.Stopped k p f c) t
 unfolding runFrom
 run-stopped inflow m k p c f s t l r e =
@@ -114,17 +103,17 @@ run-ends = record {
     λ p.
         let e = finished-passed (runTest s inflow m (length work)) s (runFrom m 0 s inflow) k (p .answers) in
         let c = run-counts s s′ inflow work work′ m (RunAnswer.Finished k) p in
-        (taken-iff s inflow m work .0 e, c .1, subst (λ j. Steps inflow j s s′) (c .1) (c .0), p .clears ∙ ap (λ o. workLeft o s work) e),
+        (run-taken s inflow m (length work) .0 e, c .1, subst (λ j. Steps inflow j s s′) (c .1) (c .0), p .clears ∙ ap (λ o. workLeft o s work) e),
     λ b.
         subst (λ j. RunPromise s inflow m work (RunAnswer.Finished j) s′ work′) (sym (b .1))
-        (run-is s s′ inflow m work work′ (RunAnswer.Finished m) (taken-iff s inflow m work .1 (b .0)) (run-finished inflow m s s′ (b .2)) (b .3)),
+        (run-is s s′ inflow m work work′ (RunAnswer.Finished m) (run-taken s inflow m (length work) .1 (b .0)) (run-finished inflow m s s′ (b .2)) (b .3)),
   );
   stopped = λ s s′ inflow work work′ m k p c f. (
     λ q.
         let e = stopped-passed (runTest s inflow m (length work)) s (runFrom m 0 s inflow) k p c f (q .answers) in
         let d = run-counts s s′ inflow work work′ m (RunAnswer.Stopped k p f c) q in
-        (taken-iff s inflow m work .0 e, d .1 .0, d .0, d .1 .1, q .clears ∙ ap (λ o. workLeft o s work) e),
+        (run-taken s inflow m (length work) .0 e, d .1 .0, d .0, d .1 .1, q .clears ∙ ap (λ o. workLeft o s work) e),
     λ b.
-        run-is s s′ inflow m work work′ (RunAnswer.Stopped k p f c) (taken-iff s inflow m work .1 (b .0)) (run-stopped inflow m k p c f s s′ (b .1) (b .2) (b .3)) (b .4),
+        run-is s s′ inflow m work work′ (RunAnswer.Stopped k p f c) (run-taken s inflow m (length work) .1 (b .0)) (run-stopped inflow m k p c f s s′ (b .1) (b .2) (b .3)) (b .4),
   );
 }

@@ -11,12 +11,15 @@ use lib.ListN.{length, take}
 use Rattle.model.specs.Numbers.{rnd, total, all}
 use Rattle.model.specs.Grid.{at, byCell}
 use Rattle.model.specs.State.{State, cells, closedWest, closedSouth, WithinLimits}
-use Rattle.model.specs.Refusals.{Place, Taken, depthOf, uOf, vOf, long}
+use Rattle.model.specs.Refusals.{Taken, taken, lengthTests}
 use Rattle.model.specs.Scheme.{vorticity, Tu, Tv, tendencyU, tendencyV}
-use Rattle.model.specs.Step.{X, Y, newDepth, newU, newV, pass, leaves, Outcome, moved, stuck, passed, second, twoPass, afterStep, stepTest, stepStateBy, stepState}
-use Rattle.model.specs.Claims.{Given, PassClaim, StepClaim}
+use Rattle.model.specs.Step.{Place, place, leavesTests, X, Y, newDepth, newU, newV, pass, leaves, Outcome, moved, stuck, passed, second, twoPass, afterStep, stepTest, stepStateBy, stepState}
+use Rattle.model.specs.Claims.{EachPasses, Given, PassClaim, StepClaim}
 use Rattle.model.specs.declared.Refusal.{Refusal}
-use Rattle.theorems.specs.Tests.{and-iff, eq-iff, each-iff, differ}
+use Rattle.model.specs.declared.Field.the-variants.{Depth, VelocityU, VelocityV}
+use Rattle.theorems.specs.Truth.{eq-iff, differ}
+use Rattle.theorems.specs.TestLaws.{passes}
+use Rattle.theorems.specs.Limits.{each-iff}
 use Rattle.grid.specs.Fields.{length-byCell, at-byCell}
 use Rattle.theorems.specs.Filling.{tendencies-fill, vorticity-fill}
 use Rattle.integers.specs.Rounding.{rnd-zero}
@@ -104,22 +107,22 @@ module _ (s g : State) (q : List ℤ) (same : SameWalls g s) (l : WithinLimits s
   rests-south t = closed-rest (at (s .w) (s .v) i j) (Tv g q i j) (pos 3145728 *ℤ g .R) (closedSouth g i j) (l .still-south i j p r t) (subst T (sym (same .south i j)) t)
 
 -- what a pass gives has a number for each cell
-long-by : (w n : ℕ) (f : ℕ → ℕ → ℤ) (l : Bool) → T l → T (eqb (length (byCell w n f)) (w * n) && l)
-long-by w n f l t = and-iff (eqb (length (byCell w n f)) (w * n)) l .1 (eq-iff (length (byCell w n f)) (w * n) .1 (length-byCell w n f), t)
-
 abbrev stepped : State → List Taken
-stepped r = depthOf r ∷ uOf r ∷ vOf r ∷ []
+stepped r = taken r Depth (r .h) ∷ taken r VelocityU (r .u) ∷ taken r VelocityV (r .v) ∷ []
 
-pass-long : (s g : State) (inflow : List ℤ) → T (all long (stepped (pass s g inflow)))
+pass-long : (s g : State) (inflow : List ℤ) → EachPasses (lengthTests (stepped (pass s g inflow)))
 unfolding pass
-pass-long s g inflow = long-by (s .w) (s .n) (newDepth g s inflow) _ (long-by (s .w) (s .n) (newU g s (vorticity g)) _ (long-by (s .w) (s .n) (newV g s (vorticity g)) true tt))
+pass-long s g inflow = (long (newDepth g s inflow), (long (newU g s (vorticity g)), (long (newV g s (vorticity g)), tt)))
+  where
+    long : (f : ℕ → ℕ → ℤ) → T (eqb (length (byCell (s .w) (s .n) f)) (s .w * s .n))
+    long f = eq-iff (length (byCell (s .w) (s .n) f)) (s .w * s .n) .1 (length-byCell (s .w) (s .n) f)
 
 -- a pass from a state within the limits, with the tendencies of a state that has the same walls, keeps the limits where it leaves no bound
 pass-within : (s g : State) (inflow : List ℤ) → SameWalls g s → WithinLimits s → leaves (pass s g inflow) ≡ none → WithinLimits (pass s g inflow)
 unfolding pass leaves
 pass-within s g inflow same l h =
     let q = vorticity g in
-    let e = each-iff (stepped (pass s g inflow)) .0 (pass-long s g inflow, h) in
+    let e = each-iff place (stepped (pass s g inflow)) .0 (pass-long s g inflow, passes (leavesTests (pass s g inflow)) .0 h) in
     record {
       columns = l .columns;
       rows = l .rows;
@@ -142,7 +145,7 @@ first-within s inflow l h = pass-within s s inflow (record { west = λ i j. refl
 -- and leaves no bound where it keeps them
 none-left : (r : State) → WithinLimits r → leaves r ≡ none
 unfolding leaves
-none-left r l = each-iff (stepped r) .1 (l .depths, (l .us, (l .vs, tt))) .1
+none-left r l = passes (leavesTests r) .1 (each-iff place (stepped r) .1 (l .depths, (l .us, (l .vs, tt))) .1)
 
 by-passes : (s : State) (inflow : List ℤ) (a b : Option Place) → leaves (pass s s inflow) ≡ a → leaves (pass s (pass s s inflow) inflow) ≡ b
     → twoPass s inflow ≡ passed a 1 (passed b 2 (moved (pass s (pass s s inflow) inflow)))

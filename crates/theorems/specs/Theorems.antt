@@ -1,9 +1,10 @@
 -- Every theorem. `theorems` has each claim of the model, proved. Assumes nothing.
-use Rattle.model.specs.Claims.{LimitsClaim, AcceptedClaim, ScanClaim, TestClaim, RoomClaim, CallCausesClaim, ReadCausesClaim, MetClaim, FixedClaim, RefusedClaim, WorkClaim, RoundingClaim, OwnVorticityClaim, VorticityClaim, TendenciesAcceptedClaim, TendenciesClaim, PassClaim, StepClaim, RunClaim, RunEndsClaim, RunStepsClaim, TotalsClaim, RoundTripClaim, ReadClaim, ProgramClaim, OutputClaim, RewriteClaim, AnyOrderClaim, CompareClaim, EnergyRateClaim, EnergyClaim, EnstrophyClaim, PeriodicEnstrophyClaim, BalanceClaim, KeptClaim}
+use Rattle.model.specs.Claims.{LimitsClaim, AcceptedClaim, ScanClaim, TestClaim, CausesClaim, ReadCausesClaim, MetClaim, FixedClaim, RefusedClaim, WorkClaim, RoundingClaim, OwnVorticityClaim, VorticityClaim, TendenciesAcceptedClaim, TendenciesClaim, PassClaim, StepClaim, RunClaim, RunEndsClaim, RunStepsClaim, TotalsClaim, RoundTripClaim, ReadClaim, ProgramClaim, OutputClaim, RewriteClaim, AnyOrderClaim, CompareClaim, EnergyRateClaim, EnergyClaim, EnstrophyClaim, PeriodicEnstrophyClaim, BalanceClaim, KeptClaim}
+use Rattle.model.specs.Step.{Place}
+use Rattle.model.specs.declared.Refusal.{Refusal}
 use Rattle.theorems.specs.Limits.{limits-tested, accepted}
 use Rattle.theorems.specs.Scans.{scan}
-use Rattle.theorems.specs.Tested.{tests}
-use Rattle.theorems.specs.Rooms.{rooms}
+use Rattle.theorems.specs.TestLaws.{tests}
 use Rattle.theorems.specs.Causes.{causes}
 use Rattle.theorems.specs.ReadCauses.{read-causes}
 use Rattle.theorems.specs.Fixed.{met, fixed}
@@ -35,9 +36,9 @@ pub record Theorems : Type 0 where
   pub limits : LimitsClaim
   pub accepted : AcceptedClaim
   pub scan : ScanClaim
-  pub tests : TestClaim
-  pub rooms : RoomClaim
-  pub call-causes : CallCausesClaim
+  pub tests : TestClaim Refusal
+  pub places : TestClaim Place
+  pub causes : CausesClaim
   pub read-causes : ReadCausesClaim
   pub met : MetClaim
   pub fixed : FixedClaim
@@ -77,8 +78,8 @@ theorems =
       accepted = accepted;
       scan = scan;
       tests = tests;
-      rooms = rooms;
-      call-causes = causes;
+      places = tests;
+      causes = causes;
       read-causes = read-causes;
       met = met;
       fixed = fixed;
