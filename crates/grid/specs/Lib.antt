@@ -1,7 +1,8 @@
 -- sums over the grid, the shift law, and polynomial sums over the torus by computation
 pub mod Sums
 pub mod Torus
--- cells and neighbours; fields filled cell by cell; loops that write a list, and parts of a work space; loops that scan
+-- where walls can stand; cells and neighbours; fields filled cell by cell; loops that write a list, and parts of a work space; loops that scan
+pub mod Walls
 pub mod Cells
 pub mod Stencils
 pub mod Fields

@@ -1,5 +1,5 @@
 -- A scan by rows and columns that leaves out what cannot be bad. Assumes nothing.
-use mathlib.Core.Path.{_≡_, refl, sym, ap, subst, _∙_}
+use mathlib.Core.Path.{_≡_, sym, ap, subst, _∙_}
 use mathlib.Core.Bool.{false, not, _&&_}
 use mathlib.Core.List.{List}
 use mathlib.Core.Option.{none}
@@ -7,21 +7,17 @@ use Prim.Native.Nat.{ℕ, zero, suc, _+_, _-_, _*_, _≤_, _<_}
 use native.Mathlib.Nat.{mul-comm, mul-le-mul-right, le-refl, suc-mul}
 use native.Mathlib.Numerals.{add-one}
 use native.Mathlib.Omega.{arith}
-use lib.Dec.{eqb}
 use lib.IntN.{ℤ, pos}
 use lib.ListN.{getD}
-use borrow.Author.Tests.{ne-eqb}
 use Rattle.model.specs.Numbers.{eqℤ}
 use Rattle.model.specs.Grid.{firstFrom}
-use Rattle.model.specs.State.{wallWest, wallSouth}
-use Rattle.model.specs.declared.Boundary.the-variants.{Periodic, Channel, Basin}
-use Rattle.model.specs.declared.BoundaryByte.{BoundaryByte}
-use Rattle.model.specs.declared.BoundaryByte.the-variants.{Known, Unknown}
+use Rattle.model.specs.State.{closedWest, closedSouth}
+use Rattle.model.specs.declared.Parameters.{Parameters}
 use Rattle.grid.specs.Cells.{by-index}
 use Rattle.grid.specs.Scanning.{Scanned, scanned-at, scanned-past, scanned-all}
-use Rattle.faults.specs.Faults.{badAt, badIn, ColumnsOf, RowsOf}
-use Rattle.faults.specs.declared.Fault.{Fault}
-use Rattle.faults.specs.declared.Fault.the-variants.{West, South}
+use Rattle.tests.specs.Faults.{bare, badAt, badIn, ColumnsOf, RowsOf}
+use Rattle.tests.specs.declared.Fault.{Fault}
+use Rattle.tests.specs.declared.Fault.the-variants.{West, South}
 
 module _ (t : Fault) (w n : ℕ) (f : List ℤ) where
   -- cell (i, j) is not bad, whatever its number
@@ -58,24 +54,9 @@ all-columns t w = record { most = le-refl w; rest = λ x i j a b. absurd (omega 
 pub all-rows : (t : Fault) (n : ℕ) → RowsOf t n n
 all-rows t n = record { most = le-refl n; rest = λ x i j a b. absurd (omega arith) }
 
--- a wall stands along the first column, or the first row, alone
-past-first : {i : ℕ} → 1 ≤ i → eqb i 0 ≡ false
-past-first {i} h = ne-eqb i 0 (λ e. omega arith)
+-- a fault of an edge is none where no edge can be closed
+pub west-columns : {t : Fault} {p : Parameters} {w r : ℕ} → t ≡ West p → r ≤ w → ((i j : ℕ) → r ≤ i → i < w → closedWest (bare p) i j ≡ false) → ColumnsOf t w r
+west-columns {w = w} {r} q h e = subst (λ t. ColumnsOf t w r) (sym q) (record { most = h; rest = λ x i j a b. ap (λ c. c && not (eqℤ x (pos 0))) (e i j a b) })
 
-west-first : (e : BoundaryByte) {i : ℕ} → 1 ≤ i → wallWest e i ≡ false
-west-first (Known Periodic) h = refl
-west-first (Known Channel) h = refl
-west-first (Known Basin) h = past-first h
-west-first Unknown h = refl
-
-south-first : (e : BoundaryByte) {j : ℕ} → 1 ≤ j → wallSouth e j ≡ false
-south-first (Known Periodic) h = refl
-south-first (Known Channel) h = past-first h
-south-first (Known Basin) h = past-first h
-south-first Unknown h = refl
-
-pub west-column : {t : Fault} {e : BoundaryByte} {w : ℕ} → t ≡ West e → 1 < w → ColumnsOf t w 1
-west-column {e = e} {w} q h = subst (λ t. ColumnsOf t w 1) (sym q) (record { most = omega arith; rest = λ x i j a b. ap (λ c. c && not (eqℤ x (pos 0))) (west-first e a) })
-
-pub south-row : {t : Fault} {e : BoundaryByte} {n : ℕ} → t ≡ South e → 1 < n → RowsOf t n 1
-south-row {e = e} {n} q h = subst (λ t. RowsOf t n 1) (sym q) (record { most = omega arith; rest = λ x i j a b. ap (λ c. c && not (eqℤ x (pos 0))) (south-first e a) })
+pub south-rows : {t : Fault} {p : Parameters} {n r : ℕ} → t ≡ South p → r ≤ n → ((i j : ℕ) → r ≤ j → j < n → closedSouth (bare p) i j ≡ false) → RowsOf t n r
+south-rows {n = n} {r} q h e = subst (λ t. RowsOf t n r) (sym q) (record { most = h; rest = λ x i j a b. ap (λ c. c && not (eqℤ x (pos 0))) (e i j a b) })

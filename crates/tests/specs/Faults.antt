@@ -1,41 +1,37 @@
--- The test of a cell, and the tests of a field's cells in order.
+-- What can be wrong with a cell, and the test of a field's cells.
 use mathlib.Core.Path.{_≡_}
 use mathlib.Core.Bool.{Bool, false, not, _&&_}
-use mathlib.Core.List.{List}
+use mathlib.Core.List.{List, []}
 use mathlib.Core.Option.{Option, none, some}
 use Prim.Native.Nat.{ℕ, _*_, _/_, _%_, _≤_, _<_}
 use lib.IntN.{ℤ, pos}
 use lib.ListN.{getD}
-use Rattle.model.specs.Numbers.{Limits, within, eqℤ, depthLimits, bottomLimits, velocityLimits, vorticityLimits, inflowLimits}
-use Rattle.model.specs.Grid.{firstFrom}
-use Rattle.model.specs.State.{wallWest, wallSouth}
-use Rattle.model.specs.Refusals.{placed, refusedAt}
+use Rattle.model.specs.Numbers.{within, eqℤ}
+use Rattle.model.specs.State.{State, stateOf, closedWest, closedSouth}
+use Rattle.model.specs.Tests.{Test, seeks}
+use Rattle.model.specs.declared.Parameters.{Parameters}
+use Rattle.model.specs.declared.Answer.{Answer}
+use Rattle.model.specs.declared.Answer.the-variants as Answer
 use Rattle.model.specs.declared.Field.{Field}
-use Rattle.model.specs.declared.Field.the-variants.{Depth, Bottom, VelocityU, VelocityV, Vorticity, Inflow}
 use Rattle.model.specs.declared.Refusal.{Refusal}
 use Rattle.model.specs.declared.Refusal.the-variants.{Value, ClosedEdge}
 use Rattle.integers.specs.Ranges.{between}
-use Rattle.faults.specs.declared.Fault.{Fault}
-use Rattle.faults.specs.declared.Fault.the-variants.{Outside, West, South}
-use Rattle.faults.specs.declared.Found.{Found}
-use Rattle.faults.specs.declared.Found.the-variants.{At, Nowhere}
-
--- the model's limits of a field
-abbrev pub limitsOf : Field → Limits
-limitsOf Depth = depthLimits
-limitsOf Bottom = bottomLimits
-limitsOf VelocityU = velocityLimits
-limitsOf VelocityV = velocityLimits
-limitsOf Vorticity = vorticityLimits
-limitsOf Inflow = inflowLimits
+use Rattle.tests.specs.declared.Fault.{Fault}
+use Rattle.tests.specs.declared.Fault.the-variants.{Outside, West, South}
+use Rattle.tests.specs.declared.Found.{Found}
+use Rattle.tests.specs.declared.Found.the-variants.{At, Nowhere}
 
 -- ---- a cell
+
+-- whether an edge is closed goes by the parameters alone: no field has a say in it
+abbrev pub bare : Parameters → State
+bare p = stateOf p [] [] [] []
 
 -- whether cell (i, j), with number x, is bad
 abbrev pub badAt : Fault → ℤ → ℕ → ℕ → Bool
 badAt (Outside l) x i j = not (within (between l) x)
-badAt (West e) x i j = wallWest e i && not (eqℤ x (pos 0))
-badAt (South e) x i j = wallSouth e j && not (eqℤ x (pos 0))
+badAt (West p) x i j = closedWest (bare p) i j && not (eqℤ x (pos 0))
+badAt (South p) x i j = closedSouth (bare p) i j && not (eqℤ x (pos 0))
 
 -- the same of the cell with index k of a field f of w columns
 abbrev pub badIn : Fault → ℕ → List ℤ → ℕ → Bool
@@ -54,13 +50,18 @@ abbrev pub foundBy : Option ℕ → Found
 foundBy none = Nowhere
 foundBy (some k) = At k
 
--- ---- cells in order
+-- ---- the test of a field's cells
 
 -- the refusal that a bad cell makes
 abbrev pub refusalBy : Fault → Field → ℕ → Refusal
 refusalBy (Outside l) = Value
-refusalBy (West e) = ClosedEdge
-refusalBy (South e) = ClosedEdge
+refusalBy (West p) = ClosedEdge
+refusalBy (South p) = ClosedEdge
 
-unfoldable pub cellTest : ℕ → ℕ → List ℤ → Field → Fault → Option Refusal
-cellTest w n f field t = refusedAt (refusalBy t) (placed field (firstFrom (badIn t w f) (w * n) 0) none)
+abbrev pub cellTest : ℕ → ℕ → List ℤ → Field → Fault → Test Refusal
+cellTest w n f field t = seeks (badIn t w f) (w * n) (refusalBy t field)
+
+-- what it answers, by what its scan found
+abbrev pub answerBy : (ℕ → Refusal) → Found → Answer
+answerBy r Nowhere = Answer.Accepted
+answerBy r (At k) = Answer.Refused (r k)

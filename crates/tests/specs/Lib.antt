@@ -1,2 +1,2 @@
--- a cell's test, and the tests of a field's cells
 pub mod Faults
+pub mod Links

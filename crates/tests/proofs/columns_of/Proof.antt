@@ -1,8 +1,8 @@
--- `faults::columns_of` meets its contract. Assumes nothing.
+-- `tests::columns_of` meets its contract. Assumes nothing.
 use borrow.Author.Needs.{needs}
-use Rattle.faults.proofs.ScanLaws.{all-columns, west-column}
-use Rattle.faults.proofs.columns_of.Statement.{statement}
-use Rattle.faults.proofs.columns_of.Tie as tie
+use Rattle.tests.proofs.ScanLaws.{all-columns, west-columns}
+use Rattle.tests.proofs.columns_of.Statement.{statement}
+use Rattle.tests.proofs.columns_of.Tie as tie
 
 pub columns-of-spec : {M : Type 1} → statement M
 columns-of-spec =

@@ -1,4 +1,4 @@
--- `faults::first_bad` meets its contract: the loops have passed the cells before (i, j). Assumes nothing.
+-- `tests::first_bad` meets its contract: the loops have passed the cells before (i, j). Assumes nothing.
 use mathlib.Core.Path.{_≡_, refl, sym, ap, _∙_}
 use Prim.Native.Nat.{_+_, _*_, _-_, _≤_, _<_, zero-le}
 use native.Mathlib.Nat.{zero-mul}
@@ -9,11 +9,11 @@ use mir.Syntax.{w64}
 use Rattle.integers.specs.Bounds.{held-is}
 use Rattle.grid.specs.Cells.{cell-lt, by-index}
 use Rattle.grid.specs.Scanning.{Scanned, scanned-none, scanned-at, scanned-more, scanned-bad}
-use Rattle.faults.specs.Faults.{badAt, badIn, foundBy}
-use Rattle.faults.specs.declared.Found.the-variants.{Nowhere}
-use Rattle.faults.proofs.ScanLaws.{row-scanned, rows-scanned}
-use Rattle.faults.proofs.first_bad.Statement.{statement}
-use Rattle.faults.proofs.first_bad.Tie as tie
+use Rattle.tests.specs.Faults.{badAt, badIn, foundBy}
+use Rattle.tests.specs.declared.Found.the-variants.{Nowhere}
+use Rattle.tests.proofs.ScanLaws.{row-scanned, rows-scanned}
+use Rattle.tests.proofs.first_bad.Statement.{statement}
+use Rattle.tests.proofs.first_bad.Tie as tie
 
 abbrev Inv-loop : tie.InvT-loop
 Inv-loop w n f t columns rows found₀ j i₀ found i = (i ≤ columns) × (found ≡ Nowhere) × Scanned (badIn t w f) (w * n) (j * w + i)

@@ -1,13 +1,13 @@
--- `faults::is_bad` meets its contract. A fault of a wall is two tests joined by `&&`: it holds where both do, and fails where the first
+-- `tests::is_bad` meets its contract. A fault of a wall is two tests joined by `&&`: it holds where both do, and fails where the first
 -- fails. Each of the five returns is one of these cases. Assumes nothing.
 use mathlib.Core.Path.{ap}
 use mathlib.Core.Bool.{not}
 use borrow.Author.Needs.{needs}
 use mir.Facts.{toZ-ofZ}
 use Rattle.integers.specs.Bounds.{zero-bits}
-use Rattle.faults.proofs.Truth.{and-holds, and-fails}
-use Rattle.faults.proofs.is_bad.Statement.{statement}
-use Rattle.faults.proofs.is_bad.Tie as tie
+use Rattle.tests.proofs.AndLaws.{and-holds, and-fails}
+use Rattle.tests.proofs.is_bad.Statement.{statement}
+use Rattle.tests.proofs.is_bad.Tie as tie
 
 returns : tie.Need-returns
 returns c = cc (toZ-ofZ (c .before .before .before .before .fits .x))

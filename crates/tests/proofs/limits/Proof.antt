@@ -1,8 +1,8 @@
--- `faults::limits` meets its contract. Assumes nothing.
+-- `tests::limits` meets its contract. Assumes nothing.
 use borrow.Author.Needs.{needs}
 use Rattle.model.specs.Numbers.{depthLimits, bottomLimits, velocityLimits, vorticityLimits, inflowLimits}
-use Rattle.faults.proofs.limits.Statement.{statement}
-use Rattle.faults.proofs.limits.Tie as tie
+use Rattle.tests.proofs.limits.Statement.{statement}
+use Rattle.tests.proofs.limits.Tie as tie
 
 pub limits-spec : {M : Type 1} → statement M
 unfolding depthLimits bottomLimits velocityLimits vorticityLimits inflowLimits

@@ -1,9 +1,9 @@
--- `faults::refusal_of` meets its contract. Assumes nothing.
+-- `tests::refusal_of` meets its contract. Assumes nothing.
 use mathlib.Core.Path.{sym, ap}
 use borrow.Author.Needs.{needs}
-use Rattle.faults.specs.Faults.{refusalBy}
-use Rattle.faults.proofs.refusal_of.Statement.{statement}
-use Rattle.faults.proofs.refusal_of.Tie as tie
+use Rattle.tests.specs.Faults.{refusalBy}
+use Rattle.tests.proofs.refusal_of.Statement.{statement}
+use Rattle.tests.proofs.refusal_of.Tie as tie
 
 pub refusal-of-spec : {M : Type 1} → statement M
 refusal-of-spec =

@@ -1,8 +1,8 @@
--- `faults::rows_of` meets its contract. Assumes nothing.
+-- `tests::rows_of` meets its contract. Assumes nothing.
 use borrow.Author.Needs.{needs}
-use Rattle.faults.proofs.ScanLaws.{all-rows, south-row}
-use Rattle.faults.proofs.rows_of.Statement.{statement}
-use Rattle.faults.proofs.rows_of.Tie as tie
+use Rattle.tests.proofs.ScanLaws.{all-rows, south-rows}
+use Rattle.tests.proofs.rows_of.Statement.{statement}
+use Rattle.tests.proofs.rows_of.Tie as tie
 
 pub rows-of-spec : {M : Type 1} → statement M
 rows-of-spec =

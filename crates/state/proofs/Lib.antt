@@ -1,2 +1,0 @@
--- tests in order; a scan under way
-pub mod TestLaws

@@ -1,2 +1,0 @@
--- one test after another
-pub mod InOrder
