@@ -10,7 +10,7 @@ use lib.IntN.{ℤ}
 use lib.ListN.{length, length-append}
 use borrow.Author.Tests.{eqb-true, eqb-false, ne-eqb}
 use Rattle.model.specs.State.{State}
-use Rattle.model.specs.Record.{Part, joined, has, valueOf, whole, unless, walked, stateIn, timestampIn, bytesRight, bytesTest, recordTest, judged, readBy, decode}
+use Rattle.model.specs.Record.{Part, joined, has, valueOf, whole, unless, walked, stateIn, timestampIn, recordTest, judged, readBy, decode}
 use Rattle.model.specs.Answers.{toldRead}
 use Rattle.model.specs.Promises.{readAnswer, readInto, readOf, ReadPromise}
 use Rattle.model.specs.Claims.{Among, WholeIn, Bytes, Reordered, empty, ahead, swap, chain, AnyOrderClaim}
@@ -113,7 +113,7 @@ module _ (a b : List Part) (v : (t : ℕ) → valueOf t b ≡ valueOf t a) where
   same-timestamp = rw (v 3)
 
   same-test : (s : State) (rooms : List ℕ) → recordTest s b rooms ≡ recordTest s a rooms
-  unfolding recordTest bytesTest bytesRight
+  unfolding recordTest
   same-test s rooms = rw (v 4, v 5, v 6, v 7)
 
   same-read : (rooms : List ℕ) → readBy rooms (whole b) ≡ readBy rooms (whole a)

@@ -16,7 +16,7 @@ use Rattle.model.specs.Claims.{CompareClaim, BothAre, swapped}
 use Rattle.model.specs.declared.Refusal.{Refusal}
 use Rattle.model.specs.declared.CompareAnswer.{CompareAnswer}
 use Rattle.model.specs.declared.CompareAnswer.the-variants.{Same, FirstNewer, SecondNewer, Conflict, FirstRefused, SecondRefused}
-use Rattle.theorems.specs.Tests.{_⟫_, and-iff, true-T, T-true, same-by, by-same, differ}
+use Rattle.theorems.specs.Truth.{_⟫_, and-iff, true-T, T-true, same-by, by-same, differ}
 
 -- ---- the same state
 

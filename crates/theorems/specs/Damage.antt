@@ -2,23 +2,22 @@
 use mathlib.Core.Path.{_≡_, refl, sym, ap, subst, _∙_}
 use mathlib.Core.Logic.{_↔_, _⊎_, inl, inr, ⊎-elim}
 use mathlib.Core.Bool.{Bool, true, false, not, cond, _&&_, _||_}
-use mathlib.Core.List.{List, [], _∷_, _++_}
+use mathlib.Core.List.{List, [], _∷_, _++_, map}
 use mathlib.Core.Option.{Option, none, some}
-use Prim.Native.Nat.{ℕ, zero, suc, _+_, _≤_, _<_, zero-le}
-use native.Mathlib.Nat.{le-refl}
+use Prim.Native.Nat.{ℕ, zero, suc, _+_, _≤_, _<_, zero-le, suc-le-suc}
+use native.Mathlib.Nat.{le-refl, eq-or-lt-of-le, lt-of-not-le, le-of-suc-le-suc}
 use native.Mathlib.Omega.{arith}
 use lib.Dec.{T, eqb, leb, eqb-refl, lit<, lit≤}
 use lib.ListN.{length}
 use borrow.Author.Tests.{leb-true, leb-false, eqb-true, eqb-false, lt-leb, ne-eqb}
 use Rattle.model.specs.Numbers.{all, any}
-use Rattle.model.specs.Refusals.{_then_, must}
-use Rattle.model.specs.Record.{Part, tags, has, tagAt, sizeAt, partAt, knownTag, rightSize, tagTest, missingTest, Walked, damaged, whole, unless, walk, walked}
+use Rattle.model.specs.Tests.{_then_, must}
+use Rattle.model.specs.Record.{Size, fixed, perCell, TagRow, tagTable, Part, has, tagAt, sizeAt, partAt, knownTag, sizeIn, allows, rightSize, tagTest, missingTest, Walked, damaged, whole, unless, walk, walked}
 use Rattle.model.specs.Claims.{Among, WrongLength, BadTag, Reaches, outset, past, Missing, Damaged, WholeIn}
 use Rattle.model.specs.declared.Refusal.{Refusal}
 use Rattle.model.specs.declared.Refusal.the-variants.{Record}
-use Rattle.theorems.specs.Tests.{_⟫_, eq-iff, not-iff, differ, true-T}
-use Rattle.theorems.specs.Tested.{either}
-use Rattle.theorems.specs.Walks.{sound-of, atEnd, walk-step, walk-end}
+use Rattle.theorems.specs.Truth.{_⟫_, eq-iff, le-iff, not-iff, and-iff, same, either, differ, true-T}
+use Rattle.theorems.specs.Walks.{sound-iff, atEnd, walk-step, walk-end}
 
 -- ---- tests that have one refusal
 
@@ -32,6 +31,10 @@ Judges o own A = ((o ≡ some own) × A) ⊎ ((o ≡ none) × (A → ⊥))
 judge : (t : Bool) (own : Refusal) {A : Type 0} → (t ≡ false) ↔ A → Judges (must t own) own A
 judge true own i = inr (refl, λ a. true≢ (i .1 a))
 judge false own i = inl (refl, i .0 refl)
+
+judge-last : (t : Bool) (own : Refusal) {A : Type 0} → (t ≡ false) ↔ A → Judges (must t own then none) own A
+judge-last true own i = judge true own i
+judge-last false own i = judge false own i
 
 judge-then : (t : Bool) (own : Refusal) (q : Option Refusal) {A B : Type 0} → (t ≡ false) ↔ A → Judges q own B → Judges (must t own then q) own (A ⊎ B)
 judge-then true own q i j = ⊎-elim (λ p. inl (p .0, inr (p .1))) (λ p. inr (p .0, ⊎-elim (λ a. true≢ (i .1 a)) (p .1))) j
@@ -49,61 +52,95 @@ untold j n = ⊎-elim (λ p. absurd (n (p .1))) (λ p. p .0) j
 short-iff : (a b : ℕ) → (leb a b ≡ false) ↔ (b < a)
 short-iff a b = (leb-false a b, lt-leb a b)
 
--- the tags known are 1 to 7
-abbrev Tagged : ℕ → Type 0
-Tagged t = ((knownTag t ≡ true) × (1 ≤ t) × (t ≤ 7)) ⊎ ((knownTag t ≡ false) × ((t < 1) ⊎ (7 < t)))
-
-far : (t : ℕ) → 7 < t → knownTag t ≡ false
-far t h =
-    let n : (k : ℕ) → k ≤ 7 → eqb t k ≡ false = λ k l. ne-eqb t k (λ e. omega arith) in
-    rw (n 1 (lit≤ tt), n 2 (lit≤ tt), n 3 (lit≤ tt), n 4 (lit≤ tt), n 5 (lit≤ tt), n 6 (lit≤ tt), n 7 (lit≤ tt))
-
-tagged : (t : ℕ) → Tagged t
-tagged zero = inr (refl, inl (lit< tt))
-tagged (suc zero) = inl (refl, lit≤ tt, lit≤ tt)
-tagged (suc (suc zero)) = inl (refl, lit≤ tt, lit≤ tt)
-tagged (suc (suc (suc zero))) = inl (refl, lit≤ tt, lit≤ tt)
-tagged (suc (suc (suc (suc zero)))) = inl (refl, lit≤ tt, lit≤ tt)
-tagged (suc (suc (suc (suc (suc zero))))) = inl (refl, lit≤ tt, lit≤ tt)
-tagged (suc (suc (suc (suc (suc (suc zero)))))) = inl (refl, lit≤ tt, lit≤ tt)
-tagged (suc (suc (suc (suc (suc (suc (suc zero))))))) = inl (refl, lit≤ tt, lit≤ tt)
-tagged (suc (suc (suc (suc (suc (suc (suc (suc t)))))))) = let h : 7 < suc (suc (suc (suc (suc (suc (suc (suc t))))))) = omega arith in inr (far _ h, inr h)
-
-unknown-iff : (t : ℕ) → (knownTag t ≡ false) ↔ ((t < 1) ⊎ (7 < t))
-unknown-iff t =
-    ⊎-elim
-    (λ p. (λ e. true≢ (sym (p .0) ∙ e), ⊎-elim (λ l. absurd (none-below t l (p .1))) (λ l. absurd (none-above t l (p .2)))))
-    (λ p. (λ e. p .1, λ c. p .0))
-    (tagged t)
-  where
-    none-below : (t : ℕ) → t < 1 → 1 ≤ t → ⊥
-    none-below t l h = omega arith
-
-    none-above : (t : ℕ) → 7 < t → t ≤ 7 → ⊥
-    none-above t l h = omega arith
-
 or-iff : (a b : Bool) → T (a || b) ↔ (T a ⊎ T b)
 or-iff true b = (λ t. inl tt, λ c. tt)
 or-iff false b = (λ t. inr t, ⊎-elim (λ t. absurd t) (λ t. t))
+
+absent-iff : (b : Bool) {A : Type 0} → T b ↔ A → (b ≡ false) ↔ (A → ⊥)
+absent-iff true i = (λ e. true≢ e, λ n. absurd (n (i .0 tt)))
+absent-iff false i = (λ e a. i .1 a, λ n. refl)
+
+-- numbers that follow each other from a on are those from a to their last
+abbrev pub follow : ℕ → List ℕ → Bool
+follow a [] = true
+follow a (x ∷ l) = eqb x a && follow (suc a) l
+
+listed-iff : (t a : ℕ) (l : List ℕ) → T (follow a l) → T (any (eqb t) l) ↔ ((a ≤ t) × (t < a + length l))
+listed-iff t a [] f = (λ h. absurd h, λ p. absurd (none-left (p .0) (p .1)))
+  where
+    none-left : a ≤ t → t < a + 0 → ⊥
+    none-left h l = omega arith
+listed-iff t a (x ∷ l) f =
+    let g = and-iff (eqb x a) (follow (suc a) l) .0 f in
+    let e = eq-iff x a .0 (g .0) in
+    or-iff (eqb t x) (any (eqb t) l) ⟫ either (eq-iff t x) (listed-iff t (suc a) l (g .1)) ⟫ (⊎-elim (λ h. first (h ∙ e)) later, λ p. by (p .0) (p .1) e)
+  where
+    first : t ≡ a → (a ≤ t) × (t < a + suc (length l))
+    first h = (omega arith, omega arith)
+
+    later : (suc a ≤ t) × (t < suc a + length l) → (a ≤ t) × (t < a + suc (length l))
+    later p = let x = p .0 in let y = p .1 in (omega arith, omega arith)
+
+    by : a ≤ t → t < a + suc (length l) → x ≡ a → (t ≡ x) ⊎ ((suc a ≤ t) × (t < suc a + length l))
+    by h l e = ⊎-elim (λ z. inl (sym z ∙ sym e)) (λ z. inr (z, omega arith)) (eq-or-lt-of-le h)
+
+abbrev tagsOf : List TagRow → List ℕ
+tagsOf l = map (λ row. row .tag) l
+
+-- the tags known are 1 to 7
+unknown-iff : (t : ℕ) → (knownTag t ≡ false) ↔ ((t < 1) ⊎ (7 < t))
+unknown-iff t = absent-iff (knownTag t) (listed-iff t 1 (tagsOf tagTable) tt) ⟫ (out t, among t)
+  where
+    out : (t : ℕ) → ((1 ≤ t) × (t < 8) → ⊥) → (t < 1) ⊎ (7 < t)
+    out zero n = inl (lit< tt)
+    out (suc t) n = inr (lt-of-not-le (λ h. n (omega arith, omega arith)))
+
+    among : (t : ℕ) → (t < 1) ⊎ (7 < t) → (1 ≤ t) × (t < 8) → ⊥
+    among t (inl l) p = let x = p .0 in omega arith
+    among t (inr l) p = let x = p .1 in omega arith
 
 among-iff : (t : ℕ) (l : List Part) → T (has t l) ↔ Among t l
 among-iff t [] = (λ h. h, λ h. h)
 among-iff t (p ∷ l) = or-iff (eqb (p .tag) t) (has t l) ⟫ either (eq-iff (p .tag) t) (among-iff t l)
 
-wrong-iff : (t size : ℕ) → (rightSize t size ≡ false) ↔ WrongLength t size
-wrong-iff t size = (
-  by (eqb t 1) refl (eqb t 2) refl (eqb t 3) refl,
-  ⊎-elim
-      (λ p. ap (λ x. rightSize x size) (p .0) ∙ ne-eqb size 3 (p .1))
-      (⊎-elim (λ p. ap (λ x. rightSize x size) (p .0) ∙ ne-eqb size 12 (p .1)) (λ p. ap (λ x. rightSize x size) (p .0) ∙ ne-eqb size 8 (p .1))),
-)
+-- a table has a fixed length for tag t, and this is another
+abbrev WrongRow : Size → (tag t size : ℕ) → Type 0 → Type 0
+WrongRow (fixed k) tag t size further = ((t ≡ tag) × (size ≡ k → ⊥)) ⊎ further
+WrongRow (perCell k) tag t size further = further
+
+abbrev WrongIn : List TagRow → (t size : ℕ) → Type 0
+WrongIn [] t size = ⊥
+WrongIn (row ∷ l) t size = WrongRow (row .size) (row .tag) t size (WrongIn l t size)
+
+-- its tags rise, so that only one row is about t
+wrong-from : (a t size : ℕ) (l : List TagRow) → T (follow a (tagsOf l)) → WrongIn l t size → a ≤ t
+wrong-from a t size [] f w = absurd w
+wrong-from a t size (row ∷ l) f w =
+    let g = and-iff (eqb (row .tag) a) (follow (suc a) (tagsOf l)) .0 f in by (row .size) (eq-iff (row .tag) a .0 (g .0)) (wrong-from (suc a) t size l (g .1)) w
   where
-    by : (a : Bool) → eqb t 1 ≡ a → (b : Bool) → eqb t 2 ≡ b → (c : Bool) → eqb t 3 ≡ c
-        → cond a (eqb size 3) (cond b (eqb size 12) (cond c (eqb size 8) true)) ≡ false → WrongLength t size
-    by true p b q c r e = inl (eqb-true t 1 p, eqb-false size 3 e)
-    by false p true q c r e = inr (inl (eqb-true t 2 q, eqb-false size 12 e))
-    by false p false q true r e = inr (inr (eqb-true t 3 r, eqb-false size 8 e))
-    by false p false q false r e = true≢ e
+    by : (z : Size) → row .tag ≡ a → (WrongIn l t size → suc a ≤ t) → WrongRow z (row .tag) t size (WrongIn l t size) → a ≤ t
+    by (fixed k) e h (inl w) = let x = w .0 in omega arith
+    by (fixed k) e h (inr w) = let x = h w in omega arith
+    by (perCell k) e h w = let x = h w in omega arith
+
+wrong-in : (a t size : ℕ) (l : List TagRow) → T (follow a (tagsOf l)) → (allows (sizeIn l t) size ≡ false) ↔ WrongIn l t size
+wrong-in a t size [] f = (λ e. true≢ e, λ w. absurd w)
+wrong-in a t size (row ∷ l) f =
+    let g = and-iff (eqb (row .tag) a) (follow (suc a) (tagsOf l)) .0 f in
+    by (row .size) (eqb t (row .tag)) refl (eq-iff (row .tag) a .0 (g .0)) (wrong-from (suc a) t size l (g .1)) (wrong-in (suc a) t size l (g .1))
+  where
+    past-it : t ≡ row .tag → row .tag ≡ a → suc a ≤ t → ⊥
+    past-it x e h = omega arith
+
+    by : (z : Size) (b : Bool) → eqb t (row .tag) ≡ b → row .tag ≡ a → (WrongIn l t size → suc a ≤ t) → (allows (sizeIn l t) size ≡ false) ↔ WrongIn l t size
+        → (allows (cond b z (sizeIn l t)) size ≡ false) ↔ WrongRow z (row .tag) t size (WrongIn l t size)
+    by (fixed k) true p e later i = let x = eqb-true t (row .tag) p in (λ h. inl (x, eqb-false size k h), ⊎-elim (λ w. ne-eqb size k (w .1)) (λ w. absurd (past-it x e (later w))))
+    by (fixed k) false p e later i = (λ h. inr (i .0 h), ⊎-elim (λ w. absurd (eqb-false t (row .tag) p (w .0))) (i .1))
+    by (perCell k) true p e later i = (λ h. true≢ h, λ w. absurd (past-it (eqb-true t (row .tag) p) e (later w)))
+    by (perCell k) false p e later i = i
+
+wrong-iff : (t size : ℕ) → (rightSize t size ≡ false) ↔ WrongLength t size
+wrong-iff t size = wrong-in 1 t size tagTable tt ⟫ either same (either same (⊎-elim (λ w. w) (λ x. absurd x), inl))
 
 tag-judged : (rec : List ℕ) (k : ℕ) (parts : List Part) → Judges (tagTest rec k parts) (Record k) (BadTag rec k parts)
 unfolding tagTest
@@ -113,7 +150,7 @@ tag-judged rec k parts =
     judge-then (leb (k + 3) (length rec)) (Record k) _ (short-iff (k + 3) (length rec))
     (judge-then (knownTag t) (Record k) _ (unknown-iff t)
     (judge-then (not (has t parts)) (Record k) _ (not-iff (has t parts) ⟫ among-iff t parts)
-    (judge-then (leb (k + 3 + z) (length rec)) (Record k) _ (short-iff (k + 3 + z) (length rec)) (judge (rightSize t z) (Record k) (wrong-iff t z)))))
+    (judge-then (leb (k + 3 + z) (length rec)) (Record k) _ (short-iff (k + 3 + z) (length rec)) (judge-last (rightSize t z) (Record k) (wrong-iff t z)))))
 
 -- ---- what is asked at the end
 
@@ -138,29 +175,27 @@ fails f (x ∷ l) t h e =
     both-false true e = e
     both-false false e = refl
 
-absent-iff : (b : Bool) {A : Type 0} → T b ↔ A → (b ≡ false) ↔ (A → ⊥)
-absent-iff true i = (λ e. true≢ e, λ n. absurd (n (i .0 tt)))
-absent-iff false i = (λ e a. i .1 a, λ n. refl)
+-- the tags that a record must have, which are 1 to 7
+abbrev requiredIn : List TagRow → List ℕ
+requiredIn [] = []
+requiredIn (row ∷ l) = cond (row .required) (row .tag ∷ requiredIn l) (requiredIn l)
 
-missing-iff : (parts : List Part) → (all (λ t. has t parts) tags ≡ false) ↔ Missing parts
+abbrev required : List ℕ
+required = requiredIn tagTable
+
+missing-iff : (parts : List Part) → (all (λ t. has t parts) required ≡ false) ↔ Missing parts
 missing-iff parts =
     let i : (t : ℕ) → (has t parts ≡ false) ↔ (Among t parts → ⊥) = λ t. absent-iff (has t parts) (among-iff t parts) in (
       λ e.
-          let h = fails-at (λ t. has t parts) tags e in
-          ⊎-elim (λ p. (h .0, p .1, p .2, i (h .0) .0 (h .2))) (λ p. absurd (subst T (p .0) (h .1))) (tagged (h .0)),
-      λ m. fails (λ t. has t parts) tags (m .0) (known (m .0) (m .1) (m .2)) (i (m .0) .1 (m .3)),
+          let h = fails-at (λ t. has t parts) required e in
+          let p = listed-iff (h .0) 1 required tt .0 (h .1) in
+          (h .0, p .0, le-of-suc-le-suc (p .1), i (h .0) .0 (h .2)),
+      λ m. fails (λ t. has t parts) required (m .0) (listed-iff (m .0) 1 required tt .1 (m .1, suc-le-suc (m .2))) (i (m .0) .1 (m .3)),
     )
-  where
-    outside : (t : ℕ) → 1 ≤ t → t ≤ 7 → (t < 1) ⊎ (7 < t) → ⊥
-    outside t a b (inl l) = omega arith
-    outside t a b (inr l) = omega arith
-
-    known : (t : ℕ) → 1 ≤ t → t ≤ 7 → T (knownTag t)
-    known t a b = ⊎-elim (λ p. true-T (p .0)) (λ p. absurd (outside t a b (p .1))) (tagged t)
 
 end-judged : (rec : List ℕ) (parts : List Part) → Judges (missingTest rec parts) (Record (length rec)) (Missing parts)
 unfolding missingTest
-end-judged rec parts = judge (all (λ t. has t parts) tags) (Record (length rec)) (missing-iff parts)
+end-judged rec parts = judge (all (λ t. has t parts) required) (Record (length rec)) (missing-iff parts)
 
 pub none-missing : (rec : List ℕ) (parts : List Part) → (Missing parts → ⊥) → missingTest rec parts ≡ none
 none-missing rec parts n = untold (end-judged rec parts) n
@@ -194,7 +229,7 @@ tells-by rec m k parts h l ih false p =
     let g = leb-false (length rec) k p in
     ⊎-elim
     (λ q. subst (Tells rec) (sym (walk-stop rec m k parts (Record k) p (q .0))) (inl (k, parts, h, g, q .1, refl)))
-    (λ q. subst (Tells rec) (sym (walk-step rec m k parts p (q .0))) (ih (past h g (q .1)) (sound-of rec k parts (q .0) .room)))
+    (λ q. subst (Tells rec) (sym (walk-step rec m k parts p (q .0))) (ih (past h g (q .1)) (sound-iff rec k parts .0 (q .0) .room)))
     (tag-judged rec k parts)
 
 tells : (rec : List ℕ) (m k : ℕ) (parts : List Part) → Reaches rec k parts → k ≤ length rec → length rec ≤ k + m → Tells rec (walk rec m k parts)

@@ -1,85 +1,24 @@
 -- A record is refused exactly where a cause holds, in the order 7, 1, 2, 8, 3, 4, 5, and accepted exactly where none does. Assumes nothing.
 use mathlib.Core.Path.{_≡_, refl, sym, ap, ap₂, subst, _∙_}
 use mathlib.Core.Logic.{_↔_, _⊎_, inl, inr, ⊎-elim}
-use mathlib.Core.Bool.{Bool, _&&_}
 use mathlib.Core.List.{List, [], _∷_}
 use mathlib.Core.Option.{Option, none, some}
-use Prim.Native.Nat.{ℕ, _*_}
-use lib.Dec.{T, eqb, leb}
+use Prim.Native.Nat.{ℕ}
 use lib.IntN.{ℤ}
 use lib.ListN.{length}
-use Rattle.model.specs.Numbers.{all}
 use Rattle.model.specs.Grid.{filled}
-use Rattle.model.specs.State.{State, parametersOf, cells, WithinLimits}
+use Rattle.model.specs.State.{State, parametersOf, cells}
 use Rattle.model.specs.Answers.{toldRead}
-use Rattle.model.specs.Refusals.{_then_, must, fieldsOf, gridKnown, gridTest, constantsWithin, constantsTest, valueTest, edgeTest, roomTest, contentTest}
-use Rattle.model.specs.Record.{Timestamp, Part, valueOf, Walked, damaged, whole, walked, stateIn, timestampIn, bytesRight, bytesTest, recordTest, Decoded, accepted, refused, judged, readBy, decode}
+use Rattle.model.specs.Record.{Timestamp, Part, Walked, damaged, whole, walked, stateIn, timestampIn, recordTests, recordTest, Decoded, accepted, refused, judged, readBy, decode}
 use Rattle.model.specs.Promises.{readAnswer, readInto, readOf, ReadPromise}
-use Rattle.model.specs.Claims.{EachRoom, Stops, BytesOf, FieldsCause, ReadCause, Readable, ReadCausesClaim}
+use Rattle.model.specs.Claims.{ReadCause, Readable, ReadCausesClaim}
 use Rattle.model.specs.declared.Parameters.{Parameters}
 use Rattle.model.specs.declared.Refusal.{Refusal}
-use Rattle.model.specs.declared.Refusal.the-variants.{Grid, Lengths, Constants, Destination}
 use Rattle.model.specs.declared.ReadAnswer.the-variants.{Read, Refused}
-use Rattle.theorems.specs.Tests.{_⟫_, and-iff, eq-iff, then-iff, must-iff, differ}
-use Rattle.theorems.specs.Limits.{rooms-iff, room-iff, grid-passes, content-passes}
-use Rattle.theorems.specs.Tested.{stops, then-some, both, either, same, value-some, value-none, edge-some}
-use Rattle.theorems.specs.Rewrite.{tests}
+use Rattle.theorems.specs.Truth.{_⟫_, either, differ}
+use Rattle.theorems.specs.TestLaws.{finds}
+use Rattle.theorems.specs.RoundTrip.{Fit, fields-iff}
 use Rattle.theorems.specs.Damage.{damaged-iff, whole-iff}
-
--- ---- the fields
-
-bytes-iff : (s : State) (parts : List Part) → T (bytesRight s parts) ↔ BytesOf (cells s) parts
-unfolding bytesRight
-bytes-iff s parts =
-    let a = length (valueOf 4 parts) in
-    let b = length (valueOf 5 parts) in
-    let c = length (valueOf 6 parts) in
-    let d = length (valueOf 7 parts) in
-    let m = cells s in
-    let x = eqb a (4 * m) in
-    let y = eqb b (4 * m) in
-    let z = eqb c (2 * m) in
-    let i = and-iff (x && y && z) (eqb d (2 * m)) in
-    let j = and-iff (x && y) z in
-    let k = and-iff x y in (
-      λ t.
-          let p = i .0 t in
-          let q = j .0 (p .0) in
-          let o = k .0 (q .0) in
-          (eq-iff a (4 * m) .0 (o .0), eq-iff b (4 * m) .0 (o .1), eq-iff c (2 * m) .0 (q .1), eq-iff d (2 * m) .0 (p .1)),
-      λ p. i .1 (j .1 (k .1 (eq-iff a (4 * m) .1 (p .0), eq-iff b (4 * m) .1 (p .1)), eq-iff c (2 * m) .1 (p .2)), eq-iff d (2 * m) .1 (p .3)),
-    )
-
--- a test that must hold, before the rest, in the words of what it asks
-asks : (t : Bool) (own : Refusal) (q : Option Refusal) (r : Refusal) {A B : Type 0} → T t ↔ A → (q ≡ some r) ↔ B → (must t own then q ≡ some r) ↔ Stops A own B r
-asks t own q r a i = stops t own q r i ⟫ either (both (λ n x. n (a .1 x), λ n x. n (a .0 x)) same) (both a same)
-
-fields-some : (parts : List Part) (rooms : List ℕ) (r : Refusal) → (recordTest (stateIn parts) parts rooms ≡ some r) ↔ FieldsCause parts rooms r
-unfolding recordTest gridTest bytesTest roomTest contentTest constantsTest
-fields-some parts rooms r =
-    let s = stateIn parts in
-    asks (gridKnown s) Grid _ r same
-    (asks (bytesRight s parts) Lengths _ r (bytes-iff s parts)
-    (asks (all (λ room. leb (cells s) room) rooms) Destination _ r (rooms-iff (cells s) rooms)
-    (asks (constantsWithin s) Constants _ r same
-    (then-some (valueTest (fieldsOf s)) (edgeTest s) r (value-some (fieldsOf s) r) (value-none (fieldsOf s)) (edge-some s r)))))
-
-record Passes (s : State) (parts : List Part) (rooms : List ℕ) : Type 0 where
-  bytes : BytesOf (cells s) parts
-  room : EachRoom (cells s) rooms
-  inside : WithinLimits s
-
-fields-none : (parts : List Part) (rooms : List ℕ) → (recordTest (stateIn parts) parts rooms ≡ none) ↔ Passes (stateIn parts) parts rooms
-unfolding recordTest bytesTest
-fields-none parts rooms =
-    let s = stateIn parts in
-    let t1 = then-iff (gridTest s) (bytesTest s parts then roomTest (cells s) rooms then contentTest s (fieldsOf s)) in
-    let t2 = then-iff (bytesTest s parts) (roomTest (cells s) rooms then contentTest s (fieldsOf s)) in
-    let t3 = then-iff (roomTest (cells s) rooms) (contentTest s (fieldsOf s)) in
-    let b = must-iff (bytesRight s parts) Lengths ⟫ bytes-iff s parts in (
-      λ h. let a = tests parts rooms h in record { bytes = bytes-iff s parts .0 (a .lengths); room = a .room; inside = a .inside },
-      λ p. t1 .1 (grid-passes s (p .inside), t2 .1 (b .1 (p .bytes), t3 .1 (room-iff (cells s) rooms .1 (p .room), content-passes s (p .inside)))),
-    )
 
 -- ---- by what the walk found
 
@@ -120,12 +59,12 @@ accepted-by rooms (whole ps) s t = (
 )
 
 refuses : (rec rooms : List ℕ) (r : Refusal) → (decode rec rooms ≡ refused r) ↔ ReadCause rec rooms r
-unfolding decode
+unfolding decode recordTest
 refuses rec rooms r =
     refused-by rooms (walked rec) r
     ⟫ either (damaged-iff rec r) (
-      λ p. (p .0, whole-iff rec (p .0) .0 (p .1), fields-some (p .0) rooms r .0 (p .2)),
-      λ p. (p .0, whole-iff rec (p .0) .1 (p .1), fields-some (p .0) rooms r .1 (p .2)),
+      λ p. (p .0, whole-iff rec (p .0) .0 (p .1), finds (recordTests (stateIn (p .0)) (p .0) rooms) r .0 (p .2)),
+      λ p. (p .0, whole-iff rec (p .0) .1 (p .1), finds (recordTests (stateIn (p .0)) (p .0) rooms) r .1 (p .2)),
     )
 
 accepts : (rec rooms : List ℕ) (s : State) (t : Timestamp) → (decode rec rooms ≡ accepted s t) ↔ Readable rec rooms s t
@@ -134,22 +73,22 @@ accepts rec rooms s t =
     accepted-by rooms (walked rec) s t
     ⟫ (
       λ f.
-          let p = subst (λ x. Passes x (f .parts) rooms) (f .state) (fields-none (f .parts) rooms .0 (f .passes)) in
+          let p = subst (λ x. Fit x (f .parts) rooms) (f .state) (fields-iff (f .parts) rooms .0 (f .passes)) in
           record {
             parts = f .parts;
             whole = whole-iff rec (f .parts) .0 (f .walks);
             state = f .state;
             timestamp = f .timestamp;
-            bytes = p .bytes;
-            room = p .room;
-            inside = p .inside;
+            bytes = p .0;
+            room = p .1;
+            inside = p .2;
           },
       λ g.
-          let p : Passes s (g .parts) rooms = record { bytes = g .bytes; room = g .room; inside = g .inside } in
+          let p : Fit s (g .parts) rooms = (g .bytes, g .room, g .inside) in
           record {
             parts = g .parts;
             walks = whole-iff rec (g .parts) .1 (g .whole);
-            passes = fields-none (g .parts) rooms .1 (subst (λ x. Passes x (g .parts) rooms) (sym (g .state)) p);
+            passes = fields-iff (g .parts) rooms .1 (subst (λ x. Fit x (g .parts) rooms) (sym (g .state)) p);
             state = g .state;
             timestamp = g .timestamp;
           },

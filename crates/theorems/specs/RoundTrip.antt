@@ -1,32 +1,32 @@
 -- A state within the limits that is written and read again is the same state with the same timestamp. Assumes nothing.
 use mathlib.Core.Path.{_≡_, refl, sym, ap, ap₂, subst, _∙_}
-use mathlib.Core.Bool.{true}
-use mathlib.Core.List.{List, [], _∷_}
+use mathlib.Core.Logic.{_↔_}
+use mathlib.Core.List.{List, [], _∷_, _++_}
 use mathlib.Core.Option.{none}
 use Prim.Native.Nat.{ℕ, suc, _*_, _^_, _≤_, _<_}
 use native.Mathlib.Nat.{le-trans, lt-of-le-of-lt, mul-le-mul}
 use native.Mathlib.Omega.{arith}
-use lib.Dec.{leb→le, lit<}
+use lib.Dec.{T, eqb, leb→le, lit<}
 use lib.IntN.{ℤ, pos, negsuc, negℤ}
 use lib.Signed.{_≤ℤ_}
-use lib.ListN.{length, take, getD, length-append}
+use lib.ListN.{length, take, drop, getD, length-append}
 use mir.Syntax.{Width, w16, w32}
 use mir.Val.{SFits, hbits}
-use borrow.Author.Tests.{eq-eqb}
 use Rattle.model.specs.Numbers.{Limits, Within, depthLimits, bottomLimits, velocityLimits, gravityLimits, coriolisLimits, ratioLimits}
 use Rattle.model.specs.Grid.{filled}
 use Rattle.model.specs.State.{State, stateOf, parametersOf, cells, FieldWithin, WithinLimits}
-use Rattle.model.specs.Refusals.{_then_, must, fieldsOf, gridTest, contentTest, roomTest}
-use Rattle.model.specs.Record.{bytes4, bytes2, signed4, signed2, eachBy, numbers, partsOf, encode, recordLength, missingTest, walked, whole, stateIn, timestampIn, bytesRight, bytesTest, recordTest, accepted, judged, readBy, decode}
-use Rattle.model.specs.Promises.{leftBy, writeTest, writeAnswer, WritePromise, readAnswer, readInto, readOf}
-use Rattle.model.specs.Claims.{RoundTripClaim}
+use Rattle.model.specs.Tests.{firstFound}
+use Rattle.model.specs.Refusals.{fieldsOf, lengthTests, contentTests, roomTests}
+use Rattle.model.specs.Record.{tagTable, bytes4, bytes2, signed4, signed2, eachBy, numbers, Part, valueOf, partsOf, encode, recordLength, missingTest, walked, whole, stateIn, timestampIn, bytesTests, recordTests, recordTest, accepted, judged, readBy, decode}
+use Rattle.model.specs.Promises.{_into_, filledBy, writeTests, writeTest, writeAnswer, WritePromise, readAnswer, readInto, readOf}
+use Rattle.model.specs.Claims.{EachPasses, EachRoom, BytesOf, RoundTripClaim}
 use Rattle.model.specs.declared.WriteAnswer.{WriteAnswer}
-use Rattle.model.specs.declared.Refusal.the-variants.{Lengths}
-use Rattle.theorems.specs.Tests.{then-iff}
-use Rattle.theorems.specs.Limits.{accepted as accepts, room-iff, grid-passes, content-passes}
-use Rattle.grid.specs.Fields.{take-filled}
+use Rattle.theorems.specs.Truth.{_⟫_, eq-iff}
+use Rattle.theorems.specs.TestLaws.{passes, passes-append}
+use Rattle.theorems.specs.Limits.{accepted as accepts, rooms-iff, tested-iff}
+use Rattle.grid.specs.Fields.{take-filled, length-tabulate}
 use Rattle.theorems.specs.Bytes.{EachFits, there-back, get-put, numbers-put, length-each}
-use Rattle.theorems.specs.Walks.{AllFine, walks}
+use Rattle.theorems.specs.Walks.{AllShort, all-fine, walks}
 
 -- ---- a number within its limits fits its bytes
 
@@ -82,6 +82,48 @@ back4 f h p = ap (λ m. numbers signed4 4 m (eachBy bytes4 f)) (sym (p .long)) �
 back2 : {lim : Limits} {m : ℕ} (f : List ℤ) → ((x : ℤ) → Within lim x → SFits w16 x) → FieldWithin lim m f → numbers signed2 2 m (eachBy bytes2 f) ≡ f
 back2 f h p = ap (λ m. numbers signed2 2 m (eachBy bytes2 f)) (sym (p .long)) ∙ numbers-put 2 w16 refl f (each-fits w16 h p)
 
+-- ---- the tests of a record
+
+bytes-iff : (m : ℕ) (parts : List Part) → EachPasses (bytesTests m parts tagTable) ↔ BytesOf m parts
+bytes-iff m parts =
+    let i : (t k : ℕ) → _ = λ t k. eq-iff (length (valueOf t parts)) (k * m) in (
+      λ p. (i 4 4 .0 (p .0), i 5 4 .0 (p .1 .0), i 6 2 .0 (p .1 .1 .0), i 7 2 .0 (p .1 .1 .1 .0)),
+      λ b. (i 4 4 .1 (b .0), (i 5 4 .1 (b .1), (i 6 2 .1 (b .2), (i 7 2 .1 (b .3), tt)))),
+    )
+
+-- what they ask; the state has as many numbers in each field as cells (a state that is read does)
+abbrev pub Fit : State → List Part → (rooms : List ℕ) → Type 0
+Fit s parts rooms = BytesOf (cells s) parts × EachRoom (cells s) rooms × WithinLimits s
+
+pub record-iff : (s : State) (parts : List Part) (rooms : List ℕ) → EachPasses (lengthTests (fieldsOf s)) → (recordTest s parts rooms ≡ none) ↔ Fit s parts rooms
+unfolding recordTest
+record-iff s parts rooms lengths =
+    let m = cells s in
+    let content = contentTests s (fieldsOf s) in
+    let i = passes-append (bytesTests m parts tagTable) (roomTests m rooms ++ content) in
+    let j = passes-append (roomTests m rooms) content in
+    passes (recordTests s parts rooms)
+    ⟫ (
+      λ p.
+          let x = i .0 (p .1) in
+          let y = j .0 (x .1) in
+          (bytes-iff m parts .0 (x .0), rooms-iff m rooms .0 (y .0), tested-iff s [] .0 (record { grid = p .0; lengths = lengths; content = y .1 }) .0),
+      λ f. let t = tested-iff s [] .1 (f .2, tt) in (t .grid, i .1 (bytes-iff m parts .1 (f .0), j .1 (rooms-iff m rooms .1 (f .1), t .content))),
+    )
+
+-- those of a record that is read
+long-numbers : (f : List ℕ → ℤ) (z m : ℕ) (v : List ℕ) → T (eqb (length (numbers f z m v)) m)
+long-numbers f z m v = eq-iff (length (numbers f z m v)) m .1 (length-tabulate m (λ k. f (take z (drop (k * z) v))))
+
+long-read : (parts : List Part) → EachPasses (lengthTests (fieldsOf (stateIn parts)))
+unfolding stateIn
+long-read parts =
+    let m = getD (valueOf 1 parts) 0 0 * getD (valueOf 1 parts) 1 0 in
+    (long-numbers signed4 4 m (valueOf 4 parts), (long-numbers signed4 4 m (valueOf 5 parts), (long-numbers signed2 2 m (valueOf 6 parts), (long-numbers signed2 2 m (valueOf 7 parts), tt))))
+
+pub fields-iff : (parts : List Part) (rooms : List ℕ) → (recordTest (stateIn parts) parts rooms ≡ none) ↔ Fit (stateIn parts) parts rooms
+fields-iff parts rooms = record-iff (stateIn parts) parts rooms (long-read parts)
+
 -- ---- the record of a state within the limits
 
 module _ (s : State) (l : WithinLimits s) where
@@ -95,35 +137,15 @@ module _ (s : State) (l : WithinLimits s) where
   short2 : {lim : Limits} (f : List ℤ) → FieldWithin lim (cells s) f → length (eachBy bytes2 f) < 65536
   short2 f p = omega (arith, most, long2 f p)
 
-  all-fine : (t : ℕ) → AllFine [] (partsOf s t)
-  unfolding partsOf
-  all-fine t = (
-    record { known = refl; new = refl; short = lit< tt; sized = refl },
-    (
-      record { known = refl; new = refl; short = lit< tt; sized = refl },
-      (
-        record { known = refl; new = refl; short = lit< tt; sized = refl },
-        (
-          record { known = refl; new = refl; short = short4 (s .h) (l .depths); sized = refl },
-          (
-            record { known = refl; new = refl; short = short4 (s .b) (l .bottoms); sized = refl },
-            (
-              record { known = refl; new = refl; short = short2 (s .u) (l .us); sized = refl },
-              (record { known = refl; new = refl; short = short2 (s .v) (l .vs); sized = refl }, tt),
-            ),
-          ),
-        ),
-      ),
-    ),
-  )
-
   pub length-encode : (t : ℕ) → length (encode s t) ≡ recordLength s
   unfolding encode partsOf
   length-encode t = simp (length-append, long4 (s .h) (l .depths), long4 (s .b) (l .bottoms), long2 (s .u) (l .us), long2 (s .v) (l .vs)) (omega arith)
 
   walked-encode : (t : ℕ) → walked (encode s t) ≡ whole (partsOf s t)
   unfolding walked missingTest partsOf encode
-  walked-encode t = walks (partsOf s t) (encode s t) [] 0 (length (encode s t)) [] refl refl (all-fine t) (subst (λ m. 7 ≤ m) (sym (length-encode t)) (omega arith))
+  walked-encode t =
+      let short : AllShort (partsOf s t) = (lit< tt, (lit< tt, (lit< tt, (short4 (s .h) (l .depths), (short4 (s .b) (l .bottoms), (short2 (s .u) (l .us), (short2 (s .v) (l .vs), tt))))))) in
+      walks (partsOf s t) (encode s t) [] 0 (length (encode s t)) [] refl refl (all-fine [] (partsOf s t) tt short) (subst (λ m. 7 ≤ m) (sym (length-encode t)) (omega arith))
 
   state-back : (t : ℕ) → stateIn (partsOf s t) ≡ s
   unfolding stateIn partsOf
@@ -144,37 +166,28 @@ module _ (s : State) (l : WithinLimits s) where
   unfolding timestampIn partsOf
   timestamp-back t h = there-back 8 t h
 
-  bytes-right : (t : ℕ) → bytesRight s (partsOf s t) ≡ true
-  unfolding bytesRight partsOf
-  bytes-right t = rw (eq-eqb _ _ (long4 (s .h) (l .depths)), eq-eqb _ _ (long4 (s .b) (l .bottoms)), eq-eqb _ _ (long2 (s .u) (l .us)), eq-eqb _ _ (long2 (s .v) (l .vs)))
-
-  passes : (t : ℕ) (rooms : List ℕ) → roomTest (cells s) rooms ≡ none → recordTest s (partsOf s t) rooms ≡ none
-  unfolding recordTest bytesTest
-  passes t rooms h =
-      then-iff (gridTest s) (bytesTest s (partsOf s t) then roomTest (cells s) rooms then contentTest s (fieldsOf s)) .1 (
-        grid-passes s l,
-        then-iff (bytesTest s (partsOf s t)) (roomTest (cells s) rooms then contentTest s (fieldsOf s)) .1
-            (ap (λ b. must b Lengths) (bytes-right t), then-iff (roomTest (cells s) rooms) (contentTest s (fieldsOf s)) .1 (h, content-passes s l)),
-      )
+  right : (t : ℕ) → BytesOf (cells s) (partsOf s t)
+  unfolding partsOf
+  right t = (long4 (s .h) (l .depths), long4 (s .b) (l .bottoms), long2 (s .u) (l .us), long2 (s .v) (l .vs))
 
   -- what the writer writes is read back
-  pub decode-encode : (t : ℕ) → t < 2 ^ 64 → (rooms : List ℕ) → roomTest (cells s) rooms ≡ none → decode (encode s t) rooms ≡ accepted s t
+  pub decode-encode : (t : ℕ) → t < 2 ^ 64 → (rooms : List ℕ) → EachRoom (cells s) rooms → decode (encode s t) rooms ≡ accepted s t
   unfolding decode
   decode-encode t h rooms r =
       ap (readBy rooms) (walked-encode t)
       ∙ ap₂ (λ x y. judged (recordTest x (partsOf s t) rooms) x y) (state-back t) (timestamp-back t h)
-      ∙ ap (λ x. judged x s t) (passes t rooms r)
+      ∙ ap (λ x. judged x s t) (record-iff s (partsOf s t) rooms (tested-iff s [] .1 (l, tt) .lengths) .1 (right t, r, l))
 
   -- ---- over the promises of the calls
 
   pub written : (t : ℕ) (d d′ : List ℕ) (a : WriteAnswer) → recordLength s ≤ length d → WritePromise s t d a d′
-      → (a ≡ writeAnswer none (recordLength s)) × (take (recordLength s) d′ ≡ encode s t)
+      → (a ≡ writeAnswer (recordLength s) none) × (take (recordLength s) d′ ≡ encode s t)
   unfolding writeTest
   written t d d′ a h p =
-      let e : writeTest s (length d) ≡ none = accepts .call s [] (recordLength s) (length d ∷ []) .1 (l, tt, (h, tt)) in (
-        p .answers ∙ ap (λ o. writeAnswer o (recordLength s)) e,
-        ap (take (recordLength s)) (p .fills ∙ ap (λ o. leftBy o (filled (recordLength s) (encode s t) d) d) e) ∙ take-filled (recordLength s) (encode s t) d (length-encode t),
-      )
+      let m = recordLength s in
+      let e : writeTest s (length d) ≡ none = passes (writeTests s (length d)) .1 (accepts .call s [] m (length d ∷ []) .1 (l, tt, (h, tt))) in
+      let f = p .fills ∙ ap (λ o. filledBy o m (encode s t into d ∷ [])) e in
+      (p .answers ∙ ap (writeAnswer m) e, ap (take m) (ap (λ x. getD x 0 []) f) ∙ take-filled m (encode s t) d (length-encode t))
 
 -- what a reader left in a destination
 pub read-part : (m : ℕ) (f d d′ : List ℤ) → length f ≡ m → d′ ≡ filled m f d → take m d′ ≡ f
@@ -185,7 +198,7 @@ unfolding readOf
 round-trip s t d d′ written′ h b u v h′ b′ u′ v′ answer l q room wp x y z k rp =
     let w = written s l t d d′ written′ room wp in
     let rooms = length h ∷ length b ∷ length u ∷ length v ∷ [] in
-    let dec : readOf (take (recordLength s) d′) h b u v ≡ accepted s t = ap (λ r. decode r rooms) (w .1) ∙ decode-encode s l t q rooms (room-iff (cells s) rooms .1 (x, (y, (z, (k, tt))))) in
+    let dec : readOf (take (recordLength s) d′) h b u v ≡ accepted s t = ap (λ r. decode r rooms) (w .1) ∙ decode-encode s l t q rooms (x, (y, (z, (k, tt)))) in
     let ph = read-part (cells s) (s .h) h h′ (l .depths .long) (rp .fills-h ∙ ap (λ o. readInto (λ s. s .h) o h) dec) in
     let pb = read-part (cells s) (s .b) b b′ (l .bottoms .long) (rp .fills-b ∙ ap (λ o. readInto (λ s. s .b) o b) dec) in
     let pu = read-part (cells s) (s .u) u u′ (l .us .long) (rp .fills-u ∙ ap (λ o. readInto (λ s. s .u) o u) dec) in

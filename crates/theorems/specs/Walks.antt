@@ -1,6 +1,7 @@
 -- A record made of fields is read back as those fields, and a record that is read as fields is those fields joined. Assumes nothing.
 use mathlib.Core.Path.{_≡_, refl, sym, ap, ap₂, subst, _∙_}
-use mathlib.Core.Bool.{Bool, true, false, not, cond}
+use mathlib.Core.Logic.{_↔_}
+use mathlib.Core.Bool.{Bool, true, false, not, cond, _&&_}
 use mathlib.Core.List.{List, [], _∷_, _++_, append-assoc, append-nil}
 use mathlib.Core.Option.{Option, none, some}
 use Prim.Native.Nat.{ℕ, zero, suc, _+_, _-_, _^_, _≤_, _<_, min}
@@ -11,11 +12,12 @@ use lib.Dec.{T, leb}
 use lib.ListN.{length, take, drop, getD, length-append, length-take, length-drop, take-append-drop, drop-of-length-le}
 use lib.Seq.{getD-append-add, drop-drop, drop-at, take-at, drop-cons}
 use borrow.Author.Tests.{le-leb, lt-leb, leb-true, not-true}
-use Rattle.model.specs.Refusals.{_then_, must}
+use Rattle.model.specs.Tests.{Test, asks}
 use Rattle.model.specs.Record.{bytes, unsigned, Part, joined, has, tagAt, sizeAt, partAt, knownTag, rightSize, tagTest, missingTest, Walked, damaged, whole, unless, walk}
 use Rattle.model.specs.declared.Refusal.{Refusal}
 use Rattle.model.specs.declared.Refusal.the-variants.{Record}
-use Rattle.theorems.specs.Tests.{le-iff, then-iff, must-iff, T-true, differ}
+use Rattle.theorems.specs.Truth.{_⟫_, le-iff, and-iff, true-T, T-true, differ}
+use Rattle.theorems.specs.TestLaws.{passes}
 use Rattle.theorems.specs.Bytes.{AllBytes, bytes-drop, bytes-take, there-back, back-bytes, small-of}
 
 -- ---- the tests at a tag
@@ -28,28 +30,18 @@ pub record Sound (rec : List ℕ) (k : ℕ) (seen : List Part) : Type 0 where
   pub room : k + 3 + sizeAt rec k ≤ length rec
   pub right : T (rightSize (tagAt rec k) (sizeAt rec k))
 
-pub sound-of : (rec : List ℕ) (k : ℕ) (seen : List Part) → tagTest rec k seen ≡ none → Sound rec k seen
+pub sound-iff : (rec : List ℕ) (k : ℕ) (seen : List Part) → (tagTest rec k seen ≡ none) ↔ Sound rec k seen
 unfolding tagTest
-sound-of rec k seen h =
+sound-iff rec k seen =
     let t = tagAt rec k in
     let z = sizeAt rec k in
     let n = length rec in
-    let e : Option Refusal = must (rightSize t z) (Record k) in
-    let d : Option Refusal = must (leb (k + 3 + z) n) (Record k) in
-    let c : Option Refusal = must (not (has t seen)) (Record k) in
-    let b : Option Refusal = must (knownTag t) (Record k) in
-    let a : Option Refusal = must (leb (k + 3) n) (Record k) in
-    let p = then-iff a (b then c then d then e) .0 h in
-    let q = then-iff b (c then d then e) .0 (p .1) in
-    let r = then-iff c (d then e) .0 (q .1) in
-    let s = then-iff d e .0 (r .1) in
-    record {
-      head = le-iff (k + 3) n .0 (must-iff (leb (k + 3) n) (Record k) .0 (p .0));
-      tag = must-iff (knownTag t) (Record k) .0 (q .0);
-      new = must-iff (not (has t seen)) (Record k) .0 (r .0);
-      room = le-iff (k + 3 + z) n .0 (must-iff (leb (k + 3 + z) n) (Record k) .0 (s .0));
-      right = must-iff (rightSize t z) (Record k) .0 (s .1);
-    }
+    let ask : Bool → Test Refusal = λ b. asks b (Record k) in
+    passes (ask (leb (k + 3) n) ∷ ask (knownTag t) ∷ ask (not (has t seen)) ∷ ask (leb (k + 3 + z) n) ∷ ask (rightSize t z) ∷ [])
+    ⟫ (
+      λ p. record { head = le-iff (k + 3) n .0 (p .0); tag = p .1 .0; new = p .1 .1 .0; room = le-iff (k + 3 + z) n .0 (p .1 .1 .1 .0); right = p .1 .1 .1 .1 .0 },
+      λ s. (le-iff (k + 3) n .1 (s .head), (s .tag, (s .new, (le-iff (k + 3 + z) n .1 (s .room), (s .right, tt))))),
+    )
 
 -- ---- a record made of fields
 
@@ -63,6 +55,26 @@ pub record Fine (seen : List Part) (p : Part) : Type 0 where
 abbrev pub AllFine : List Part → List Part → Type 0
 AllFine seen [] = Unit
 AllFine seen (p ∷ ps) = Fine seen p × AllFine (seen ++ (p ∷ [])) ps
+
+-- where their values are short, the rest of this can be computed
+abbrev pub fit : List Part → List Part → Bool
+fit seen [] = true
+fit seen (p ∷ ps) = knownTag (p .tag) && not (has (p .tag) seen) && rightSize (p .tag) (length (p .value)) && fit (seen ++ (p ∷ [])) ps
+
+abbrev pub AllShort : List Part → Type 0
+AllShort [] = Unit
+AllShort (p ∷ ps) = (length (p .value) < 65536) × AllShort ps
+
+pub all-fine : (seen ps : List Part) → T (fit seen ps) → AllShort ps → AllFine seen ps
+all-fine seen [] t h = tt
+all-fine seen (p ∷ ps) t h =
+    let a = knownTag (p .tag) in
+    let b = not (has (p .tag) seen) in
+    let c = rightSize (p .tag) (length (p .value)) in
+    let x = and-iff (a && b && c) (fit (seen ++ (p ∷ [])) ps) .0 t in
+    let y = and-iff (a && b) c .0 (x .0) in
+    let z = and-iff a b .0 (y .0) in
+    (record { known = T-true a (z .0); new = not-true _ (T-true b (z .1)); short = h .0; sized = T-true c (y .1) }, all-fine (seen ++ (p ∷ [])) ps (x .1) (h .1))
 
 module _ (rec pre : List ℕ) (p : Part) (rest : List ℕ) (k : ℕ) (e : rec ≡ pre ++ (p .tag ∷ (bytes 2 (length (p .value)) ++ (p .value ++ rest)))) (at : length pre ≡ k) where
   abbrev here : List ℕ
@@ -90,9 +102,16 @@ module _ (rec pre : List ℕ) (p : Part) (rest : List ℕ) (k : ℕ) (e : rec �
       value = ap₂ (λ n l. take n l) (size-at h) (from 3) ∙ take-at (p .value) rest (length (p .value)) refl
 
   passes-at : (seen : List Part) → Fine seen p → tagTest rec k seen ≡ none
-  unfolding tagTest
   passes-at seen f =
-      rw (size-at (f .short), tag-at, f .known, f .new, f .sized, le-leb (k + 3) (length rec) (omega (arith, long)), le-leb (k + 3 + length (p .value)) (length rec) (omega (arith, long)))
+      sound-iff rec k seen .1 (
+      record {
+        head = omega (arith, long);
+        tag = rw tag-at (true-T (f .known));
+        new = rw (tag-at, f .new) tt;
+        room = rw (size-at (f .short)) (omega (arith, long));
+        right = rw (tag-at, size-at (f .short)) (true-T (f .sized));
+      }
+      )
 
 -- at the end of the record
 abbrev pub atEnd : List ℕ → List Part → Walked
@@ -230,7 +249,7 @@ by-tests : (rec : List ℕ) → AllBytes rec → (k : ℕ) (seen ps : List Part)
     → (more ≡ whole ps → Undone rec (k + 3 + sizeAt rec k) (seen ++ (partAt rec k ∷ [])) ps)
     → (b : Bool) (o : Option Refusal) → leb (length rec) k ≡ b → tagTest rec k seen ≡ o → cond b (atEnd rec seen) (unless o more) ≡ whole ps → Undone rec k seen ps
 by-tests rec plain k seen ps more h true o p q e = ended rec k seen ps (leb-true (length rec) k p) e
-by-tests rec plain k seen ps more h false none p q e = onward rec plain k seen ps (sound-of rec k seen q) (h e)
+by-tests rec plain k seen ps more h false none p q e = onward rec plain k seen ps (sound-iff rec k seen .0 q) (h e)
 by-tests rec plain k seen ps more h false (some r) p q e = damaged≢ e
 
 pub unwalk : (rec : List ℕ) → AllBytes rec → (m k : ℕ) (seen ps : List Part) → length rec ≤ k + m → walk rec m k seen ≡ whole ps → Undone rec k seen ps
