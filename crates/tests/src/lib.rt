@@ -12,14 +12,14 @@ ghost use Rattle.model.specs.Grid.{firstFrom};
 ghost use Rattle.model.specs.State.{stateOf, lent, before};
 ghost use Rattle.model.specs.Fields.{fieldNumber, limitsOf};
 ghost use Rattle.model.specs.Tests.{asks, firstFound};
-ghost use Rattle.model.specs.Refusals.{fieldsOf, gridKnown, gridTest, runLengthTest, lengthTest, lengthTests, workTest};
+ghost use Rattle.model.specs.Refusals.{taken, fieldsOf, gridKnown, gridTest, runLengthTest, lengthTest, lengthTests, workTest};
 ghost use Rattle.model.specs.Refusals.{constantsWithin, constantsTest, valueTest, valueTests, edgeTests, roomTest, stateTests};
 ghost use Rattle.model.specs.Promises.{answerOf};
 ghost use Rattle.model.specs.declared.Answer.the-variants.{Accepted};
 ghost use Rattle.model.specs.declared.Refusal.the-variants.{Value};
 ghost use Rattle.integers.specs.Ranges.{between};
-ghost use Rattle.tests.specs.Faults.{badAt, badIn, foundBy, refusalBy, answerBy, ColumnsOf, RowsOf, cellTest};
-ghost use Rattle.tests.specs.Links.{after, FieldsLong};
+ghost use Rattle.tests.specs.Faults.{bare, badAt, badIn, foundBy, refusalBy, answerBy, ColumnsOf, RowsOf, cellTest};
+ghost use Rattle.tests.specs.Links.{after, ownLengths, FieldsLong};
 use integers::Range;
 use model::Answer;
 use model::Field;
@@ -172,14 +172,7 @@ pub fn found_answer(found: Found, field: Field, t: Fault) -> Answer
     }
 }
 
-fn then_cells(
-    earlier: Answer,
-    w: usize,
-    n: usize,
-    f: &[i64],
-    field: Field,
-    t: Fault,
-) -> Answer
+fn then_cells(earlier: Answer, w: usize, n: usize, f: &[i64], field: Field, t: Fault) -> Answer
     requires { ⌜ (earlier ≡ Accepted → length (now f) ≡ w * n) ⌝ }
     ensures { λ r. ⌜ r ≡ after earlier (cellTest w n (now (f .entry)) field t ∷ []) ⌝ }
 {
@@ -254,21 +247,9 @@ pub fn then_work(earlier: Answer, m: usize, room: usize) -> Answer
 }
 
 // Test 2 of a state's own fields. It rules out, for instance: v's length untested; b's for u's.
-pub fn then_lengths(
-    earlier: Answer,
-    m: usize,
-    h: &[i64],
-    b: &[i64],
-    u: &[i64],
-    v: &[i64],
-) -> Answer
+pub fn then_lengths(earlier: Answer, m: usize, h: &[i64], b: &[i64], u: &[i64], v: &[i64]) -> Answer
     ensures { λ r. ⌜
-        r ≡ after earlier
-        (lengthTest m (length (now (h .entry)))
-        ∷ lengthTest m (length (now (b .entry)))
-        ∷ lengthTest m (length (now (u .entry)))
-        ∷ lengthTest m (length (now (v .entry)))
-        ∷ [])
+        r ≡ after earlier (ownLengths (now (h .entry)) (now (b .entry)) (now (u .entry)) (now (v .entry)) m)
         ⌝ }
 {
     let depth = then_length(earlier, m, h.len());
@@ -314,13 +295,7 @@ pub fn then_constants(earlier: Answer, p: Parameters) -> Answer
 // ---- 4 and 5
 
 // Test 4 of one field, by these limits. It rules out, for instance: the last cell outside told; other limits.
-pub fn then_field(
-    earlier: Answer,
-    p: Parameters,
-    f: &[i64],
-    field: Field,
-    limits: Range,
-) -> Answer
+pub fn then_within(earlier: Answer, p: Parameters, f: &[i64], field: Field, limits: Range) -> Answer
     requires { ⌜ (earlier ≡ Accepted → length (now f) ≡ p .w * p .n) ⌝ }
     ensures { λ r. ⌜
         r ≡ after earlier
@@ -330,6 +305,14 @@ pub fn then_field(
         ⌝ }
 {
     then_cells(earlier, p.w, p.n, f, field, Fault::Outside(limits))
+}
+
+// Test 4 of one field, by 01's limits. It rules out, for instance: the inflow's limits for q; the lowest cell left out.
+pub fn then_field(earlier: Answer, p: Parameters, f: &[i64], field: Field) -> Answer
+    requires { ⌜ (earlier ≡ Accepted → length (now f) ≡ p .w * p .n) ⌝ }
+    ensures { λ r. ⌜ r ≡ after earlier (valueTest Value (taken (bare p) field (now (f .entry))) ∷ []) ⌝ }
+{
+    then_within(earlier, p, f, field, limits(field))
 }
 
 // Test 4 of a state's own fields, in 01's order. It rules out, for instance: b before h; v untested.
@@ -344,10 +327,10 @@ pub fn then_fields(
     requires { ⌜ (earlier ≡ Accepted → FieldsLong (lent p h b u v)) ⌝ }
     ensures { λ r. ⌜ r ≡ after earlier (valueTests Value (fieldsOf (before p h b u v))) ⌝ }
 {
-    let depth = then_field(earlier, p, h, Field::Depth, limits(Field::Depth));
-    let bottom = then_field(depth, p, b, Field::Bottom, limits(Field::Bottom));
-    let west = then_field(bottom, p, u, Field::VelocityU, limits(Field::VelocityU));
-    then_field(west, p, v, Field::VelocityV, limits(Field::VelocityV))
+    let depth = then_field(earlier, p, h, Field::Depth);
+    let bottom = then_field(depth, p, b, Field::Bottom);
+    let west = then_field(bottom, p, u, Field::VelocityU);
+    then_field(west, p, v, Field::VelocityV)
 }
 
 // Test 5: u before v. It rules out, for instance: v's closed edges told before u's; the south wall untested.

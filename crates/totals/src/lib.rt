@@ -6,26 +6,17 @@ ghost use lib.ListN.{length};
 ghost use Rattle.model.specs.Numbers.{Within, total, gravityLimits, depthLimits, bottomLimits, velocityLimits};
 ghost use Rattle.model.specs.State.{FieldWithin, WithinLimits, lent, before};
 ghost use Rattle.model.specs.Totals.{energyAt, energy4};
-ghost use Rattle.model.specs.Promises.{testAnswer, totalTest, TotalDepthPromise, TotalEnergyPromise};
+ghost use Rattle.model.specs.Promises.{TotalDepthPromise, TotalEnergyPromise};
 ghost use Rattle.scheme.specs.Reading.{ReadsAt};
 ghost use Rattle.totals.specs.Energy.{kineticAt, potentialAt};
-use model::Beside;
+use model::Answer;
 use model::Parameters;
-use model::TestAnswer;
 use model::TotalAnswer;
-
-// The tests of both calls: 1 to 5.
-fn tested(p: Parameters, h: &[i64], b: &[i64], u: &[i64], v: &[i64]) -> TestAnswer
-    ensures { λ r. ⌜ r ≡ testAnswer (totalTest (before p h b u v)) ⌝ }
-{
-    // the last argument stands for a further field, which nothing looks at here
-    state::test_state(p, h, b, u, v, Beside::Nothing, h)
-}
 
 // ---- depth
 
-// The sum of the depths.
-fn sum_depths(h: &[i64]) -> i64
+// The sum of the depths. It rules out, for instance: the last cell left out; the first one twice.
+pub fn sum_depths(h: &[i64]) -> i64
     requires { ⌜ FieldWithin depthLimits (length (now h)) (now h) × (length (now h) ≤ 4096) ⌝ }
     ensures { λ r. ⌜ r ≡ total (now (h .entry)) ⌝ }
 {
@@ -41,9 +32,9 @@ fn sum_depths(h: &[i64]) -> i64
 pub fn total_depth(p: Parameters, h: &[i64], b: &[i64], u: &[i64], v: &[i64]) -> TotalAnswer
     ensures { λ r. ⌜ TotalDepthPromise (before p h b u v) r ⌝ }
 {
-    match tested(p, h, b, u, v) {
-        TestAnswer::Passed => TotalAnswer::Total(sum_depths(h)),
-        TestAnswer::Refused(refusal) => TotalAnswer::Refused(refusal),
+    match tests::test_state(p, h, b, u, v) {
+        Answer::Accepted => TotalAnswer::Total(sum_depths(h)),
+        Answer::Refused(refusal) => TotalAnswer::Refused(refusal),
     }
 }
 
@@ -100,8 +91,8 @@ fn sum_energy(p: Parameters, h: &[i64], b: &[i64], u: &[i64], v: &[i64]) -> i64
 pub fn total_energy(p: Parameters, h: &[i64], b: &[i64], u: &[i64], v: &[i64]) -> TotalAnswer
     ensures { λ r. ⌜ TotalEnergyPromise (before p h b u v) r ⌝ }
 {
-    match tested(p, h, b, u, v) {
-        TestAnswer::Passed => TotalAnswer::Total(sum_energy(p, h, b, u, v)),
-        TestAnswer::Refused(refusal) => TotalAnswer::Refused(refusal),
+    match tests::test_state(p, h, b, u, v) {
+        Answer::Accepted => TotalAnswer::Total(sum_energy(p, h, b, u, v)),
+        Answer::Refused(refusal) => TotalAnswer::Refused(refusal),
     }
 }

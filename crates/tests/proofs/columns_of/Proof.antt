@@ -1,4 +1,5 @@
 -- `tests::columns_of` meets its contract. Assumes nothing.
+use mathlib.Core.List.{[]}
 use borrow.Author.Needs.{needs}
 use Rattle.tests.proofs.ScanLaws.{all-columns, west-columns}
 use Rattle.tests.proofs.columns_of.Statement.{statement}
@@ -10,8 +11,8 @@ columns-of-spec =
     (tie.spec
     (λ c. search needs)
     (λ c. search needs)
-    (λ c. west-column (c .before .enum-told2 .given .1) (c .if1 .taken))
+    (λ c κs. search needs)
     (λ c. search needs)
     (λ c. all-columns _ _)
-    (λ c. all-columns _ _)
+    (λ c. let e = c .closable-columns .ensures in west-columns (c .before .before .t .given .1) (e .0) (e .1 [] [] [] []))
     (λ c. all-columns _ _))

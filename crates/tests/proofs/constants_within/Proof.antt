@@ -24,17 +24,17 @@ ratio c = c .within3 .ensures ∙ ap (within ratioLimits) (toZ-ofZ {w = w64} (re
 
 returns : tie.Need-returns
 unfolding constantsWithin
-returns c h b u v = rw (sym (gravity (c .before)) ∙ not-true _ (c .if1 .taken))
+returns c = rw (sym (gravity (c .before)) ∙ not-true _ (c .if1 .taken))
 
 returns-2 : tie.Need-returns-2
 unfolding constantsWithin
-returns-2 c h b u v =
+returns-2 c =
     let e = c .before .before .before in
     rw (sym (gravity (e .before)) ∙ not-false _ (e .if1 .left), sym (coriolis (c .before)) ∙ not-true _ (c .if2 .taken))
 
 returns-3 : tie.Need-returns-3
 unfolding constantsWithin
-returns-3 c h b u v =
+returns-3 c =
     let d = c .before .before in
     let e = d .before .before .before in
     ratio c ∙ rw (sym (gravity (e .before)) ∙ not-false _ (e .if1 .left), sym (coriolis (d .before)) ∙ not-false _ (d .if2 .left))

@@ -9,21 +9,21 @@ use Rattle.tests.proofs.grid_known.Tie as tie
 
 returns : tie.Need-returns
 unfolding gridKnown
-returns c h b u v = rw (sym (c .before .side .ensures) ∙ not-true _ (c .if1 .taken))
+returns c = rw (sym (c .before .is-side .ensures) ∙ not-true _ (c .if1 .taken))
 
 returns-2 : tie.Need-returns-2
 unfolding gridKnown
-returns-2 c h b u v =
+returns-2 c =
     let e = c .before .before in
-    rw (sym (e .before .side .ensures) ∙ not-false _ (e .if1 .left), sym (c .before .side2 .ensures) ∙ not-true _ (c .if2 .taken))
+    rw (sym (e .before .is-side .ensures) ∙ not-false _ (e .if1 .left), sym (c .before .is-side2 .ensures) ∙ not-true _ (c .if2 .taken))
 
 returns-3 : tie.Need-returns-3
 unfolding gridKnown
-returns-3 c h b u v =
+returns-3 c =
     let d = c .before .before in
     let e = d .before .before in
     c .known .ensures ∙ ap known (c .before .boundary-of .ensures)
-    ∙ rw (sym (e .before .side .ensures) ∙ not-false _ (e .if1 .left), sym (d .before .side2 .ensures) ∙ not-false _ (d .if2 .left))
+    ∙ rw (sym (e .before .is-side .ensures) ∙ not-false _ (e .if1 .left), sym (d .before .is-side2 .ensures) ∙ not-false _ (d .if2 .left))
 
 pub grid-known-spec : {M : Type 1} → statement M
 grid-known-spec =

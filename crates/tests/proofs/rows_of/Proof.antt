@@ -1,4 +1,5 @@
 -- `tests::rows_of` meets its contract. Assumes nothing.
+use mathlib.Core.List.{[]}
 use borrow.Author.Needs.{needs}
 use Rattle.tests.proofs.ScanLaws.{all-rows, south-rows}
 use Rattle.tests.proofs.rows_of.Statement.{statement}
@@ -11,7 +12,7 @@ rows-of-spec =
     (λ c. search needs)
     (λ c. search needs)
     (λ c. search needs)
-    (λ c. south-row (c .before .enum-told3 .given .1) (c .if1 .taken))
+    (λ c κs. search needs)
     (λ c. all-rows _ _)
     (λ c. all-rows _ _)
-    (λ c. all-rows _ _))
+    (λ c. let e = c .closable-rows .ensures in south-rows (c .before .before .t .given .1) (e .0) (e .1 [] [] [] [])))

@@ -1,27 +1,33 @@
--- `tests::then_edges` meets its contract. Assumes nothing.
-use mathlib.Core.Path.{ap, _∙_}
-use borrow.Author.Needs.{needs}
-use Rattle.model.specs.Refusals.{_then_}
-use Rattle.model.specs.Promises.{testAnswer}
+-- `tests::then_edges` meets its contract: whether an edge is closed goes by the parameters alone. Assumes nothing.
+use mathlib.Core.Path.{_≡_, refl, sym, ap, _∙_}
+use mathlib.Core.List.{List, [], _∷_}
+use lib.IntN.{ℤ}
+use Rattle.model.specs.State.{stateOf, closedWest, closedSouth}
+use Rattle.model.specs.Refusals.{edgeTests}
+use Rattle.model.specs.declared.Parameters.{Parameters}
 use Rattle.model.specs.declared.Field.the-variants.{VelocityU, VelocityV}
 use Rattle.tests.specs.declared.Fault.the-variants.{West, South}
 use Rattle.tests.specs.Faults.{cellTest}
-use Rattle.tests.specs.InOrder.{foundIn}
-use Rattle.theorems.specs.Tested.{then-assoc}
-use Rattle.tests.proofs.TestLaws.{after, edges-are}
+use Rattle.tests.specs.Links.{after, link, still-accepted}
 use Rattle.tests.proofs.then_edges.Statement.{statement}
 use Rattle.tests.proofs.then_edges.Tie as tie
 
+edges-are : (p : Parameters) (h b u v : List ℤ)
+    → cellTest (p .w) (p .n) u VelocityU (West p) ∷ cellTest (p .w) (p .n) v VelocityV (South p) ∷ [] ≡ edgeTests (stateOf p h b u v)
+unfolding closedWest closedSouth
+edges-are p h b u v = refl
+
 returns : tie.Need-returns
 returns c h b =
-    let f = c .before in
-    let e = f .before in
-    let a = e .before .args in
-    let o = foundIn (a .earlier) in
-    let west = cellTest (a .p .w) (a .p .n) (a .u .now) VelocityU (West (e .boundary-of .result)) in
-    let south = cellTest (a .p .w) (a .p .n) (a .v .now) VelocityV (South (e .boundary-of .result)) in
-    after (o then west) south (f .then-cells .ensures) (c .then-cells2 .ensures)
-    ∙ ap testAnswer (then-assoc o west south ∙ ap (λ q. o then q) (edges-are (a .p) h b (a .u .now) (a .v .now) (e .boundary-of .result) (e .boundary-of .ensures)))
+    let w = c .before in
+    let a = w .before .args in
+    link (a .earlier) (cellTest (a .p .w) (a .p .n) (a .u .now) VelocityU (West (a .p)) ∷ []) (cellTest (a .p .w) (a .p .n) (a .v .now) VelocityV (South (a .p)) ∷ []) (w .then-cells .ensures) (c .then-cells2 .ensures)
+    ∙ ap (after (a .earlier)) (edges-are (a .p) h b (a .u .now) (a .v .now))
 
 pub then-edges-spec : {M : Type 1} → statement M
-then-edges-spec = tie.close (tie.spec (λ c κs. search needs) (λ c κs. search needs) (λ c κs. search needs) returns)
+then-edges-spec =
+    tie.close
+    (tie.spec
+    (λ c κs h. c .pre h .0)
+    (λ c κs h. let a = c .before .args in c .before .pre (still-accepted (a .earlier) (cellTest (a .p .w) (a .p .n) (a .u .now) VelocityU (West (a .p)) ∷ []) (sym (c .then-cells .ensures) ∙ h)) .1)
+    returns)

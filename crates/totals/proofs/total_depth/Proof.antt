@@ -8,8 +8,9 @@ use Rattle.model.specs.Numbers.{depthLimits}
 use Rattle.model.specs.State.{State, stateOf, FieldWithin}
 use Rattle.model.specs.Answers.{toldTotal}
 use Rattle.model.specs.Totals.{totalDepth}
-use Rattle.model.specs.Promises.{testAnswer, totalTest}
-use Rattle.model.specs.declared.TestAnswer.the-variants.{Passed}
+use Rattle.model.specs.Tests.{firstFound}
+use Rattle.model.specs.Promises.{answerOf, totalTests}
+use Rattle.model.specs.declared.Answer.the-variants.{Accepted}
 use Rattle.integers.specs.Bounds.{held-is}
 use Rattle.grid.specs.Cells.{cells-most}
 use Rattle.totals.proofs.CallLaws.{total-passed, total-told, total-refused}
@@ -19,8 +20,8 @@ use Rattle.totals.proofs.total_depth.Tie as tie
 abbrev state : tie.Start → State
 state c = let a = c .args in stateOf (a .p) (a .h .now) (a .b .now) (a .u .now) (a .v .now)
 
-passed : (c : tie.After-enum-told) → Passed ≡ testAnswer (totalTest (state (c .before .before .before)))
-passed c = sym (c .enum-told .given .1) ∙ c .before .before .tested .ensures
+passed : (c : tie.After-enum-told) → Accepted ≡ answerOf (firstFound (totalTests (state (c .before .before .before))))
+passed c = sym (c .enum-told .given .1) ∙ c .before .before .test-state .ensures
 
 sum-depths-requires : tie.Need-sum-depths-requires
 sum-depths-requires c κs =
@@ -41,7 +42,7 @@ returns-2 c =
     let k = c .before in
     let t = k .before .before in
     let s = state (t .before) in
-    let e = total-refused s (totalDepth s) (sym (k .refusal .given .1) ∙ t .tested .ensures) in
+    let e = total-refused s (totalDepth s) (sym (k .refusal .given .1) ∙ t .test-state .ensures) in
     record { answers = e; tells = ap toldTotal e }
 
 pub total-depth-spec : {M : Type 1} → statement M

@@ -6,8 +6,9 @@ use mir.Syntax.{w64}
 use Rattle.model.specs.State.{State, stateOf}
 use Rattle.model.specs.Answers.{toldTotal}
 use Rattle.model.specs.Totals.{energy4}
-use Rattle.model.specs.Promises.{testAnswer, totalTest}
-use Rattle.model.specs.declared.TestAnswer.the-variants.{Passed}
+use Rattle.model.specs.Tests.{firstFound}
+use Rattle.model.specs.Promises.{answerOf, totalTests}
+use Rattle.model.specs.declared.Answer.the-variants.{Accepted}
 use Rattle.integers.specs.Bounds.{held-is}
 use Rattle.totals.proofs.CallLaws.{total-passed, total-told, total-refused}
 use Rattle.totals.proofs.total_energy.Statement.{statement}
@@ -16,8 +17,8 @@ use Rattle.totals.proofs.total_energy.Tie as tie
 abbrev state : tie.Start → State
 state c = let a = c .args in stateOf (a .p) (a .h .now) (a .b .now) (a .u .now) (a .v .now)
 
-passed : (c : tie.After-enum-told) → Passed ≡ testAnswer (totalTest (state (c .before .before .before)))
-passed c = sym (c .enum-told .given .1) ∙ c .before .before .tested .ensures
+passed : (c : tie.After-enum-told) → Accepted ≡ answerOf (firstFound (totalTests (state (c .before .before .before))))
+passed c = sym (c .enum-told .given .1) ∙ c .before .before .test-state .ensures
 
 returns : tie.Need-returns
 returns c =
@@ -29,7 +30,7 @@ returns-2 c =
     let k = c .before in
     let t = k .before .before in
     let s = state (t .before) in
-    let e = total-refused s (energy4 s) (sym (k .refusal .given .1) ∙ t .tested .ensures) in
+    let e = total-refused s (energy4 s) (sym (k .refusal .given .1) ∙ t .test-state .ensures) in
     record { answers = e; tells = ap toldTotal e }
 
 pub total-energy-spec : {M : Type 1} → statement M
