@@ -23,7 +23,7 @@ use Rattle.theorems.specs.Tested.{passed-none, refused-some}
 use Rattle.state.specs.InOrder.{foundIn}
 use Rattle.state.proofs.TestLaws.{found-answer, after}
 use Rattle.scheme.specs.Reading.{TendenciesReady}
-use Rattle.filling.specs.Handing.{Room}
+use Rattle.filling.specs.Rooms.{Room}
 
 -- ---- the tests in order
 

@@ -1,2 +1,2 @@
--- what a row hands on, and the room of the destinations
-pub mod Handing
+-- the room of the destinations
+pub mod Rooms

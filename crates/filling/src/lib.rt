@@ -13,7 +13,8 @@ ghost use Rattle.model.specs.Scheme.{D, vorticity, tendencyU, tendencyV, hTende
 ghost use Rattle.model.specs.Promises.{testAnswer, VorticityPromise, TendenciesPromise};
 ghost use Rattle.grid.specs.Writing.{RowWriting};
 ghost use Rattle.scheme.specs.Reading.{VorticityReady, TendenciesReady};
-ghost use Rattle.filling.specs.Handing.{Room, HandedNorth};
+ghost use Rattle.scheme.specs.Handing.{HandedNorth};
+ghost use Rattle.filling.specs.Rooms.{Room};
 use model::Beside;
 use model::FillAnswer;
 use model::Parameters;
@@ -113,29 +114,6 @@ fn fill_row(
     }
 }
 
-// What the last row gives to row 0, which is to its north. It rules out, for instance: what row 0 gives; the shares for the east.
-pub fn hand_north(
-    p: Parameters,
-    h: &[i64],
-    b: &[i64],
-    u: &[i64],
-    v: &[i64],
-    q: &[i64],
-    handed: &mut [i64],
-)
-    requires { ⌜ TendenciesReady (lent p h b u v) (now q) × (p .w ≤ length (now handed)) ⌝ }
-    ensures { λ _. ⌜
-        HandedNorth (before p h b u v) (now (q .entry)) (previous (p .n) 0) (now (handed .exit))
-        ⌝ }
-{
-    let j = p.n - 1;
-    for i in 0..p.w {
-        let last = scheme::shares_at(p, h, b, u, v, q, i, j);
-        let north = last.north;
-        handed[i] = north;
-    }
-}
-
 // Fills the first w·n places of dh with -D, of du with Tu and of dv with Tv.
 fn fill_tendencies(
     p: Parameters,
@@ -163,7 +141,7 @@ fn fill_tendencies(
 {
     // a row has 64 cells at most
     let mut handed = [0; 64];
-    hand_north(p, h, b, u, v, q, &mut handed);
+    scheme::hand_north(p, h, b, u, v, q, &mut handed);
     for j in 0..p.n {
         fill_row(p, h, b, u, v, q, j, &mut handed, dh, du, dv);
     }

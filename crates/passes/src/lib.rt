@@ -12,7 +12,7 @@ ghost use Rattle.model.specs.Step.{X, Y, newU, newV};
 ghost use Rattle.grid.specs.Parts.{part};
 ghost use Rattle.grid.specs.Banks.{Elsewhere};
 ghost use Rattle.grid.specs.Writing.{RowWriting};
-ghost use Rattle.filling.specs.Handing.{HandedNorth};
+ghost use Rattle.scheme.specs.Handing.{HandedNorth};
 ghost use Rattle.passes.specs.Spaces.{baseIn, resultIn, depthFrom, EdgesReady, DepthReady, VelocityReady, PassReady};
 use model::Parameters;
 
@@ -181,7 +181,7 @@ fn fill_velocity(p: Parameters, h: &[i64], b: &[i64], u: &[i64], v: &[i64], work
     // a row has 64 cells at most
     let mut handed = [0; 64];
     let m = p.w * p.n;
-    filling::hand_north(
+    scheme::hand_north(
         p,
         h,
         b,

@@ -7,11 +7,12 @@
 ghost use mathlib.Core.Path.{_≡_};
 ghost use mathlib.Core.Bool.{cond};
 ghost use mathlib.Core.List.{[]};
-ghost use Prim.Native.Nat.{_<_};
+ghost use Prim.Native.Nat.{_≤_, _<_};
 ghost use lib.IntN.{pos, negℤ, _+ℤ_, _-ℤ_, _*ℤ_};
 ghost use lib.ListN.{length, getD};
 ghost use Rattle.model.specs.Numbers.{rnd, bernoulliScale, tendencyScale, Within, gravityLimits, coriolisLimits, ratioLimits, depthLimits};
 ghost use Rattle.model.specs.Numbers.{bottomLimits, velocityLimits};
+ghost use Rattle.model.specs.Grid.{previous};
 ghost use Rattle.model.specs.State.{FieldWithin, stateOf, lent, before};
 ghost use Rattle.model.specs.Weights.{weightAt};
 ghost use Rattle.model.specs.Scheme.{vorticityAt, toWest, toSouth};
@@ -21,6 +22,7 @@ ghost use Rattle.scheme.specs.Reading.{ReadsAt, VorticityReady, FlowRead
 ghost use Rattle.scheme.specs.Shares.{mostFlux, mostBernoulli, mostShare, mostTendency, weightedBy, CornersWithin, squaresAt, fluxAt};
 ghost use Rattle.scheme.specs.Shares.{geopotentialAt, westShare, eastShare, southShare, northShare, Fit, IsShares, AreShares};
 ghost use Rattle.scheme.specs.Shares.{eastShareAt, northShareAt, AreTendencies};
+ghost use Rattle.scheme.specs.Handing.{HandedNorth};
 use grid::Stencil;
 use model::Parameters;
 
@@ -375,6 +377,29 @@ pub fn tendencies_at(
         v: edge_tendency(grid::wall_south(e, j), own.south, south),
         east: own.east,
         north: own.north,
+    }
+}
+
+// What the last row gives to row 0, which is to its north. It rules out, for instance: what row 0 gives; the shares for the east.
+pub fn hand_north(
+    p: Parameters,
+    h: &[i64],
+    b: &[i64],
+    u: &[i64],
+    v: &[i64],
+    q: &[i64],
+    handed: &mut [i64],
+)
+    requires { ⌜ TendenciesReady (lent p h b u v) (now q) × (p .w ≤ length (now handed)) ⌝ }
+    ensures { λ _. ⌜
+        HandedNorth (before p h b u v) (now (q .entry)) (previous (p .n) 0) (now (handed .exit))
+        ⌝ }
+{
+    let j = p.n - 1;
+    for i in 0..p.w {
+        let last = shares_at(p, h, b, u, v, q, i, j);
+        let north = last.north;
+        handed[i] = north;
     }
 }
 

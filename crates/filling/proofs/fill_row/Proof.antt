@@ -15,7 +15,7 @@ use Rattle.grid.specs.Cells.{cells-most, cell-lt, previous-first, previous-afte
 use Rattle.grid.specs.Writing.{Writing, writing-none, ahead, RowWriting, row-none, row-filled, row-whole}
 use Rattle.scheme.specs.Shares.{eastShareAt, northShareAt}
 use Rattle.scheme.specs.Sizes.{share-held, east-size, north-size, fit-in}
-use Rattle.filling.specs.Handing.{northRow, handed-more, handed-all}
+use Rattle.scheme.specs.Handing.{northRow, handed-more, handed-all}
 use Rattle.filling.proofs.fill_row.Statement.{statement}
 use Rattle.filling.proofs.fill_row.Tie as tie
 

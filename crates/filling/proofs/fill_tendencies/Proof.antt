@@ -10,7 +10,7 @@ use Rattle.model.specs.State.{stateOf}
 use Rattle.model.specs.Scheme.{D, tendencyU, tendencyV, hTendencies, uTendencies, vTendencies}
 use Rattle.grid.specs.Cells.{previous-after}
 use Rattle.grid.specs.Writing.{Writing, field, row-done, rows-none, rows-filled}
-use Rattle.filling.specs.Handing.{HandedNorth, handed-at}
+use Rattle.scheme.specs.Handing.{HandedNorth, handed-at}
 use Rattle.filling.proofs.fill_tendencies.Statement.{statement}
 use Rattle.filling.proofs.fill_tendencies.Tie as tie
 

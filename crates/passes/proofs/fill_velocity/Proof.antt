@@ -14,7 +14,7 @@ use Rattle.grid.specs.Parts.{part}
 use Rattle.grid.specs.Writing.{Writing, RowWriting, field, row-done, rows-none}
 use Rattle.grid.specs.Banks.{Elsewhere, elsewhere-none, elsewhere-then, length-part, bank-filled}
 use Rattle.scheme.specs.Reading.{TendenciesReady}
-use Rattle.filling.specs.Handing.{HandedNorth, handed-at}
+use Rattle.scheme.specs.Handing.{HandedNorth, handed-at}
 use Rattle.passes.specs.Spaces.{baseIn, base-kept, vorticity-kept, velocity-ready-kept}
 use Rattle.passes.proofs.fill_velocity.Statement.{statement}
 use Rattle.passes.proofs.fill_velocity.Tie as tie

@@ -24,7 +24,7 @@ use Rattle.scheme.specs.Reading.{TendenciesReady}
 use Rattle.scheme.specs.Shares.{eastShareAt, northShareAt, AreTendencies}
 use Rattle.scheme.specs.Sizes.{share-held, east-size, north-size, fit-in}
 use Rattle.scheme.specs.Passing.{tendencyU-size, tendencyV-size}
-use Rattle.filling.specs.Handing.{northRow, handed-more, handed-all}
+use Rattle.scheme.specs.Handing.{northRow, handed-more, handed-all}
 use Rattle.passes.specs.Spaces.{baseIn, VelocityReady, vorticity-kept, velocity-ready-kept}
 use Rattle.passes.proofs.velocity_row.Statement.{statement}
 use Rattle.passes.proofs.velocity_row.Tie as tie

@@ -1,4 +1,4 @@
--- What a row hands on to the row to its north, and the room of the destinations. Assumes nothing.
+-- What a row hands on to the row to its north. Assumes nothing.
 use mathlib.Core.Path.{_≡_, sym, ap, subst, _∙_}
 use mathlib.Core.List.{List}
 use Prim.Native.Nat.{ℕ, _+_, _≤_, _<_}
@@ -9,13 +9,7 @@ use Rattle.model.specs.Grid.{tabulate}
 use Rattle.model.specs.State.{State}
 use Rattle.grid.specs.Fields.{length-tabulate, getD-tabulate}
 use Rattle.grid.specs.Writing.{Writing, filling-more, filling-done}
 use Rattle.scheme.specs.Shares.{northShareAt}
-
--- the three destinations have room for m numbers
-pub record Room (m : ℕ) (dh du dv : List ℤ) : Type 0 where
-  pub h : m ≤ length dh
-  pub u : m ≤ length du
-  pub v : m ≤ length dv
 
 -- what row j gives to the row to its north
 abbrev pub northRow : State → List ℤ → ℕ → List ℤ

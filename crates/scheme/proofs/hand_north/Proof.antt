@@ -1,4 +1,4 @@
--- `filling::hand_north` meets its contract. The loop has put the shares of the last row into the first `i` places; the last row is the
+-- `scheme::hand_north` meets its contract. The loop has put the shares of the last row into the first `i` places; the last row is the
 -- one before row 0, because the grid wraps. Assumes nothing.
 use mathlib.Core.Path.{refl, sym, _∙_}
 use Prim.Native.Nat.{_-_, _<_}
@@ -8,10 +8,10 @@ use Rattle.model.specs.State.{State, stateOf}
 use Rattle.grid.specs.Cells.{previous-first}
 use Rattle.grid.specs.Writing.{Writing, writing-none}
 use Rattle.integers.specs.Bounds.{abs-as}
-use Rattle.filling.specs.Handing.{northRow, handed-at, handed-more, handed-all}
+use Rattle.scheme.specs.Handing.{northRow, handed-at, handed-more, handed-all}
 use Rattle.scheme.specs.Sizes.{share-held, north-size, fit-in}
-use Rattle.filling.proofs.hand_north.Statement.{statement}
-use Rattle.filling.proofs.hand_north.Tie as tie
+use Rattle.scheme.proofs.hand_north.Statement.{statement}
+use Rattle.scheme.proofs.hand_north.Tie as tie
 
 abbrev Inv-loop : tie.InvT-loop
 Inv-loop p h b u v q handed₀ j i₀ i-end handed i = Writing 0 (northRow (stateOf p h b u v) q j) handed₀ i handed
