@@ -54,8 +54,9 @@ fn fill_edges(p: Parameters, h: &[i64], u: &[i64], v: &[i64], work: &mut [i64])
     let m = p.w * p.n;
     for j in 0..p.n {
         for i in 0..p.w {
-            let x = scheme::flow_west(p, h, u, i, j);
-            let y = scheme::flow_south(p, h, v, i, j);
+            let flows = scheme::flows_at(p, h, u, v, i, j);
+            let x = flows.x;
+            let y = flows.y;
             let q = scheme::vorticity_at(p, h, u, v, i, j);
             let k = j * p.w + i;
             work[FLOW_X * m + k] = x;

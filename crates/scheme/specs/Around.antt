@@ -4,8 +4,10 @@ use mathlib.Core.List.{List}
 use Prim.Native.Nat.{ℕ, _<_}
 use lib.IntN.{ℤ, pos, _+ℤ_, _-ℤ_, _*ℤ_, +ℤ-assoc}
 use lib.ListN.{getD}
+use Rattle.model.specs.Numbers.{rnd}
 use Rattle.model.specs.State.{State}
 use Rattle.model.specs.Scheme.{cornerWeight, fluxU, fluxV, B, Z, H}
+use Rattle.model.specs.Step.{X, Y}
 use Rattle.grid.specs.Cells.{previous-next}
 use Rattle.grid.specs.Stencils.{IsAround}
 use Rattle.grid.specs.declared.Stencil.{Stencil}
@@ -42,3 +44,11 @@ module _ (s : State) {i j : ℕ} {a : Stencil} (r : IsAround (s .w) (s .n) i j a
       let v = getD (s .v) (a .here) (pos 0) in
       let v′ = getD (s .v) (a .north) (pos 0) in
       ap (λ z. z +ℤ geopotentialAt (s .G) (s .h) (s .b) (a .here)) (sym (+ℤ-assoc (squaresAt (s .u) (a .here) (a .east)) (v *ℤ v) (v′ *ℤ v′))) ∙ rw (r .here, r .east, r .north)
+
+  pub x-around : rnd (fluxAt (s .u) (s .h) (a .here) (a .west)) (pos 2 *ℤ s .R) ≡ X s i j
+  unfolding X fluxU
+  x-around = rw (r .here, r .west)
+
+  pub y-around : rnd (fluxAt (s .v) (s .h) (a .here) (a .south)) (pos 2 *ℤ s .R) ≡ Y s i j
+  unfolding Y fluxV
+  y-around = rw (r .here, r .south)

@@ -34,13 +34,14 @@ pub record VorticityReady (p : Parameters) (h u v : List ℤ) : Type 0 where
   pub us : FieldWithin velocityLimits (p .w * p .n) u
   pub vs : FieldWithin velocityLimits (p .w * p .n) v
 
--- what the flows through the edges of one way are made of, x the velocities there, is within the limits
-pub record FlowReady (p : Parameters) (h x : List ℤ) : Type 0 where
+-- what the flows through a cell's edges are made of is within the limits
+pub record FlowReady (p : Parameters) (h u v : List ℤ) : Type 0 where
   pub columns : Side (p .w)
   pub rows : Side (p .n)
   pub ratio : Within ratioLimits (p .r)
   pub depths : FieldWithin depthLimits (p .w * p .n) h
-  pub velocities : FieldWithin velocityLimits (p .w * p .n) x
+  pub us : FieldWithin velocityLimits (p .w * p .n) u
+  pub vs : FieldWithin velocityLimits (p .w * p .n) v
 
 -- what the tendencies are made of is within the limits
 pub record TendenciesReady (s : State) (q : List ℤ) : Type 0 where

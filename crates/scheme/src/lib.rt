@@ -418,24 +418,27 @@ fn flow_at(r: i64, x: &[i64], h: &[i64], k: usize, l: usize) -> i64
     integers::rnd(flux_at(x, h, k, l), 2 * r)
 }
 
-// 01's X and Y at cell (i, j): the flows through its west and south edge. What does not enter has no cells in the contracts. They
-// rule out, for instance: the depth of one cell twice; divided by R.
-pub fn flow_west(p: Parameters, h: &[i64], u: &[i64], i: usize, j: usize) -> i64
-    requires { ⌜ FlowReady p (now h) (now u) × (i < p .w) × (j < p .n) ⌝ }
-    ensures { λ r. ⌜ r ≡ X (stateOf p (now (h .entry)) [] (now (u .entry)) []) i j ⌝ }
-{
-    let here = grid::cell_index(p.w, p.n, i, j);
-    let west = grid::cell_index(p.w, p.n, grid::previous(p.w, i), j);
-    flow_at(p.r, u, h, here, west)
+// The flows through a cell's west and south edge: 01's X and Y.
+pub struct CellFlows {
+    pub x: i64,
+    pub y: i64,
 }
 
-pub fn flow_south(p: Parameters, h: &[i64], v: &[i64], i: usize, j: usize) -> i64
-    requires { ⌜ FlowReady p (now h) (now v) × (i < p .w) × (j < p .n) ⌝ }
-    ensures { λ r. ⌜ r ≡ Y (stateOf p (now (h .entry)) [] [] (now (v .entry))) i j ⌝ }
+// The flows of cell (i, j). The bottom does not enter: in the contract it has no cells. It rules out, for instance: the depth of one
+// cell twice; the flow from the north for the one from the south.
+pub fn flows_at(p: Parameters, h: &[i64], u: &[i64], v: &[i64], i: usize, j: usize) -> CellFlows
+    requires { ⌜ FlowReady p (now h) (now u) (now v) × (i < p .w) × (j < p .n) ⌝ }
+    ensures { λ r. ⌜
+        (let s = stateOf p (now (h .entry)) [] (now (u .entry)) (now (v .entry)) in
+        (r .x ≡ X s i j)
+        × (r .y ≡ Y s i j))
+        ⌝ }
 {
-    let here = grid::cell_index(p.w, p.n, i, j);
-    let south = grid::cell_index(p.w, p.n, i, grid::previous(p.n, j));
-    flow_at(p.r, v, h, here, south)
+    let a = grid::around(p.w, p.n, i, j);
+    CellFlows {
+        x: flow_at(p.r, u, h, a.here, a.west),
+        y: flow_at(p.r, v, h, a.here, a.south),
+    }
 }
 
 // ---- velocities

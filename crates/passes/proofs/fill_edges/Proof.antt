@@ -1,5 +1,5 @@
 -- `passes::fill_edges` meets its contract: row by row, column by column, in three banks. Assumes nothing.
-use mathlib.Core.Path.{_≡_, refl, ap, _∙_}
+use mathlib.Core.Path.{_≡_, ap, _∙_}
 use mathlib.Core.List.{List, []}
 use Prim.Native.Nat.{ℕ, _+_, _-_, _*_, _≤_, _<_, zero-le}
 use native.Mathlib.Omega.{arith}
@@ -7,7 +7,7 @@ use lib.IntN.{ℤ}
 use lib.ListN.{length, set, length-set}
 use mir.Syntax.{w64}
 use Rattle.model.specs.State.{State, stateOf}
-use Rattle.model.specs.Scheme.{fluxU, fluxV, vorticityAt, vorticity}
+use Rattle.model.specs.Scheme.{vorticityAt, vorticity}
 use Rattle.model.specs.Step.{X, Y}
 use Rattle.model.specs.declared.Parameters.{Parameters}
 use Rattle.integers.specs.Bounds.{held, held-is}
@@ -56,7 +56,7 @@ abbrev begin : Turn → Start
 begin c = c .before .before .before .before .before
 
 abbrev turn : tie.After-struct-known2 Inv-loop2 μ-loop2 Inv-loop μ-loop → Turn
-turn c = c .before .before .before .before
+turn c = c .before .before .before .before .before
 
 -- the cell's index
 abbrev cell : Turn → ℕ
@@ -77,38 +77,23 @@ places : (c : Turn)
     → let p = begin c .args .p in let m = p .w * p .n in let l = length (c .before .loop2 .work) in (4 * m + cell c < l) × (5 * m + cell c < l) × (6 * m + cell c < l)
 places c = (omega (arith, below c, long c), omega (arith, below c, long c), omega (arith, below c, long c))
 
-flow-west-requires : tie.Need-flow-west-requires Inv-loop2 μ-loop2 Inv-loop μ-loop
-flow-west-requires c κs =
+flows-at-requires : tie.Need-flows-at-requires Inv-loop2 μ-loop2 Inv-loop μ-loop
+flows-at-requires c κs =
     let r = begin c .pre .0 in
-    (record { columns = r .columns; rows = r .rows; ratio = r .ratio; depths = r .depths; velocities = r .us }, c .loop2-test .taken, c .before .before .loop-test .taken)
-
-flow-south-requires : tie.Need-flow-south-requires Inv-loop2 μ-loop2 Inv-loop μ-loop
-flow-south-requires c κs =
-    let i = c .before in
-    let r = begin i .pre .0 in
-    (record { columns = r .columns; rows = r .rows; ratio = r .ratio; depths = r .depths; velocities = r .vs }, i .loop2-test .taken, i .before .before .loop-test .taken)
+    (record { columns = r .columns; rows = r .rows; ratio = r .ratio; depths = r .depths; us = r .us; vs = r .vs }, c .loop2-test .taken, c .before .before .loop-test .taken)
 
 vorticity-at-requires : tie.Need-vorticity-at-requires Inv-loop2 μ-loop2 Inv-loop μ-loop
 vorticity-at-requires c κs =
-    let i = c .before .before in
+    let i = c .before .before .before in
     let r = begin i .pre .0 in
     (record { columns = r .columns; rows = r .rows; coriolis = r .coriolis; depths = r .depths; us = r .us; vs = r .vs }, i .loop2-test .taken, i .before .before .loop-test .taken)
-
--- what does not enter may as well be there
-x-of : (p : Parameters) (h u v : List ℤ) (i j : ℕ) → X (stateOf p h [] u []) i j ≡ X (given p h u v) i j
-unfolding X fluxU
-x-of p h u v i j = refl
-
-y-of : (p : Parameters) (h u v : List ℤ) (i j : ℕ) → Y (stateOf p h [] [] v) i j ≡ Y (given p h u v) i j
-unfolding Y fluxV
-y-of p h u v i j = refl
 
 loop2-again : tie.Need-loop2-again Inv-loop2 μ-loop2 Inv-loop μ-loop
 loop2-again c =
     let z = c .before in
-    let y = z .before in
-    let x = y .before in
-    let i = x .before in
+    let t = z .before in
+    let e = t .before .before in
+    let i = e .before in
     let a = begin i .args in
     let p = a .p in
     let m = p .w * p .n in
@@ -118,10 +103,10 @@ loop2-again c =
     let q = i .loop2-test .taken in
     let r = i .before .before .loop-test .taken in
     let l = below i in (
-      bank-more _ _ _ (inv .0) q r (held-is w64 (x .flow-west .ok) (x .flow-west .ensures ∙ x-of p (a .h .now) (a .u .now) (a .v .now) _ _))
+      bank-more _ _ _ (inv .0) q r (held-is w64 (t .struct-told2 .given .0 .1) (e .flows-at .ensures .0))
           (part-set-behind (4 * m) m _ (6 * m + k) _ (omega arith) ∙ part-set-behind (4 * m) m _ (5 * m + k) _ (omega arith) ∙ part-set (4 * m) m d k _ l),
-      bank-more _ _ _ (inv .1) q r (held-is w64 (y .flow-south .ok) (y .flow-south .ensures ∙ y-of p (a .h .now) (a .u .now) (a .v .now) _ _))
-          (part-set-behind (5 * m) m _ (6 * m + k) _ (omega arith) ∙ part-set (5 * m) m _ k _ l ∙ ap (λ f. set f k (held w64 (y .flow-south .result))) (part-set-before (5 * m) m d (4 * m + k) _ (omega arith))),
+      bank-more _ _ _ (inv .1) q r (held-is w64 (t .struct-told2 .given .1 .0 .1) (e .flows-at .ensures .1))
+          (part-set-behind (5 * m) m _ (6 * m + k) _ (omega arith) ∙ part-set (5 * m) m _ k _ l ∙ ap (λ f. set f k (held w64 (e .flows-at .result .y))) (part-set-before (5 * m) m d (4 * m + k) _ (omega arith))),
       bank-more _ _ _ (inv .2) q r (held-is w64 (z .vorticity-at .ok) (z .vorticity-at .ensures))
           (part-set (6 * m) m _ k _ l
           ∙ ap (λ f. set f k (held w64 (z .vorticity-at .result))) (part-set-before (6 * m) m _ (5 * m + k) _ (omega arith) ∙ part-set-before (6 * m) m d (4 * m + k) _ (omega arith))),
@@ -175,8 +160,7 @@ fill-edges-spec =
     (λ c. omega (arith, few (c .before)))
     (λ c. (zero-le, rows-none _ _ _, rows-none _ _ _, rows-none _ _ _, elsewhere-none))
     (λ c. let j = c .before .loop .j in (row-none _ _ _ j, row-none _ _ _ j, row-none _ _ _ j, elsewhere-none))
-    flow-west-requires
-    flow-south-requires
+    flows-at-requires
     vorticity-at-requires
     (λ c. omega (arith, below (turn c), few (begin (turn c))))
     (λ c. omega (arith, below (turn c), few (begin (turn c))))
