@@ -1,5 +1,5 @@
 /*
- * Works out the potential vorticity and the tendencies of three states of
+ * Works out the potential vorticity and the tendencies of four states of
  * document 01 with the proved core, and prints them cell by cell, or the
  * number of the refusal and with 4 and 5 the field and the cell. From the
  * repository, after `rt staticlib basin`:
@@ -61,9 +61,13 @@ int main(void)
     /* Example 6 is example 4 with kind 2, which closes the edge of u[0]. */
     struct state example_6 = example_4;
     example_6.kind = 2;
+    /* Example 7 is example 2, a millimetre too shallow. */
+    struct state example_7 = example_2;
+    example_7.h[0] = 999;
 
     print_tendencies("example 2", &example_2);
     print_tendencies("example 4", &example_4);
     print_tendencies("example 6", &example_6);
+    print_tendencies("example 7", &example_7);
     return 0;
 }

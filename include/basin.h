@@ -2,8 +2,7 @@
  * The proved basin core (document 01), for C and C++ on x86-64. Link
  * target/staticlib/libbasin.a, which `rt staticlib basin` writes: the step of a
  * state and runs of it, totals, potential vorticity and tendencies, the record
- * of a state (writer, reader, comparison), the tests that a call on a state
- * begins with, by themselves, and rounding.
+ * of a state (writer, reader, comparison), and rounding.
  *
  * Every function takes any numbers and any lengths, and always returns. A
  * field or a record is lent as a pointer and the number of its elements. A
@@ -168,7 +167,8 @@ uint64_t basin_run(size_t w, size_t n, uint8_t kind,
 
 /*
  * Total depth, the sum of h. Tests 1 to 5. Where none refuses, *total is the
- * result; otherwise it is untouched.
+ * result; otherwise it is untouched. Who wants to know first whether a state is
+ * refused can ask for this: it writes to no field.
  */
 uint64_t basin_total_depth(size_t w, size_t n, uint8_t kind,
                            int64_t g, int64_t c, int64_t r,
@@ -236,53 +236,6 @@ uint64_t basin_read(const uint8_t *record, size_t record_len,
 uint64_t basin_compare(const uint8_t *first, size_t first_len,
                        const uint8_t *second, size_t second_len,
                        uint64_t answer[8]);
-
-/*
- * Tests 1 to 5 of a state by themselves: 0 where a call that takes it is
- * refused with none of them.
- */
-uint64_t basin_test_state(size_t w, size_t n, uint8_t kind,
-                          int64_t g, int64_t c, int64_t r,
-                          const int64_t *h, size_t h_len,
-                          const int64_t *b, size_t b_len,
-                          const int64_t *u, size_t u_len,
-                          const int64_t *v, size_t v_len,
-                          uint64_t answer[8]);
-
-/* The same of a call that takes a potential vorticity too: tendencies. */
-uint64_t basin_test_vorticity(size_t w, size_t n, uint8_t kind,
-                              int64_t g, int64_t c, int64_t r,
-                              const int64_t *h, size_t h_len,
-                              const int64_t *b, size_t b_len,
-                              const int64_t *u, size_t u_len,
-                              const int64_t *v, size_t v_len,
-                              const int64_t *q, size_t q_len,
-                              uint64_t answer[8]);
-
-/*
- * The same of a call that takes an inflow and a work space of work_len numbers
- * too: a step. The work space itself is not lent.
- */
-uint64_t basin_test_step(size_t w, size_t n, uint8_t kind,
-                         int64_t g, int64_t c, int64_t r,
-                         const int64_t *h, size_t h_len,
-                         const int64_t *b, size_t b_len,
-                         const int64_t *u, size_t u_len,
-                         const int64_t *v, size_t v_len,
-                         const int64_t *inflow, size_t inflow_len,
-                         size_t work_len,
-                         uint64_t answer[8]);
-
-/* The same with the number of steps too: a run. */
-uint64_t basin_test_run(size_t w, size_t n, uint8_t kind,
-                        int64_t g, int64_t c, int64_t r,
-                        const int64_t *h, size_t h_len,
-                        const int64_t *b, size_t b_len,
-                        const int64_t *u, size_t u_len,
-                        const int64_t *v, size_t v_len,
-                        const int64_t *inflow, size_t inflow_len,
-                        uint64_t steps, size_t work_len,
-                        uint64_t answer[8]);
 
 #ifdef __cplusplus
 }

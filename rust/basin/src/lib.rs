@@ -9,22 +9,19 @@
 //! The core has the step of a state and runs of it ([`step`], [`run`]), the
 //! totals ([`total_depth`], [`total_energy`]), the potential vorticity and the
 //! tendencies ([`potential_vorticity`], [`tendencies`]), the record of a state
-//! ([`write`], [`read`], [`compare`]), the tests that every call on a state
-//! begins with ([`test_state`]) and the rounding of the scheme ([`rnd`]).
+//! ([`write`], [`read`], [`compare`]) and the rounding of the scheme ([`rnd`]).
 //!
 //! The archive is looked for in the repository's `target/staticlib`, or in
 //! the folder that the environment variable `BASIN_LIB_DIR` names when this
 //! package is built.
 //!
 //! ```
-//! use basin::{compare, potential_vorticity, read, rnd, run, step, tendencies, test_state};
-//! use basin::{total_depth, total_energy, write, Beside, Comparison, Field, Parameters};
-//! use basin::{Ran, Read, Refusal, Refused};
+//! use basin::{compare, potential_vorticity, read, rnd, run, step, tendencies, total_depth};
+//! use basin::{total_energy, write, Comparison, Field, Parameters, Ran, Read, Refusal, Refused};
 //!
 //! // One cell, 2,000 mm deep, that wraps both ways.
 //! let p = Parameters { w: 1, n: 1, kind: 0, g: 9810, c: 10, r: 1000 };
 //! let (mut h, b, mut u, mut v) = ([2000], [0], [100], [-50]);
-//! assert_eq!(test_state(&p, &h, &b, &u, &v, Beside::Nothing), Ok(()));
 //! assert_eq!(total_depth(&p, &h, &b, &u, &v), Ok(2000));
 //! assert_eq!(total_energy(&p, &h, &b, &u, &v), Ok(78_530_000_000));
 //!
@@ -38,7 +35,7 @@
 //! assert_eq!((dh, du, dv), ([0], [-1_574_400_000], [-3_148_800_000]));
 //!
 //! // Too shallow by a millimetre.
-//! let refusal = test_state(&p, &[999], &b, &u, &v, Beside::Nothing).unwrap_err();
+//! let refusal = total_depth(&p, &[999], &b, &u, &v).unwrap_err();
 //! assert_eq!(refusal, Refusal::Value { field: Field::Depth, cell: 0 });
 //! assert_eq!(refusal.number(), 4);
 //! assert_eq!(refusal.to_string(), "refusal 4: depth h outside its bounds, cell 0");
@@ -135,23 +132,6 @@ impl Parameters {
         let fields = self.w.saturating_mul(self.n).saturating_mul(12);
         fields.saturating_add(44)
     }
-}
-
-/// What a call takes beside its state, and has to be tested with it.
-#[derive(Clone, Copy, Debug, PartialEq, Eq, Hash)]
-pub enum Beside<'a> {
-    /// Nothing: the totals, potential vorticity, and the writer of a record.
-    Nothing,
-    /// A potential vorticity q: tendencies.
-    Vorticity(&'a [i64]),
-    /// An inflow and `work` numbers of work space: a step.
-    Inflow { inflow: &'a [i64], work: usize },
-    /// A run length too: a run.
-    Run {
-        inflow: &'a [i64],
-        steps: u64,
-        work: usize,
-    },
 }
 
 /// How far a run came.
@@ -252,7 +232,8 @@ pub fn run(
     }
 }
 
-/// Total depth of a state, in mm: the sum of h. Tests 1 to 5.
+/// Total depth of a state, in mm: the sum of h. Tests 1 to 5. Who wants to know
+/// first whether a state is refused can ask for this: it writes to no field.
 pub fn total_depth(
     p: &Parameters,
     h: &[i64],
@@ -381,29 +362,6 @@ pub fn compare(first: &[u8], second: &[u8]) -> Result<Comparison, Refused> {
     let [number, next, values @ ..] = told(|answer| raw::compare(first, second, answer));
     Refused::from_told(number, next, &values)?;
     Ok(Comparison::from_told(next))
-}
-
-/// Tests 1 to 5 of a call that takes this state and `beside` it. The first
-/// cause, by number, then field, then cell, is the refusal; after `Ok` the
-/// call is not refused with any of 1 to 5.
-pub fn test_state(
-    p: &Parameters,
-    h: &[i64],
-    b: &[i64],
-    u: &[i64],
-    v: &[i64],
-    beside: Beside,
-) -> Result<(), Refusal> {
-    answered(|answer| match beside {
-        Beside::Nothing => raw::test_state(p, h, b, u, v, answer),
-        Beside::Vorticity(q) => raw::test_vorticity(p, h, b, u, v, q, answer),
-        Beside::Inflow { inflow, work } => raw::test_step(p, h, b, u, v, inflow, work, answer),
-        Beside::Run {
-            inflow,
-            steps,
-            work,
-        } => raw::test_run(p, h, b, u, v, inflow, steps, work, answer),
-    })
 }
 
 /// The answer of a call: a number, which it returns too, and what is told with

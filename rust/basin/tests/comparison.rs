@@ -303,7 +303,8 @@ fn run_lengths_and_work_spaces_are_tested_where_they_are_taken() {
             expect(&case, call, &[told], "a run length");
         }
     }
-    for work in [0, 1, 6, 42, 47, 48, 49, 1 << 32, 1 << 63, usize::MAX] {
+    // Longer ones are lent in limits.rs.
+    for work in [0, 1, 6, 42, 47, 48, 49, 55] {
         let mut case = Case::basin();
         case.work = work;
         for call in CALLS {

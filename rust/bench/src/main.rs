@@ -16,7 +16,7 @@ use std::hint::black_box;
 use std::time::{Duration, Instant};
 
 use common::{clear_closed_edges, numbers, random_q, random_state, written, Random, Spread};
-use reference::{CompareAnswer, FillAnswer, ReadAnswer, WriteAnswer};
+use reference::{CompareAnswer, FillAnswer, ReadAnswer, TotalAnswer, WriteAnswer};
 use reference::{Parameters, RunAnswer, State, StepAnswer};
 
 const GRIDS: [(usize, usize); 2] = [(16, 16), (64, 64)];
@@ -53,8 +53,8 @@ impl Call {
 
 type Version = fn(&mut Lent) -> bool;
 
-/// A name, and the function of that name in both versions, or that of each,
-/// with what it takes after the parameters; or `record` and one that takes none.
+/// A name, and the function of both versions with what it takes after the
+/// parameters; or `record` and one that takes none.
 macro_rules! call {
     ($name:literal, record |$l:ident| $function:ident($($lent:expr),*)) => {
         Call {
@@ -65,15 +65,12 @@ macro_rules! call {
         }
     };
     ($name:literal, |$l:ident| $function:ident($($lent:expr),*)) => {
-        call!($name, |$l| $function($($lent),*) | $function($($lent),*))
-    };
-    ($name:literal, |$l:ident| $proved:ident($($a:expr),*) | $independent:ident($($b:expr),*)) => {
         Call {
             name: $name,
             steps: 0,
-            proved: |$l| basin::$proved(&$l.proved_parameters, $($a),*).accepted(),
+            proved: |$l| basin::$function(&$l.proved_parameters, $($lent),*).accepted(),
             independent: |$l| {
-                reference::$independent(&$l.independent_parameters, $($b),*).accepted()
+                reference::$function(&$l.independent_parameters, $($lent),*).accepted()
             },
         }
     };
@@ -81,8 +78,7 @@ macro_rules! call {
 
 #[rustfmt::skip]
 const CALLS: [Call; 8] = [
-    call!("tests of a state", |l| test_state(&l.h, &l.b, &l.u, &l.v, basin::Beside::Nothing)
-                                | test_call(&l.h, &l.b, &l.u, &l.v, reference::Beside::Nothing)),
+    call!("total depth", |l| total_depth(&l.h, &l.b, &l.u, &l.v)),
     call!("potential vorticity", |l| potential_vorticity(&l.h, &l.b, &l.u, &l.v, &mut l.own_q)),
     call!("tendencies", |l| tendencies(&l.h, &l.b, &l.u, &l.v, &l.q, &mut l.dh, &mut l.du, &mut l.dv)),
     Call { steps: 1,
@@ -234,6 +230,12 @@ impl<E> Answer for Result<basin::Ran, E> {
     }
 }
 
+impl<E> Answer for Result<i64, E> {
+    fn accepted(&self) -> bool {
+        self.is_ok()
+    }
+}
+
 impl<E> Answer for Result<usize, E> {
     fn accepted(&self) -> bool {
         self.is_ok()
@@ -267,6 +269,12 @@ impl Answer for StepAnswer {
 impl Answer for RunAnswer {
     fn accepted(&self) -> bool {
         matches!(self, RunAnswer::Finished { .. })
+    }
+}
+
+impl Answer for TotalAnswer {
+    fn accepted(&self) -> bool {
+        matches!(self, TotalAnswer::Total(_))
     }
 }
 

@@ -8,7 +8,7 @@ use std::fmt::Display;
 use std::iter::Enumerate;
 use std::str::{FromStr, Lines};
 
-use basin::{test_state, Beside, Parameters, Refusal};
+use basin::{total_depth, Parameters, Refusal};
 
 use crate::date::from_date;
 use crate::state::State;
@@ -141,7 +141,7 @@ impl<'a> Reader<'a> {
             c,
             r,
         };
-        if let Err(refusal @ Refusal::Grid) = test_state(&p, &[], &[], &[], &[], Beside::Nothing) {
+        if let Err(refusal @ Refusal::Grid) = total_depth(&p, &[], &[], &[], &[]) {
             return Err(Unread::Refused(refusal));
         }
         self.fields = [(); 4].map(|()| vec![0; w * n]);

@@ -29,5 +29,5 @@ pub use refusal::{
     WriteAnswer,
 };
 pub use scheme::{energy_rate, enstrophy_rate, potential_vorticity, tendencies};
-pub use state::{test_call, Beside, Boundary, Parameters, State};
+pub use state::{Boundary, Parameters, State};
 pub use stepping::{run, step, total_depth, total_energy};

@@ -227,58 +227,6 @@ fn before(i: usize, size: usize) -> usize {
 /// A field that a call takes beside the state: q or the inflow.
 pub(crate) type Extra<'a> = Option<(Field, &'a [i64])>;
 
-/// What a call takes beside its state that tests 1 to 5 look at.
-#[derive(Clone, Copy, Debug, PartialEq, Eq)]
-pub enum Beside<'a> {
-    /// The totals, potential vorticity and the writer take nothing.
-    Nothing,
-    /// Tendencies take q.
-    Vorticity(&'a [i64]),
-    /// A step takes an inflow, and `work` numbers of work space.
-    Inflow { inflow: &'a [i64], work: usize },
-    /// A run takes its length as well.
-    Run {
-        inflow: &'a [i64],
-        steps: u64,
-        work: usize,
-    },
-}
-
-/// Tests 1 to 5 of a call by themselves: passed, or the refusal that the call
-/// would answer.
-pub fn test_call(
-    p: &Parameters,
-    h: &[i64],
-    b: &[i64],
-    u: &[i64],
-    v: &[i64],
-    beside: Beside,
-) -> Result<(), Refusal> {
-    let fields = Fields { h, b, u, v };
-    match beside {
-        Beside::Nothing => test_state(p, fields, None).map(|_| ()),
-        Beside::Vorticity(q) => test_state(p, fields, Some((Field::Vorticity, q))).map(|_| ()),
-        // A step is tested as a run of one step.
-        Beside::Inflow { inflow, work } => {
-            let steps = 1;
-            let run = Beside::Run {
-                inflow,
-                steps,
-                work,
-            };
-            test_call(p, h, b, u, v, run)
-        }
-        Beside::Run {
-            inflow,
-            steps,
-            work,
-        } => {
-            let grid = test_room(p, fields, inflow, steps, work)?;
-            test_values(p, grid, fields, Some((Field::Inflow, inflow)))
-        }
-    }
-}
-
 /// Test 1. w·n may be formed only after it.
 pub(crate) fn test_grid(p: &Parameters) -> Result<Grid, Refusal> {
     match Boundary::from_byte(p.kind) {

@@ -6,10 +6,8 @@
 use crate::common::literal::PAPER;
 use crate::common::{any_state, numbers, random_state, run_state, step_state, within_limits};
 use crate::common::{Random, Spread, SPREADS};
-use reference::{
-    potential_vorticity, run, step, tendencies, test_call, total_depth, total_energy, write,
-    Beside, Parameters, State,
-};
+use reference::{potential_vorticity, run, step, tendencies, total_depth, total_energy, write};
+use reference::{Parameters, State};
 
 #[derive(Clone, Copy, Debug, PartialEq)]
 enum Call {
@@ -112,27 +110,6 @@ impl Lent {
         }
     }
 
-    /// The same of the call's tests 1 to 5 by themselves: `[0]` where they
-    /// pass.
-    fn tested(&self, call: Call) -> Vec<i128> {
-        let Lent { p, h, b, u, v, .. } = self;
-        let (inflow, work) = (&self.inflow, self.work.len());
-        let beside = match call {
-            Vorticity | TotalDepth | TotalEnergy | Write => Beside::Nothing,
-            Tendencies => Beside::Vorticity(&self.q),
-            Step => Beside::Inflow { inflow, work },
-            Run => Beside::Run {
-                inflow,
-                steps: self.steps,
-                work,
-            },
-        };
-        match test_call(p, h, b, u, v, beside) {
-            Ok(()) => vec![0],
-            Err(refusal) => refusal.told(),
-        }
-    }
-
     /// What a refusal with this number leaves: all as it was, but that after
     /// 3 to 6 the part of the work space that is used is clear.
     fn after_refusal(&self, call: Call, number: i128) -> Self {
@@ -147,9 +124,6 @@ impl Lent {
         let mut lent = self.clone();
         let got = lent.make(call);
         assert_eq!(got, told, "{call:?}, {what}: {self:?}");
-        // A refusal above 5 is not one of the tests.
-        let tested = if told[0] <= 5 { told } else { &[0] };
-        assert_eq!(self.tested(call), tested, "{call:?}, {what}: {self:?}");
         let after = self.after_refusal(call, told[0]);
         assert_eq!(lent, after, "{call:?}, {what}, left changed: {self:?}");
     }
@@ -160,7 +134,6 @@ impl Lent {
         let got = lent.make(call);
         let fine = got[0] == 0 || (matches!(call, Step | Run) && got[0] == 6);
         assert!(fine, "{call:?}, {what}: {got:?} {self:?}");
-        assert_eq!(self.tested(call), [0], "{call:?}, {what}: {self:?}");
     }
 }
 
@@ -574,7 +547,6 @@ fn any_numbers_and_lengths_are_answered_by_the_table() {
 /// Makes a call that tests 1 to 5 and 8 pass, checks that it changes only
 /// what it is to fill, and gives the number it tells.
 fn accepted_call(call: Call, before: &Lent) -> i128 {
-    assert_eq!(before.tested(call), [0], "{call:?}: {before:?}");
     let mut after = before.clone();
     let told = after.make(call);
     let cells = before.p.w * before.p.n;

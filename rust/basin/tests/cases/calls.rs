@@ -1,7 +1,7 @@
 //! A call made with both versions: what they tell and write is compared, and
 //! everything lent is looked at before and after.
 
-use basin::{raw, Beside, Ran, Refusal};
+use basin::{raw, Ran, Refusal};
 
 use super::common::literal::{self, Three};
 use super::{record_size, Call, Case, H, Q, U, V};
@@ -221,25 +221,13 @@ fn proved(case: &Case, call: Call) -> Outcome {
     let p = &parameters(case);
     let [h, b, u, v, q, s] = &case.fields;
     let &Case {
-        steps,
-        work,
-        timestamp,
-        ..
+        steps, timestamp, ..
     } = case;
     let mut written = Written::before(case, call);
     let lent = written.slices();
     let [first, second, third] = lent.destinations;
     let [h_stepped, u_stepped, v_stepped] = lent.stepped;
-    let test = |beside| told(basin::test_state(p, h, b, u, v, beside));
     let told = match call {
-        Call::TestState => test(Beside::Nothing),
-        Call::TestVorticity => test(Beside::Vorticity(q)),
-        Call::TestStep => test(Beside::Inflow { inflow: s, work }),
-        Call::TestRun => test(Beside::Run {
-            inflow: s,
-            steps,
-            work,
-        }),
         Call::PotentialVorticity => told(basin::potential_vorticity(p, h, b, u, v, first)),
         Call::Tendencies => told(basin::tendencies(p, h, b, u, v, q, first, second, third)),
         Call::Step => told(basin::step(
@@ -257,20 +245,16 @@ fn proved(case: &Case, call: Call) -> Outcome {
 
 /// The independent version.
 pub fn independent(case: &Case, call: Call) -> Outcome {
-    use reference::{Beside, FillAnswer, TotalAnswer};
+    use reference::TotalAnswer;
     let Case { p, fields, .. } = case;
     let [h, b, u, v, q, s] = fields;
     let &Case {
-        steps,
-        work,
-        timestamp,
-        ..
+        steps, timestamp, ..
     } = case;
     let mut written = Written::before(case, call);
     let lent = written.slices();
     let [first, second, third] = lent.destinations;
     let [h_stepped, u_stepped, v_stepped] = lent.stepped;
-    let test = |beside| FillAnswer::from(reference::test_call(p, h, b, u, v, beside)).told();
     // The total goes to its place, and is not told.
     let mut total = |answer: TotalAnswer| {
         if let TotalAnswer::Total(number) = answer {
@@ -280,14 +264,6 @@ pub fn independent(case: &Case, call: Call) -> Outcome {
         answer.told()
     };
     let told = match call {
-        Call::TestState => test(Beside::Nothing),
-        Call::TestVorticity => test(Beside::Vorticity(q)),
-        Call::TestStep => test(Beside::Inflow { inflow: s, work }),
-        Call::TestRun => test(Beside::Run {
-            inflow: s,
-            steps,
-            work,
-        }),
         Call::TotalDepth => total(reference::total_depth(p, h, b, u, v)),
         Call::TotalEnergy => total(reference::total_energy(p, h, b, u, v)),
         Call::PotentialVorticity => reference::potential_vorticity(p, h, b, u, v, first).told(),
@@ -315,18 +291,11 @@ pub fn call_raw(
     let p = &parameters(case);
     let [h, b, u, v, q, s] = fields;
     let &Case {
-        steps,
-        work,
-        timestamp,
-        ..
+        steps, timestamp, ..
     } = case;
     let [first, second, third] = lent.destinations;
     let [h_stepped, u_stepped, v_stepped] = lent.stepped;
     match call {
-        Call::TestState => raw::test_state(p, h, b, u, v, answer),
-        Call::TestVorticity => raw::test_vorticity(p, h, b, u, v, q, answer),
-        Call::TestStep => raw::test_step(p, h, b, u, v, s, work, answer),
-        Call::TestRun => raw::test_run(p, h, b, u, v, s, steps, work, answer),
         Call::PotentialVorticity => raw::potential_vorticity(p, h, b, u, v, first, answer),
         Call::Tendencies => raw::tendencies(p, h, b, u, v, q, first, second, third, answer),
         Call::Step => raw::step(p, h_stepped, b, u_stepped, v_stepped, s, lent.work, answer),

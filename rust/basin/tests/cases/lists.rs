@@ -1,6 +1,7 @@
 //! Lists of step and run calls, each with what it is lent beside the state.
 
-use reference::{Beside, State, StepAnswer};
+use reference::state::MAX_STEPS;
+use reference::{RunAnswer, State, StepAnswer};
 
 use super::calls::Outcome;
 use super::common::{numbers, Random, Spread};
@@ -68,15 +69,12 @@ impl Entry {
             work,
             ..
         } = self;
-        let run = Beside::Run {
-            inflow,
-            steps,
-            work,
-        };
-        if reference::test_call(p, h, b, u, v, run).is_err() {
+        let mut space = vec![0; work];
+        // A run of no step is tested like any other, and leaves the state.
+        let tested = reference::run(p, h, b, u, v, inflow, 0, &mut space);
+        if steps > MAX_STEPS || tested != (RunAnswer::Finished { steps: 0 }) {
             return 0;
         }
-        let mut space = vec![0; work];
         let mut step = || reference::step(p, h, b, u, v, inflow, &mut space);
         (0..steps)
             .take_while(|_| step() == StepAnswer::Done)

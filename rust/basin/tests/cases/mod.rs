@@ -38,12 +38,6 @@ const HARMLESS: [i64; 6] = [1_000, 0, 0, 0, 0, 0];
 /// The calls on a state.
 #[derive(Clone, Copy, Debug, PartialEq)]
 pub enum Call {
-    /// The tests of a state by themselves, and of what some calls take beside
-    /// it.
-    TestState,
-    TestVorticity,
-    TestStep,
-    TestRun,
     PotentialVorticity,
     Tendencies,
     Step,
@@ -54,11 +48,7 @@ pub enum Call {
     Write,
 }
 
-pub const CALLS: [Call; 11] = [
-    Call::TestState,
-    Call::TestVorticity,
-    Call::TestStep,
-    Call::TestRun,
+pub const CALLS: [Call; 7] = [
     Call::PotentialVorticity,
     Call::Tendencies,
     Call::Step,
@@ -77,22 +67,19 @@ impl Call {
     /// The fields that the call takes.
     pub fn fields(self) -> &'static [usize] {
         match self {
-            Call::TestState | Call::PotentialVorticity => &[0, 1, 2, 3],
+            Call::PotentialVorticity => &[0, 1, 2, 3],
             Call::TotalDepth | Call::TotalEnergy | Call::Write => &[0, 1, 2, 3],
-            Call::TestVorticity | Call::Tendencies => &[0, 1, 2, 3, Q],
-            Call::TestStep | Call::TestRun | Call::Step | Call::Run => &[0, 1, 2, 3, S],
+            Call::Tendencies => &[0, 1, 2, 3, Q],
+            Call::Step | Call::Run => &[0, 1, 2, 3, S],
         }
     }
 
     pub fn has_work_space(self) -> bool {
-        matches!(
-            self,
-            Call::TestStep | Call::TestRun | Call::Step | Call::Run
-        )
+        matches!(self, Call::Step | Call::Run)
     }
 
     pub fn has_run_length(self) -> bool {
-        matches!(self, Call::TestRun | Call::Run)
+        self == Call::Run
     }
 
     /// Whether the call is lent fields that it fills: test 8.
