@@ -1,448 +1,167 @@
 //! The functions of `include/basin.h`, each behind a safe one that takes slices
-//! and, for what is told, one number, three or eight. This is the only place
-//! with unsafe code, but for the tests' own memory.
-//!
-//! Every function of the library takes any numbers and any lengths, reads and
-//! writes only within what it is lent, and keeps none of it. Here a pointer with
-//! a length after it is that of one slice, and one without is that of a
-//! reference to the numbers that are declared. What is written is borrowed
-//! mutably, so apart from all else that is lent.
+//! and, for what is told, references. The signature of each stands once, in the
+//! table below. This is the only place with unsafe code, but for the tests' own
+//! memory.
 
 use crate::Parameters;
 
-extern "C" {
-    fn basin_version() -> u64;
+/// The table of the functions. An entry is a signature in safe Rust, with a comma
+/// after every parameter, and two things are made of it: the declaration of C's
+/// `basin_NAME`, and the safe function `NAME` that calls it. Both return a
+/// number. What a parameter is in C goes by its type:
+///
+/// | In an entry | In C | What it is |
+/// |---|---|---|
+/// | `p: &Parameters` | `w, n, kind, g, c, r` | the scalars of a state |
+/// | `x: &[T]` | `const T *x, size_t x_len` | a list that is only read |
+/// | `x: &mut [T]` | `T *x, size_t x_len` | a list that is filled or stepped |
+/// | `x: &mut T`, `x: &mut [T; N]` | `T *x` | a place for one number, for N |
+/// | `x: T` | `T x` | a number |
+macro_rules! functions {
+    ($($(#[$doc:meta])* fn $name:ident($($parameters:tt)*);)*) => {
+        $(function! { [$(#[$doc])* $name] [] [] [] $($parameters)* })*
+    };
+}
 
-    fn basin_rnd(a: i64, b: i64, rounded: *mut i64) -> u64;
+/// One entry. Each turn takes the first parameter that is left, and adds it to
+/// three lists: the parameters of the safe function, the types of C, and what
+/// the first passes to the second. The kinds go in the order of the table above:
+/// `&mut [T]` would fit `&mut T` as well, and all would fit `T`.
+macro_rules! function {
+    ($head:tt [$($safe:tt)*] [$($c:tt)*] [$($passed:tt)*] $p:ident: &Parameters, $($left:tt)*) => {
+        function! {
+            $head
+            [$($safe)* $p: &Parameters,]
+            [$($c)* usize, usize, u8, i64, i64, i64,]
+            [$($passed)* $p.w, $p.n, $p.kind, $p.g, $p.c, $p.r,]
+            $($left)*
+        }
+    };
+    ($head:tt [$($safe:tt)*] [$($c:tt)*] [$($passed:tt)*] $x:ident: &[$t:ty], $($left:tt)*) => {
+        function! {
+            $head
+            [$($safe)* $x: &[$t],]
+            [$($c)* *const $t, usize,]
+            [$($passed)* $x.as_ptr(), $x.len(),]
+            $($left)*
+        }
+    };
+    ($head:tt [$($safe:tt)*] [$($c:tt)*] [$($passed:tt)*] $x:ident: &mut [$t:ty], $($left:tt)*) => {
+        function! {
+            $head
+            [$($safe)* $x: &mut [$t],]
+            [$($c)* *mut $t, usize,]
+            [$($passed)* $x.as_mut_ptr(), $x.len(),]
+            $($left)*
+        }
+    };
+    ($head:tt [$($safe:tt)*] [$($c:tt)*] [$($passed:tt)*] $x:ident: &mut $t:ty, $($left:tt)*) => {
+        function! { $head [$($safe)* $x: &mut $t,] [$($c)* *mut $t,] [$($passed)* $x,] $($left)* }
+    };
+    ($head:tt [$($safe:tt)*] [$($c:tt)*] [$($passed:tt)*] $x:ident: $t:ty, $($left:tt)*) => {
+        function! { $head [$($safe)* $x: $t,] [$($c)* $t,] [$($passed)* $x,] $($left)* }
+    };
+    // None is left.
+    ([$(#[$doc:meta])* $name:ident] [$($safe:tt)*] [$($c:ty,)*] [$($passed:expr,)*]) => {
+        $(#[$doc])*
+        pub fn $name($($safe)*) -> u64 {
+            extern "C" {
+                #[link_name = concat!("basin_", stringify!($name))]
+                fn of_c($(_: $c),*) -> u64;
+            }
+            // SAFETY: every function of the library takes any numbers and any
+            // lengths, reads and writes only within what it is lent, and keeps
+            // none of it. Here a pointer with a length after it is that of one
+            // slice, and one without is that of a reference to just what is
+            // declared. What is written is borrowed mutably, so it is apart from
+            // all else that is lent.
+            unsafe { of_c($($passed),*) }
+        }
+    };
+}
 
-    fn basin_potential_vorticity(
-        w: usize,
-        n: usize,
-        kind: u8,
-        g: i64,
-        c: i64,
-        r: i64,
-        h: *const i64,
-        h_len: usize,
-        b: *const i64,
-        b_len: usize,
-        u: *const i64,
-        u_len: usize,
-        v: *const i64,
-        v_len: usize,
-        q: *mut i64,
-        q_len: usize,
-        answer: *mut [u64; 8],
-    ) -> u64;
+functions! {
+    /// The version of the library.
+    fn version();
 
-    fn basin_tendencies(
-        w: usize,
-        n: usize,
-        kind: u8,
-        g: i64,
-        c: i64,
-        r: i64,
-        h: *const i64,
-        h_len: usize,
-        b: *const i64,
-        b_len: usize,
-        u: *const i64,
-        u_len: usize,
-        v: *const i64,
-        v_len: usize,
-        q: *const i64,
-        q_len: usize,
-        dh: *mut i64,
-        dh_len: usize,
-        du: *mut i64,
-        du_len: usize,
-        dv: *mut i64,
-        dv_len: usize,
-        answer: *mut [u64; 8],
-    ) -> u64;
+    /// 0, and `rounded` is rnd(a/b); or 4, and `rounded` is untouched.
+    fn rnd(
+        a: i64, b: i64,
+        rounded: &mut i64,
+    );
 
-    fn basin_step(
-        w: usize,
-        n: usize,
-        kind: u8,
-        g: i64,
-        c: i64,
-        r: i64,
-        h: *mut i64,
-        h_len: usize,
-        b: *const i64,
-        b_len: usize,
-        u: *mut i64,
-        u_len: usize,
-        v: *mut i64,
-        v_len: usize,
-        inflow: *const i64,
-        inflow_len: usize,
-        work: *mut i64,
-        work_len: usize,
-        answer: *mut [u64; 8],
-    ) -> u64;
+    /// The number of the refusal, 0 where `q` is filled; `answer` begins with the
+    /// number and the values told with it; its other places are 0.
+    fn potential_vorticity(
+        p: &Parameters, h: &[i64], b: &[i64], u: &[i64], v: &[i64],
+        q: &mut [i64],
+        answer: &mut [u64; 8],
+    );
 
-    fn basin_run(
-        w: usize,
-        n: usize,
-        kind: u8,
-        g: i64,
-        c: i64,
-        r: i64,
-        h: *mut i64,
-        h_len: usize,
-        b: *const i64,
-        b_len: usize,
-        u: *mut i64,
-        u_len: usize,
-        v: *mut i64,
-        v_len: usize,
-        inflow: *const i64,
-        inflow_len: usize,
+    /// The number of the refusal, 0 where `dh`, `du` and `dv` are filled; `answer`
+    /// as above.
+    fn tendencies(
+        p: &Parameters, h: &[i64], b: &[i64], u: &[i64], v: &[i64],
+        q: &[i64],
+        dh: &mut [i64], du: &mut [i64], dv: &mut [i64],
+        answer: &mut [u64; 8],
+    );
+
+    /// The number of the refusal, 0 where `h`, `u` and `v` are stepped; `answer`
+    /// as above.
+    fn step(
+        p: &Parameters, h: &mut [i64], b: &[i64], u: &mut [i64], v: &mut [i64],
+        inflow: &[i64],
+        work: &mut [i64],
+        answer: &mut [u64; 8],
+    );
+
+    /// The same of up to `steps` steps; the steps done are told last.
+    fn run(
+        p: &Parameters, h: &mut [i64], b: &[i64], u: &mut [i64], v: &mut [i64],
+        inflow: &[i64],
         steps: u64,
-        work: *mut i64,
-        work_len: usize,
-        answer: *mut [u64; 8],
-    ) -> u64;
+        work: &mut [i64],
+        answer: &mut [u64; 8],
+    );
 
-    fn basin_total_depth(
-        w: usize,
-        n: usize,
-        kind: u8,
-        g: i64,
-        c: i64,
-        r: i64,
-        h: *const i64,
-        h_len: usize,
-        b: *const i64,
-        b_len: usize,
-        u: *const i64,
-        u_len: usize,
-        v: *const i64,
-        v_len: usize,
-        total: *mut i64,
-        answer: *mut [u64; 8],
-    ) -> u64;
+    /// The number of the refusal, 0 where `total` is total depth; `answer` as above.
+    fn total_depth(
+        p: &Parameters, h: &[i64], b: &[i64], u: &[i64], v: &[i64],
+        total: &mut i64,
+        answer: &mut [u64; 8],
+    );
 
-    fn basin_total_energy(
-        w: usize,
-        n: usize,
-        kind: u8,
-        g: i64,
-        c: i64,
-        r: i64,
-        h: *const i64,
-        h_len: usize,
-        b: *const i64,
-        b_len: usize,
-        u: *const i64,
-        u_len: usize,
-        v: *const i64,
-        v_len: usize,
-        total: *mut i64,
-        answer: *mut [u64; 8],
-    ) -> u64;
+    /// The same of four times total energy.
+    fn total_energy(
+        p: &Parameters, h: &[i64], b: &[i64], u: &[i64], v: &[i64],
+        total: &mut i64,
+        answer: &mut [u64; 8],
+    );
 
-    fn basin_write(
-        w: usize,
-        n: usize,
-        kind: u8,
-        g: i64,
-        c: i64,
-        r: i64,
-        h: *const i64,
-        h_len: usize,
-        b: *const i64,
-        b_len: usize,
-        u: *const i64,
-        u_len: usize,
-        v: *const i64,
-        v_len: usize,
+    /// The number of the refusal, 0 where the first places of `record` have the
+    /// record; `answer` as above, with the number of its bytes after a 0.
+    fn write(
+        p: &Parameters, h: &[i64], b: &[i64], u: &[i64], v: &[i64],
         timestamp: u64,
-        record: *mut u8,
-        record_len: usize,
-        answer: *mut [u64; 8],
-    ) -> u64;
+        record: &mut [u8],
+        answer: &mut [u64; 8],
+    );
 
-    fn basin_read(
-        record: *const u8,
-        record_len: usize,
-        h: *mut i64,
-        h_len: usize,
-        b: *mut i64,
-        b_len: usize,
-        u: *mut i64,
-        u_len: usize,
-        v: *mut i64,
-        v_len: usize,
-        constants: *mut [i64; 3],
-        answer: *mut [u64; 8],
-    ) -> u64;
+    /// The number of the refusal, 0 where `h`, `b`, `u` and `v` are filled and
+    /// `constants` are G, c and R; `answer` as above, with w, n, kind and timestamp
+    /// after a 0.
+    fn read(
+        record: &[u8],
+        h: &mut [i64], b: &mut [i64], u: &mut [i64], v: &mut [i64],
+        constants: &mut [i64; 3],
+        answer: &mut [u64; 8],
+    );
 
-    fn basin_compare(
-        first: *const u8,
-        first_len: usize,
-        second: *const u8,
-        second_len: usize,
-        answer: *mut [u64; 8],
-    ) -> u64;
-}
-
-/// Calls a function that takes a state first: its scalars, then pointer and
-/// length of each of its fields, then what else it takes.
-macro_rules! on_state {
-    ($function:ident($p:ident, $h:ident, $b:ident, $u:ident, $v:ident $(, $further:expr)*)) => {
-        $function(
-            $p.w, $p.n, $p.kind, $p.g, $p.c, $p.r,
-            $h.as_ptr(), $h.len(), $b.as_ptr(), $b.len(),
-            $u.as_ptr(), $u.len(), $v.as_ptr(), $v.len()
-            $(, $further)*
-        )
-    };
-}
-
-/// The same of a function that steps h, u and v in place.
-macro_rules! on_stepped_state {
-    ($function:ident($p:ident, $h:ident, $b:ident, $u:ident, $v:ident $(, $further:expr)*)) => {
-        $function(
-            $p.w, $p.n, $p.kind, $p.g, $p.c, $p.r,
-            $h.as_mut_ptr(), $h.len(), $b.as_ptr(), $b.len(),
-            $u.as_mut_ptr(), $u.len(), $v.as_mut_ptr(), $v.len()
-            $(, $further)*
-        )
-    };
-}
-
-pub fn version() -> u64 {
-    // SAFETY: it takes nothing and touches no memory.
-    unsafe { basin_version() }
-}
-
-/// 0, and `rounded` is rnd(a/b); or 4, and `rounded` is untouched.
-pub fn rnd(a: i64, b: i64, rounded: &mut i64) -> u64 {
-    // SAFETY: what is lent is as said above.
-    unsafe { basin_rnd(a, b, rounded) }
-}
-
-/// The number of the refusal, 0 where `q` is filled; `answer` begins with the
-/// number and the values told with it; its other places are 0.
-pub fn potential_vorticity(
-    p: &Parameters,
-    h: &[i64],
-    b: &[i64],
-    u: &[i64],
-    v: &[i64],
-    q: &mut [i64],
-    answer: &mut [u64; 8],
-) -> u64 {
-    // SAFETY: what is lent is as said above.
-    unsafe {
-        on_state!(basin_potential_vorticity(
-            p,
-            h,
-            b,
-            u,
-            v,
-            q.as_mut_ptr(),
-            q.len(),
-            answer
-        ))
-    }
-}
-
-/// The number of the refusal, 0 where `dh`, `du` and `dv` are filled; `answer`
-/// as above.
-pub fn tendencies(
-    p: &Parameters,
-    h: &[i64],
-    b: &[i64],
-    u: &[i64],
-    v: &[i64],
-    q: &[i64],
-    dh: &mut [i64],
-    du: &mut [i64],
-    dv: &mut [i64],
-    answer: &mut [u64; 8],
-) -> u64 {
-    // SAFETY: what is lent is as said above.
-    unsafe {
-        on_state!(basin_tendencies(
-            p,
-            h,
-            b,
-            u,
-            v,
-            q.as_ptr(),
-            q.len(),
-            dh.as_mut_ptr(),
-            dh.len(),
-            du.as_mut_ptr(),
-            du.len(),
-            dv.as_mut_ptr(),
-            dv.len(),
-            answer
-        ))
-    }
-}
-
-/// The number of the refusal, 0 where `h`, `u` and `v` are stepped; `answer`
-/// as above.
-pub fn step(
-    p: &Parameters,
-    h: &mut [i64],
-    b: &[i64],
-    u: &mut [i64],
-    v: &mut [i64],
-    inflow: &[i64],
-    work: &mut [i64],
-    answer: &mut [u64; 8],
-) -> u64 {
-    // SAFETY: what is lent is as said above.
-    unsafe {
-        on_stepped_state!(basin_step(
-            p,
-            h,
-            b,
-            u,
-            v,
-            inflow.as_ptr(),
-            inflow.len(),
-            work.as_mut_ptr(),
-            work.len(),
-            answer
-        ))
-    }
-}
-
-/// The same of up to `steps` steps; the steps done are told last.
-pub fn run(
-    p: &Parameters,
-    h: &mut [i64],
-    b: &[i64],
-    u: &mut [i64],
-    v: &mut [i64],
-    inflow: &[i64],
-    steps: u64,
-    work: &mut [i64],
-    answer: &mut [u64; 8],
-) -> u64 {
-    // SAFETY: what is lent is as said above.
-    unsafe {
-        on_stepped_state!(basin_run(
-            p,
-            h,
-            b,
-            u,
-            v,
-            inflow.as_ptr(),
-            inflow.len(),
-            steps,
-            work.as_mut_ptr(),
-            work.len(),
-            answer
-        ))
-    }
-}
-
-/// The number of the refusal, 0 where `total` is total depth; `answer` as above.
-pub fn total_depth(
-    p: &Parameters,
-    h: &[i64],
-    b: &[i64],
-    u: &[i64],
-    v: &[i64],
-    total: &mut i64,
-    answer: &mut [u64; 8],
-) -> u64 {
-    // SAFETY: what is lent is as said above.
-    unsafe { on_state!(basin_total_depth(p, h, b, u, v, total, answer)) }
-}
-
-/// The same of four times total energy.
-pub fn total_energy(
-    p: &Parameters,
-    h: &[i64],
-    b: &[i64],
-    u: &[i64],
-    v: &[i64],
-    total: &mut i64,
-    answer: &mut [u64; 8],
-) -> u64 {
-    // SAFETY: what is lent is as said above.
-    unsafe { on_state!(basin_total_energy(p, h, b, u, v, total, answer)) }
-}
-
-/// The number of the refusal, 0 where the first places of `record` have the
-/// record; `answer` as above, with the number of its bytes after a 0.
-pub fn write(
-    p: &Parameters,
-    h: &[i64],
-    b: &[i64],
-    u: &[i64],
-    v: &[i64],
-    timestamp: u64,
-    record: &mut [u8],
-    answer: &mut [u64; 8],
-) -> u64 {
-    // SAFETY: what is lent is as said above.
-    unsafe {
-        on_state!(basin_write(
-            p,
-            h,
-            b,
-            u,
-            v,
-            timestamp,
-            record.as_mut_ptr(),
-            record.len(),
-            answer
-        ))
-    }
-}
-
-/// The number of the refusal, 0 where `h`, `b`, `u` and `v` are filled and
-/// `constants` are G, c and R; `answer` as above, with w, n, kind and timestamp
-/// after a 0.
-pub fn read(
-    record: &[u8],
-    h: &mut [i64],
-    b: &mut [i64],
-    u: &mut [i64],
-    v: &mut [i64],
-    constants: &mut [i64; 3],
-    answer: &mut [u64; 8],
-) -> u64 {
-    // SAFETY: what is lent is as said above.
-    unsafe {
-        basin_read(
-            record.as_ptr(),
-            record.len(),
-            h.as_mut_ptr(),
-            h.len(),
-            b.as_mut_ptr(),
-            b.len(),
-            u.as_mut_ptr(),
-            u.len(),
-            v.as_mut_ptr(),
-            v.len(),
-            constants,
-            answer,
-        )
-    }
-}
-
-/// The number of the refusal; `answer` as above, with the record, 1 or 2,
-/// straight after it, or with what the comparison comes to after a 0.
-pub fn compare(first: &[u8], second: &[u8], answer: &mut [u64; 8]) -> u64 {
-    // SAFETY: what is lent is as said above.
-    unsafe {
-        basin_compare(
-            first.as_ptr(),
-            first.len(),
-            second.as_ptr(),
-            second.len(),
-            answer,
-        )
-    }
+    /// The number of the refusal; `answer` as above, with the record, 1 or 2,
+    /// straight after it, or with what the comparison comes to after a 0.
+    fn compare(
+        first: &[u8], second: &[u8],
+        answer: &mut [u64; 8],
+    );
 }
