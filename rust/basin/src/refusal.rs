@@ -1,157 +1,181 @@
-//! Refusals (01: turned back) and how they are told.
+//! Refusals (01: turned back), the fields that they name, and how they are told.
+//! Each has one line in a table below, with its number; all else is made of it.
 
 use std::error::Error;
 use std::fmt;
 
-/// A field of numbers, one per cell, that a refusal can name.
-#[derive(Clone, Copy, Debug, PartialEq, Eq, PartialOrd, Ord, Hash)]
-pub enum Field {
-    /// h
-    Depth,
-    /// b
-    Bottom,
-    /// u
-    VelocityU,
-    /// v
-    VelocityV,
-    /// q
-    Vorticity,
-    /// s (01: river entry)
-    Inflow,
+/// What a number that the library tells can stand for; none where it is no such
+/// thing.
+trait Told: Sized {
+    fn from_told(number: u64) -> Option<Self>;
 }
 
-impl Field {
-    /// The field's place in the order h, b, u, v, q, s.
-    pub fn number(self) -> u8 {
-        match self {
-            Field::Depth => 0,
-            Field::Bottom => 1,
-            Field::VelocityU => 2,
-            Field::VelocityV => 3,
-            Field::Vorticity => 4,
-            Field::Inflow => 5,
+/// A cell or an offset. The library is only for machines where a usize has 64
+/// bits.
+impl Told for usize {
+    fn from_told(number: u64) -> Option<Self> {
+        Some(number as usize)
+    }
+}
+
+/// One of two, counted from 1: a pass, or a record.
+impl Told for u8 {
+    fn from_told(number: u64) -> Option<Self> {
+        matches!(number, 1 | 2).then_some(number as u8)
+    }
+}
+
+// ---- fields
+
+/// A line is a field's number, its name in Rust, its name in words, and 01's
+/// letter for it.
+macro_rules! fields {
+    (
+        $(#[$attribute:meta])*
+        pub enum $Field:ident {
+            $($number:literal: $field:ident = $name:literal $letter:literal,)*
         }
-    }
-
-    fn from_number(number: u64) -> Self {
-        match number {
-            0 => Field::Depth,
-            1 => Field::Bottom,
-            2 => Field::VelocityU,
-            3 => Field::VelocityV,
-            4 => Field::Vorticity,
-            5 => Field::Inflow,
-            _ => panic!("libbasin.a told field {number}, which is none"),
+    ) => {
+        $(#[$attribute])*
+        #[derive(Clone, Copy, Debug, PartialEq, Eq, PartialOrd, Ord, Hash)]
+        pub enum $Field {
+            $(#[doc = concat!($number, ": ", $name, " ", $letter)] $field = $number,)*
         }
-    }
-}
 
-/// The field's name and 01's letter for it.
-impl fmt::Display for Field {
-    fn fmt(&self, to: &mut fmt::Formatter) -> fmt::Result {
-        to.write_str(match self {
-            Field::Depth => "depth h",
-            Field::Bottom => "bottom height b",
-            Field::VelocityU => "velocity u",
-            Field::VelocityV => "velocity v",
-            Field::Vorticity => "potential vorticity q",
-            Field::Inflow => "inflow s",
-        })
-    }
-}
-
-/// Why a call gave no result, or a run took no further step. Calls that come
-/// later can be refused for more reasons, so the list is open.
-#[derive(Clone, Copy, Debug, PartialEq, Eq, Hash)]
-#[non_exhaustive]
-pub enum Refusal {
-    /// 1: w, n or kind unknown, or a run too long.
-    Grid,
-    /// 2: a field to be read or stepped does not have w·n numbers (in a record,
-    /// the bytes of w·n numbers), or the work space is short.
-    Lengths,
-    /// 3: G, c or R outside its bounds.
-    Constants,
-    /// 4: a value outside its bounds.
-    Value { field: Field, cell: usize },
-    /// 5: a velocity on a closed edge.
-    ClosedEdge { field: Field, cell: usize },
-    /// 6: a pass of the step, 1 or 2, leaves the bounds of h, u or v.
-    OutOfBounds { pass: u8, field: Field, cell: usize },
-    /// 7: a damaged record; `offset` is that of the first bad tag, or the
-    /// record's length where a tag is missing.
-    Record { offset: usize },
-    /// 8: a field to be filled has fewer than w·n places, or a record to be
-    /// written fewer than [`Parameters::record_len`](crate::Parameters::record_len).
-    Destination,
-}
-
-impl Refusal {
-    /// 01's number for the refusal.
-    pub fn number(&self) -> u8 {
-        match self {
-            Refusal::Grid => 1,
-            Refusal::Lengths => 2,
-            Refusal::Constants => 3,
-            Refusal::Value { .. } => 4,
-            Refusal::ClosedEdge { .. } => 5,
-            Refusal::OutOfBounds { .. } => 6,
-            Refusal::Record { .. } => 7,
-            Refusal::Destination => 8,
-        }
-    }
-
-    /// What the library told: a number, 0 where nothing is refused, and the
-    /// values that follow it in the answer.
-    ///
-    /// Panics at a number, pass or field that is none. The proved library never
-    /// tells one: another library was linked then.
-    pub(crate) fn from_told(number: u64, values: &[u64]) -> Result<(), Self> {
-        // The library is only for machines where a usize has 64 bits.
-        Err(match (number, values) {
-            (0, _) => return Ok(()),
-            (1, _) => Refusal::Grid,
-            (2, _) => Refusal::Lengths,
-            (3, _) => Refusal::Constants,
-            (4, &[field, cell, ..]) => Refusal::Value {
-                field: Field::from_number(field),
-                cell: cell as usize,
-            },
-            (5, &[field, cell, ..]) => Refusal::ClosedEdge {
-                field: Field::from_number(field),
-                cell: cell as usize,
-            },
-            (6, &[pass @ (1 | 2), field, cell, ..]) => Refusal::OutOfBounds {
-                pass: pass as u8,
-                field: Field::from_number(field),
-                cell: cell as usize,
-            },
-            (7, &[offset, ..]) => Refusal::Record {
-                offset: offset as usize,
-            },
-            (8, _) => Refusal::Destination,
-            _ => panic!("libbasin.a told refusal {number} with {values:?}, which is none"),
-        })
-    }
-}
-
-impl fmt::Display for Refusal {
-    fn fmt(&self, to: &mut fmt::Formatter) -> fmt::Result {
-        write!(to, "refusal {}: ", self.number())?;
-        match self {
-            Refusal::Grid => to.write_str("unknown w, n or kind, or too long a run"),
-            Refusal::Lengths => to.write_str("a field of a wrong length, or too little work space"),
-            Refusal::Constants => to.write_str("G, c or R outside its bounds"),
-            Refusal::Value { field, cell } => write!(to, "{field} outside its bounds, cell {cell}"),
-            Refusal::ClosedEdge { field, cell } => {
-                write!(to, "{field} on a closed edge, cell {cell}")
+        impl $Field {
+            /// The field's place in the order h, b, u, v, q, s.
+            pub fn number(self) -> u8 {
+                self as u8
             }
-            Refusal::OutOfBounds { pass, field, cell } => {
-                write!(to, "pass {pass} leaves the bounds of {field}, cell {cell}")
-            }
-            Refusal::Record { offset } => write!(to, "a damaged record, at byte {offset}"),
-            Refusal::Destination => to.write_str("a field or record to be filled is too short"),
         }
+
+        impl Told for $Field {
+            fn from_told(number: u64) -> Option<Self> {
+                match number {
+                    $($number => Some($Field::$field),)*
+                    _ => None,
+                }
+            }
+        }
+
+        /// The field's name and 01's letter for it.
+        impl fmt::Display for $Field {
+            fn fmt(&self, to: &mut fmt::Formatter) -> fmt::Result {
+                to.write_str(match self {
+                    $($Field::$field => concat!($name, " ", $letter),)*
+                })
+            }
+        }
+    };
+}
+
+fields! {
+    /// A field of numbers, one per cell, that a refusal can name.
+    pub enum Field {
+        0: Depth = "depth" "h",
+        1: Bottom = "bottom height" "b",
+        2: VelocityU = "velocity" "u",
+        3: VelocityV = "velocity" "v",
+        4: Vorticity = "potential vorticity" "q",
+        5: Inflow = "inflow" "s", // 01: river entry
+    }
+}
+
+// ---- refusals
+
+/// A line is a refusal's number, its name, the values that follow the number in
+/// an answer, in their order, and its cause in words, which may name them.
+macro_rules! refusals {
+    (
+        $(#[$attribute:meta])*
+        $visibility:vis enum $Refusal:ident {
+            $($(#[$doc:meta])*
+            $number:literal: $refusal:ident $({ $($value:ident: $kind:ty),* })? = $cause:literal,)*
+        }
+    ) => {
+        $(#[$attribute])*
+        #[derive(Clone, Copy, Debug, PartialEq, Eq, Hash)]
+        $visibility enum $Refusal {
+            $(
+                #[doc = concat!($number, ":")]
+                $(#[$doc])*
+                $refusal $({ $($value: $kind),* })?,
+            )*
+        }
+
+        impl $Refusal {
+            /// 01's number for the refusal.
+            pub fn number(&self) -> u8 {
+                match self {
+                    $($Refusal::$refusal { .. } => $number,)*
+                }
+            }
+
+            /// The cause in words, without the number.
+            pub fn cause(&self) -> String {
+                match self {
+                    $($Refusal::$refusal $({ $($value),* })? => format!($cause),)*
+                }
+            }
+
+            /// What the library told: a number, 0 where nothing is refused, and
+            /// the values that follow it in the answer.
+            ///
+            /// Panics at a number, pass or field that is none. The proved library
+            /// never tells one: another library was linked then.
+            pub(crate) fn from_told(number: u64, values: &[u64]) -> Result<(), Self> {
+                if number == 0 {
+                    return Ok(());
+                }
+                let known = Self::known(number, values.iter().copied());
+                Err(known.unwrap_or_else(|| {
+                    panic!("libbasin.a told refusal {number} with {values:?}, which is none")
+                }))
+            }
+
+            fn known(number: u64, mut values: impl Iterator<Item = u64>) -> Option<Self> {
+                match number {
+                    $($number => Some($Refusal::$refusal $({
+                        $($value: Told::from_told(values.next()?)?),*
+                    })?),)*
+                    _ => None,
+                }
+            }
+        }
+
+        impl fmt::Display for $Refusal {
+            fn fmt(&self, to: &mut fmt::Formatter) -> fmt::Result {
+                write!(to, "refusal {}: {}", self.number(), self.cause())
+            }
+        }
+    };
+}
+
+refusals! {
+    /// Why a call gave no result, or a run took no further step. Calls that come
+    /// later can be refused for more reasons, so the list is open.
+    #[non_exhaustive]
+    pub enum Refusal {
+        /// w, n or kind unknown, or a run too long.
+        1: Grid = "unknown w, n or kind, or too long a run",
+        /// a field to be read or stepped does not have w·n numbers (in a record,
+        /// the bytes of w·n numbers), or the work space is short.
+        2: Lengths = "a field of a wrong length, or too little work space",
+        /// G, c or R outside its bounds.
+        3: Constants = "G, c or R outside its bounds",
+        /// a value outside its bounds.
+        4: Value { field: Field, cell: usize } = "{field} outside its bounds, cell {cell}",
+        /// a velocity on a closed edge.
+        5: ClosedEdge { field: Field, cell: usize } = "{field} on a closed edge, cell {cell}",
+        /// a pass of the step, 1 or 2, leaves the bounds of h, u or v.
+        6: OutOfBounds { pass: u8, field: Field, cell: usize }
+            = "pass {pass} leaves the bounds of {field}, cell {cell}",
+        /// a damaged record; `offset` is that of the first bad tag, or the
+        /// record's length where a tag is missing.
+        7: Record { offset: usize } = "a damaged record, at byte {offset}",
+        /// a field to be filled has fewer than w·n places, or a record to be
+        /// written fewer than [`Parameters::record_len`](crate::Parameters::record_len).
+        8: Destination = "a field or record to be filled is too short",
     }
 }
 
@@ -171,11 +195,8 @@ impl Refused {
     /// comes straight after the number.
     pub(crate) fn from_told(number: u64, record: u64, values: &[u64]) -> Result<(), Self> {
         Refusal::from_told(number, values).map_err(|refusal| Refused {
-            record: match record {
-                1 => 1,
-                2 => 2,
-                _ => panic!("libbasin.a told record {record}, which is none"),
-            },
+            record: Told::from_told(record)
+                .unwrap_or_else(|| panic!("libbasin.a told record {record}, which is none")),
             refusal,
         })
     }
@@ -189,3 +210,73 @@ impl fmt::Display for Refused {
 
 /// The refusal is in the text already.
 impl Error for Refused {}
+
+#[cfg(test)]
+mod tests {
+    use super::{Field, Refusal, Refused, Told};
+    use std::fmt;
+
+    // Two lines with numbers that 02 goes up to.
+    refusals! {
+        /// Refusals to come.
+        enum Later {
+            /// the widths of the rows.
+            12: Width { row: usize } = "a width outside its bounds, row {row}",
+            /// the densities of the layers.
+            13: Density = "a density outside its bounds",
+        }
+    }
+
+    #[test]
+    fn a_number_of_two_digits_is_told_and_printed_whole() {
+        let width = Later::from_told(12, &[63, 0, 0]).unwrap_err();
+        assert_eq!(width, Later::Width { row: 63 });
+        assert_eq!(width.number(), 12);
+        assert_eq!(
+            width.to_string(),
+            "refusal 12: a width outside its bounds, row 63"
+        );
+        let density = Later::from_told(13, &[0, 0, 0]).unwrap_err();
+        assert_eq!(
+            density.to_string(),
+            "refusal 13: a density outside its bounds"
+        );
+        assert_eq!(Later::from_told(0, &[0, 0, 0]), Ok(()));
+    }
+
+    #[test]
+    fn every_line_of_the_tables_goes_there_and_back() {
+        for number in 0..6 {
+            let field = Field::from_told(number).expect("one of six");
+            assert_eq!(u64::from(field.number()), number);
+        }
+        assert_eq!(Field::from_told(6), None);
+        for number in 1..=8 {
+            // Good for a pass, for a field and for a cell.
+            let refusal = Refusal::from_told(number, &[2; 7]).unwrap_err();
+            assert_eq!(u64::from(refusal.number()), number);
+            let refused = Refused::from_told(number, 1, &[2; 7]).unwrap_err();
+            assert_eq!(refused, Refused { record: 1, refusal });
+        }
+        assert_eq!(
+            Refusal::from_told(6, &[1, 3, 4_095, 10, 0, 0, 0]),
+            Err(Refusal::OutOfBounds {
+                pass: 1,
+                field: Field::VelocityV,
+                cell: 4_095
+            })
+        );
+    }
+
+    #[test]
+    fn what_no_line_has_is_no_refusal() {
+        let known = |number, values: [u64; 3]| Refusal::known(number, values.into_iter());
+        assert_eq!(known(9, [0; 3]), None);
+        assert_eq!(known(u64::MAX, [0; 3]), None);
+        // No such field, and no such pass.
+        assert_eq!(known(4, [6, 0, 0]), None);
+        assert_eq!(known(6, [0, 0, 0]), None);
+        assert_eq!(known(6, [3, 0, 0]), None);
+        assert_eq!(Refusal::known(7, [].into_iter()), None);
+    }
+}

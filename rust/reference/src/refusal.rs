@@ -5,34 +5,27 @@
 
 use crate::state::Parameters;
 
-/// A field of numbers, one per cell, that a refusal can name.
+/// A field of numbers, one per cell, that a refusal can name, with its number.
 #[derive(Clone, Copy, Debug, PartialEq, Eq, PartialOrd, Ord)]
 pub enum Field {
     /// h
-    Depth,
+    Depth = 0,
     /// b
-    Bottom,
+    Bottom = 1,
     /// u
-    VelocityU,
+    VelocityU = 2,
     /// v
-    VelocityV,
+    VelocityV = 3,
     /// q
-    Vorticity,
+    Vorticity = 4,
     /// s (01: river entry)
-    Inflow,
+    Inflow = 5,
 }
 
 impl Field {
     /// The field's place in the order h, b, u, v, q, s.
-    pub fn number(self) -> u8 {
-        match self {
-            Field::Depth => 0,
-            Field::Bottom => 1,
-            Field::VelocityU => 2,
-            Field::VelocityV => 3,
-            Field::Vorticity => 4,
-            Field::Inflow => 5,
-        }
+    fn told(self) -> i128 {
+        self as i128
     }
 }
 
@@ -40,53 +33,35 @@ impl Field {
 /// and it carries a pass.
 #[derive(Clone, Copy, Debug, PartialEq, Eq)]
 pub enum Refusal {
-    /// 1: w, n or kind unknown, or a run too long.
+    /// w, n or kind unknown, or a run too long.
     Grid,
-    /// 2: a field does not have w·n numbers, or the work space is short.
+    /// A field does not have w·n numbers, or the work space is short.
     Lengths,
-    /// 3: G, c or R outside its bound.
+    /// G, c or R outside its bound.
     Constants,
-    /// 4: a value outside its bound.
+    /// A value outside its bound.
     Value { field: Field, cell: usize },
-    /// 5: a velocity on a closed edge.
+    /// A velocity on a closed edge.
     ClosedEdge { field: Field, cell: usize },
-    /// 7: a damaged record; `offset` is that of the bad tag, or the record's
+    /// A damaged record; `offset` is that of the bad tag, or the record's
     /// length where a tag is missing.
     Record { offset: usize },
-    /// 8: a lent destination is too short.
+    /// A lent destination is too short.
     Destination,
 }
 
 impl Refusal {
-    /// 01's number for the refusal.
-    pub fn number(&self) -> u8 {
-        match self {
-            Refusal::Grid => 1,
-            Refusal::Lengths => 2,
-            Refusal::Constants => 3,
-            Refusal::Value { .. } => 4,
-            Refusal::ClosedEdge { .. } => 5,
-            Refusal::Record { .. } => 7,
-            Refusal::Destination => 8,
-        }
-    }
-
-    /// The values that 01 returns beside the number.
-    fn values(&self) -> Vec<i128> {
-        match *self {
-            Refusal::Grid | Refusal::Lengths | Refusal::Constants | Refusal::Destination => vec![],
-            Refusal::Value { field, cell } | Refusal::ClosedEdge { field, cell } => {
-                vec![field.number().into(), cell as i128]
-            }
-            Refusal::Record { offset } => vec![offset as i128],
-        }
-    }
-
-    /// The number, then the values.
+    /// 01's table: the number of each refusal, then its values.
     pub fn told(&self) -> Vec<i128> {
-        let mut told = vec![self.number().into()];
-        told.extend(self.values());
-        told
+        match *self {
+            Refusal::Grid => vec![1],
+            Refusal::Lengths => vec![2],
+            Refusal::Constants => vec![3],
+            Refusal::Value { field, cell } => vec![4, field.told(), cell as i128],
+            Refusal::ClosedEdge { field, cell } => vec![5, field.told(), cell as i128],
+            Refusal::Record { offset } => vec![7, offset as i128],
+            Refusal::Destination => vec![8],
+        }
     }
 }
 
@@ -135,7 +110,7 @@ impl StepAnswer {
         match *self {
             StepAnswer::Done => vec![0],
             StepAnswer::OutOfBounds { pass, field, cell } => {
-                vec![6, pass.into(), field.number().into(), cell as i128]
+                vec![6, pass.into(), field.told(), cell as i128]
             }
             StepAnswer::Refused(refusal) => refusal.told(),
         }
@@ -169,13 +144,7 @@ impl RunAnswer {
                 pass,
                 field,
                 cell,
-            } => vec![
-                6,
-                pass.into(),
-                field.number().into(),
-                cell as i128,
-                steps.into(),
-            ],
+            } => vec![6, pass.into(), field.told(), cell as i128, steps.into()],
             RunAnswer::Refused(refusal) => refusal.told(),
         }
     }
@@ -281,8 +250,8 @@ impl CompareAnswer {
             CompareAnswer::SecondNewer => vec![0, 2],
             CompareAnswer::Conflict => vec![0, 3],
             CompareAnswer::Refused { record, refusal } => {
-                let mut told = vec![refusal.number().into(), (*record).into()];
-                told.extend(refusal.values());
+                let mut told = refusal.told();
+                told.insert(1, (*record).into());
                 told
             }
         }
