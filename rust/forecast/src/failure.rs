@@ -74,7 +74,8 @@ pub fn in_words(refusal: Refusal, w: Option<usize>) -> String {
             format!("pass {pass} takes {} out of its bounds", at(field, cell))
         }
         Refusal::Record { offset } => format!("the record is damaged at byte {offset}"),
-        other => other.to_string(),
+        // The tool lends room enough, so no other is met yet.
+        other => other.cause(),
     };
     format!("refused {}: {cause}", refusal.number())
 }
@@ -96,5 +97,19 @@ pub fn cell_name(cell: usize, w: Option<usize>) -> String {
     match w {
         Some(w) if w > 0 => format!("cell {} {}", cell % w, cell / w),
         _ => format!("cell number {cell}"),
+    }
+}
+
+#[cfg(test)]
+mod tests {
+    use super::{in_words, Refusal};
+
+    #[test]
+    fn a_refusal_says_its_number_once() {
+        let words = in_words(Refusal::Destination, None);
+        assert_eq!(
+            words,
+            "refused 8: a field or record to be filled is too short"
+        );
     }
 }
