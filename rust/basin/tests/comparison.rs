@@ -9,7 +9,7 @@
 //! where the call was made at random the seed and the number of the case too.
 
 use crate::cases::calls::{answered, call_raw, compare, expect, independent, Written, UNANSWERED};
-use crate::cases::common::Random;
+use crate::cases::common::{Random, NUMBERS};
 use crate::cases::{add, any_numbers, random_case, record_size, Call, Case};
 use crate::cases::{BOUNDS, CALLS, FAULTS, FILLING, H, TOTALS, U, V};
 
@@ -20,7 +20,7 @@ use crate::cases::{BOUNDS, CALLS, FAULTS, FILLING, H, TOTALS, U, V};
 struct Coverage {
     calls: usize,
     /// By call, then number.
-    told: [[usize; 9]; CALLS.len()],
+    told: [[usize; NUMBERS]; CALLS.len()],
     /// Cases with this fault alone.
     fault: [usize; FAULTS.len()],
     /// Accepted, by call, then kind.
@@ -43,7 +43,7 @@ struct Coverage {
     /// The same of the record.
     record: [usize; 4],
     /// By a refusal's number, then that of the next cause, 0 for none.
-    next: [[usize; 9]; 9],
+    next: [[usize; NUMBERS]; NUMBERS],
     /// Of two numbers outside: in one field, in two fields.
     next_field: [usize; 2],
 }
@@ -124,18 +124,18 @@ impl Coverage {
         };
         assert!(self.calls >= 300_000, "{self:#?}");
         for (call, told) in CALLS.into_iter().zip(self.told) {
-            often(&told[..1], 5_000, "accepted");
+            often(&told[..=0], 5_000, "accepted");
             often(&told[1..=5], 1_000, "refused");
             if call.is_stepping() {
-                often(&told[6..7], 1_000, "refused with 6");
+                often(&told[6..=6], 1_000, "refused with 6");
             }
             let destinations = &self.destination[call as usize][..call.destinations()];
             if call.is_filling() {
-                often(&told[8..], 1_000, "refused with 8");
+                often(&told[8..=8], 1_000, "refused with 8");
                 often(destinations.as_flattened(), 200, "a destination");
             }
             if call == Call::Write {
-                often(&told[8..], 1_000, "refused with 8");
+                often(&told[8..=8], 1_000, "refused with 8");
                 often(&self.record, 200, "a record");
             }
         }
@@ -150,7 +150,7 @@ impl Coverage {
             // After 4 and 5 there may be another of the same number.
             let first = if number < 4 { number + 1 } else { number };
             often(&self.next[number][first..=5], 100, "two causes");
-            often(&self.next[number][8..], 100, "8 as the second cause");
+            often(&self.next[number][8..=8], 100, "8 as the second cause");
         }
         often(&self.next_field, 500, "two numbers outside");
     }
@@ -626,7 +626,7 @@ fn of_two_causes_the_first_by_number_field_and_cell_is_told() {
 fn all_eight_places_are_set_whatever_stood_there() {
     let seed = 7;
     let mut random = Random::new(seed);
-    let mut met = [0; 9];
+    let mut met = [0; NUMBERS];
     for number in 0..5_000 {
         let (mut case, faults) = random_case(&mut random);
         for call in CALLS {

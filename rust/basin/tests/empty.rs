@@ -9,7 +9,7 @@
 
 use crate::cases::calls::{answered, array, call_raw, expect, independent, Written, UNANSWERED};
 use crate::cases::changes::Changed;
-use crate::cases::common::{record_of, Random};
+use crate::cases::common::{record_of, Random, NUMBERS};
 use crate::cases::memory::{Guarded, Plain};
 use crate::cases::records::{self, basin, expect_pair, expect_read};
 use crate::cases::records::{hex, of_record, Lent, TIMESTAMP};
@@ -218,7 +218,7 @@ fn empty_lists_that_point_to_such_a_page() {
 fn lists_that_start_or_end_beside_such_a_page() {
     let mut random = Random::new(81);
     // By number: of calls on a state, of reads, of comparisons.
-    let mut met = [[0; 9]; 3];
+    let mut met = [[0; NUMBERS]; 3];
     // Quotients refused, and rounded.
     let mut quotients = [0; 2];
     for at_end in [false, true] {

@@ -15,7 +15,8 @@ use std::time::Duration;
 use std::{env, fs, thread};
 
 use crate::cases::changes::Changed;
-use crate::cases::common::{at_rest, random_state, record_of, record_of_length, Random, SPREADS};
+use crate::cases::common::{at_rest, random_state, record_of, record_of_length};
+use crate::cases::common::{Random, NUMBERS, SPREADS};
 use crate::cases::records::{hex, shuffled};
 use crate::cases::{add, random_timestamp, Case};
 use reference::{step_program, State};
@@ -99,6 +100,13 @@ fn refusal(text: &str) -> usize {
         .strip_prefix("refused ")
         .and_then(|rest| rest.strip_suffix('\n'));
     number.map_or(0, |number| number.parse().expect("a number"))
+}
+
+#[test]
+fn a_refusal_is_read_with_all_its_digits() {
+    assert_eq!(refusal("refused 8\n"), 8);
+    assert_eq!(refusal("refused 13\n"), 13);
+    assert_eq!(refusal(EXAMPLE_10), 0);
 }
 
 // ---- worked example 10, stored cases, and the refusals
@@ -236,7 +244,7 @@ fn random_records_of_many_sizes() {
 #[test]
 fn damaged_records() {
     let mut random = Random::new(92);
-    let mut met = [0; 9];
+    let mut met = [0; NUMBERS];
     for number in 0..100 {
         let record = Changed::random(&mut random).record;
         met[refusal(&compare(&record, &format!("record {number}")))] += 1;

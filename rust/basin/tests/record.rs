@@ -11,7 +11,7 @@
 
 use crate::cases::calls::UNANSWERED;
 use crate::cases::changes::Changed;
-use crate::cases::common::{any_state, random_state, within_limits, Random, SPREADS};
+use crate::cases::common::{any_state, random_state, within_limits, Random, NUMBERS, SPREADS};
 use crate::cases::common::{every_order, record_fields, record_of, two_cells};
 use crate::cases::records::{answer_for, basin, TIMESTAMP};
 use crate::cases::records::{compare_pair, compare_read, expect_pair, expect_read, expect_state};
@@ -229,7 +229,7 @@ fn constants_and_answers_are_set_or_kept_whatever_stood_there() {
         UNANSWERED,
         any_numbers(&mut random),
     ];
-    let mut met = [0; 9];
+    let mut met = [0; NUMBERS];
     for record in &records {
         for constants in constants {
             for answer in answers {
@@ -429,14 +429,14 @@ fn random_pairs_are_compared_alike_and_the_other_way_round() {
 struct Coverage {
     records: usize,
     /// Reads by number.
-    read: [usize; 9],
+    read: [usize; NUMBERS],
     /// 7 at the front, within, and at the record's length.
     damage: [usize; 3],
     /// 4 and 5 by field.
     fields: [[usize; 4]; 2],
     /// Comparisons by answer, and by refused record, then number.
     answers: [usize; 4],
-    refused: [[usize; 9]; 2],
+    refused: [[usize; NUMBERS]; 2],
     /// Accepted though a byte was changed, and in another order than the
     /// writer's.
     accepted: [usize; 2],

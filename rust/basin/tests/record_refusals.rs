@@ -8,7 +8,7 @@
 //! As in record.rs, all that is told and all that is lent is compared.
 
 use crate::cases::calls::UNANSWERED;
-use crate::cases::common::{record_field, record_fields, record_of, two_cells, Random};
+use crate::cases::common::{record_field, record_fields, record_of, two_cells, Random, NUMBERS};
 use crate::cases::records::{basin, TIMESTAMP};
 use crate::cases::records::{
     compare_pair, compare_read, expect_read, expect_refused, expect_state,
@@ -81,7 +81,7 @@ fn one_or_two_bytes_left_are_refused() {
 #[test]
 fn every_bit_flipped_and_every_byte_set_to_any() {
     // By number, of flips and of bytes.
-    let mut met = [[0; 9]; 2];
+    let mut met = [[0; NUMBERS]; 2];
     let good = record_of(&two_cells(), TIMESTAMP);
     let mut channel = basin();
     channel.parameters.kind = 1;
@@ -695,7 +695,7 @@ fn of_two_causes_the_first_of_7_1_2_8_3_4_5_is_told() {
     let mut random = Random::new(67);
     let causes = Cause::all();
     // By the two numbers that they are told by themselves.
-    let mut met = [[0; 9]; 9];
+    let mut met = [[0; NUMBERS]; NUMBERS];
     for &one in &causes {
         for &other in &causes {
             let mut order = [0, 1, 2, 3, 4, 5, 6];

@@ -23,7 +23,7 @@ use std::time::{Instant, SystemTime, UNIX_EPOCH};
 
 use crate::cases::calls;
 use crate::cases::changes::{change_bytes, Changed};
-use crate::cases::common::Random;
+use crate::cases::common::{Random, NUMBERS};
 use crate::cases::lists::{take_stepped, Entry};
 use crate::cases::records::{answer_for, compare_pair, compare_read, expect_state, Lent};
 use crate::cases::rounding::{compare_rnd, random_quotient, Rounded};
@@ -39,7 +39,7 @@ const RND: usize = READ + 2;
 #[derive(Clone, Default)]
 struct Soak {
     /// By call, then number. Of rnd, what is not rounded counts as a 1.
-    told: [[u64; 9]; RND + 1],
+    told: [[u64; NUMBERS]; RND + 1],
     /// Lists of steps and runs whose balance was taken, the steps done in them,
     /// and the lists over which total depth fell, stayed and rose.
     lists: u64,
@@ -272,8 +272,10 @@ impl Soak {
         assert!(self.moved.iter().all(|&lists| lists >= least));
     }
 
-    /// Calls by the number that was told.
+    /// Calls by the number that was told, of those that were.
     fn table(&self) -> String {
+        let told = |&number: &usize| self.told.iter().any(|told| told[number] > 0);
+        let numbers: Vec<_> = (0..NUMBERS).filter(told).collect();
         let name = |call: usize| match call {
             READ => "Read".to_string(),
             COMPARE => "Compare".to_string(),
@@ -281,10 +283,10 @@ impl Soak {
             _ => format!("{:?}", CALLS[call]),
         };
         let mut table = format!("{:20}", "told");
-        table.extend((0..9).map(|number| format!("{number:9}")));
+        table.extend(numbers.iter().map(|number| format!("{number:9}")));
         for (call, told) in self.told.iter().enumerate() {
             table += &format!("\n{:20}", name(call));
-            table.extend(told.iter().map(|times| format!("{times:9}")));
+            table.extend(numbers.iter().map(|&number| format!("{:9}", told[number])));
         }
         table
     }

@@ -2,7 +2,7 @@
 //! the comparison of two records.
 
 use crate::common::{any_state, every_order, random_state, record_field, record_fields, record_of};
-use crate::common::{two_cells, written, Random, Spread, SPREADS};
+use crate::common::{two_cells, written, Random, Spread, NUMBERS, SPREADS};
 use reference::{compare, read, CompareAnswer, State};
 
 /// A destination place that reading must not touch.
@@ -548,7 +548,7 @@ fn comparison_says_which_record_is_refused() {
 #[test]
 fn any_bytes_are_answered() {
     let mut random = Random::new(104);
-    let mut numbers = [0; 9];
+    let mut numbers = [0; NUMBERS];
     for _ in 0..60_000 {
         // A good record with a few bytes changed, or bytes at random.
         let mut record = if random.once_in(10) {

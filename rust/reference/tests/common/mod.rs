@@ -14,6 +14,10 @@ use std::path::Path;
 
 use reference::{Parameters, RunAnswer, State, StepAnswer};
 
+/// Places of counts by number: 0, and the numbers of the refusals. 02 goes up to
+/// 13.
+pub const NUMBERS: usize = 14;
+
 /// How the numbers of a random state are spread.
 #[derive(Clone, Copy, Debug, PartialEq)]
 pub enum Spread {
