@@ -1,65 +1,59 @@
 -- Laws of scans in order, between what the code finds and the model's refusal 6. Assumes nothing.
 use mathlib.Core.Path.{_≡_, refl, sym, ap, _∙_}
 use mathlib.Core.Bool.{not}
-use mathlib.Core.List.{List}
+use mathlib.Core.List.{List, [], _∷_, _++_}
 use mathlib.Core.Option.{Option, none, some}
 use Prim.Native.Nat.{ℕ}
 use lib.IntN.{ℤ, pos}
 use lib.ListN.{getD}
 use Rattle.model.specs.Numbers.{Limits, within}
 use Rattle.model.specs.Grid.{firstFrom}
-use Rattle.model.specs.State.{State, cells}
-use Rattle.model.specs.Refusals.{placed, outside, depthOf, uOf, vOf}
-use Rattle.model.specs.Step.{leaves}
+use Rattle.model.specs.Fields.{limitsOf}
+use Rattle.model.specs.Tests.{Test, found, foundAt, _then_, firstFound}
+use Rattle.model.specs.Step.{Place, place}
 use Rattle.model.specs.declared.Field.{Field}
-use Rattle.model.specs.declared.Field.the-variants.{Depth, VelocityU, VelocityV}
 use Rattle.integers.specs.declared.Range.{Range}
 use Rattle.integers.specs.Ranges.{between}
-use Rattle.theorems.specs.Tests.{differ}
-use Rattle.faults.specs.declared.Found.the-variants.{At, Nowhere}
-use Rattle.faults.specs.declared.Fault.the-variants.{Outside}
-use Rattle.faults.specs.Faults.{limitsOf, badIn, foundBy}
+use Rattle.theorems.specs.Truth.{differ}
+use Rattle.theorems.specs.TestLaws.{found-append}
+use Rattle.tests.specs.declared.Found.the-variants.{At, Nowhere}
+use Rattle.tests.specs.declared.Fault.the-variants.{Outside as OutsideRange}
+use Rattle.tests.specs.Faults.{badIn, foundBy}
 use Rattle.advancing.specs.declared.Bounds.{Bounds}
-use Rattle.advancing.specs.declared.Bounds.the-variants.{Kept, Left}
-use Rattle.advancing.specs.Outcomes.{boundsBy, fieldLeft, thenLeft}
+use Rattle.advancing.specs.declared.Bounds.the-variants.{Kept, Outside}
+use Rattle.advancing.specs.Outcomes.{boundsBy, fieldTest, afterScan}
 
 -- ---- a field
 
-left-at : (field : Field) (o : Option ℕ) (k : ℕ) → foundBy o ≡ At k → Left field k ≡ boundsBy (placed field o none)
-left-at field none k e = differ (cc e)
-left-at field (some x) k e = let h : x ≡ k = cc e in ap (Left field) (sym h)
+found-at : (field : Field) (o : Option ℕ) (k : ℕ) → At k ≡ foundBy o → Outside field k ≡ boundsBy (foundAt (place field) o then none)
+found-at field none k e = differ (cc e)
+found-at field (some x) k e = let h : k ≡ x = cc e in ap (Outside field) h
 
-left-nowhere : (field : Field) (o : Option ℕ) → foundBy o ≡ Nowhere → Kept ≡ boundsBy (placed field o none)
-left-nowhere field none e = refl
-left-nowhere field (some x) e = differ (cc e)
+found-nowhere : (field : Field) (o : Option ℕ) → Nowhere ≡ foundBy o → Kept ≡ boundsBy (foundAt (place field) o then none)
+found-nowhere field none e = refl
+found-nowhere field (some x) e = differ (cc e)
 
-module _ (field : Field) (w m : ℕ) (f : List ℤ) (l : Range) (e : between l ≡ limitsOf field) where
-  abbrev found : Option ℕ
-  found = firstFrom (outside (record { field = field; count = m; limits = limitsOf field; numbers = f })) m 0
+module _ (field : Field) (w m : ℕ) (f : List ℤ) (l : Range) (e : between l ≡ limitsOf field) {earlier : Bounds} (kept : earlier ≡ Kept) where
+  abbrev scan : Option ℕ
+  scan = firstFrom (badIn (OutsideRange l) w f) m 0
 
   -- the code's scan with the field's range is the model's
-  scan-is : firstFrom (badIn (Outside l) w f) m 0 ≡ found
-  scan-is = ap (λ (x : Limits). firstFrom (λ k. not (within x (getD f k (pos 0)))) m 0) e
+  scan-is : boundsBy (foundAt (place field) scan then none) ≡ afterScan earlier (fieldTest field m f ∷ [])
+  scan-is =
+      ap (λ (x : Limits). boundsBy (foundAt (place field) (firstFrom (λ k. not (within x (getD f k (pos 0)))) m 0) then none)) e
+      ∙ sym (ap (λ b. afterScan b (fieldTest field m f ∷ [])) kept)
 
-  module _ {earlier : Bounds} (kept : earlier ≡ Kept) where
-    pub field-left : (k : ℕ) → At k ≡ foundBy (firstFrom (badIn (Outside l) w f) m 0) → Left field k ≡ thenLeft earlier (fieldLeft field m f)
-    unfolding fieldLeft
-    field-left k h = left-at field found k (sym (h ∙ ap foundBy scan-is)) ∙ sym (ap (λ b. thenLeft b (fieldLeft field m f)) kept)
+  pub field-outside : (k : ℕ) → At k ≡ foundBy scan → Outside field k ≡ afterScan earlier (fieldTest field m f ∷ [])
+  field-outside k h = found-at field scan k h ∙ scan-is
 
-    pub field-kept : Nowhere ≡ foundBy (firstFrom (badIn (Outside l) w f) m 0) → Kept ≡ thenLeft earlier (fieldLeft field m f)
-    unfolding fieldLeft
-    field-kept h = left-nowhere field found (sym (h ∙ ap foundBy scan-is)) ∙ sym (ap (λ b. thenLeft b (fieldLeft field m f)) kept)
+  pub field-kept : Nowhere ≡ foundBy scan → Kept ≡ afterScan earlier (fieldTest field m f ∷ [])
+  field-kept h = found-nowhere field scan h ∙ scan-is
 
--- ---- h, then u, then v
+-- ---- one after another
 
-in-order : (f g k : Field) (a b c : Option ℕ)
-    → thenLeft (thenLeft (boundsBy (placed f a none)) (placed g b none)) (placed k c none) ≡ boundsBy (placed f a (placed g b (placed k c none)))
-in-order f g k (some x) b c = refl
-in-order f g k none (some x) c = refl
-in-order f g k none none c = refl
+then-scan : (o : Option Place) (k : List (Test Place)) → afterScan (boundsBy o) k ≡ boundsBy (o then firstFound k)
+then-scan none k = refl
+then-scan (some x) k = refl
 
-pub leaves-in-order : (s : State)
-    → thenLeft (thenLeft (boundsBy (fieldLeft Depth (cells s) (s .h))) (fieldLeft VelocityU (cells s) (s .u))) (fieldLeft VelocityV (cells s) (s .v)) ≡ boundsBy (leaves s)
-unfolding leaves fieldLeft
-leaves-in-order s =
-    in-order Depth VelocityU VelocityV (firstFrom (outside (depthOf s)) (cells s) 0) (firstFrom (outside (uOf s)) (cells s) 0) (firstFrom (outside (vOf s)) (cells s) 0)
+pub scans : {a b : Bounds} (l k : List (Test Place)) → a ≡ afterScan Kept l → b ≡ afterScan a k → b ≡ afterScan Kept (l ++ k)
+scans l k e f = f ∙ ap (λ x. afterScan x k) e ∙ then-scan (firstFound l) k ∙ ap boundsBy (sym (found-append l k))

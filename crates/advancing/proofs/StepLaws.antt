@@ -7,17 +7,16 @@ use native.Mathlib.Omega.{arith}
 use lib.IntN.{ℤ}
 use lib.ListN.{length}
 use Rattle.model.specs.State.{State, stateOf, parametersOf, cells, WithinLimits}
-use Rattle.model.specs.Refusals.{Place}
-use Rattle.model.specs.Step.{pass, leaves, moved, passed, second, twoPass}
+use Rattle.model.specs.Step.{Place, place, pass, leaves, moved, passed, second, twoPass}
 use Rattle.model.specs.Step as Model
 use Rattle.model.specs.declared.Field.{Field}
 use Rattle.model.specs.declared.Parameters.{Parameters}
-use Rattle.theorems.specs.Tests.{differ}
+use Rattle.theorems.specs.Truth.{differ}
 use Rattle.theorems.specs.Stepping.{first-within}
 use Rattle.grid.specs.Parts.{part}
 use Rattle.grid.specs.Banks.{Elsewhere, kept-before, kept-rest}
 use Rattle.passes.specs.Spaces.{baseIn, resultIn, PassReady}
-use Rattle.advancing.specs.declared.Bounds.the-variants.{Kept, Left}
+use Rattle.advancing.specs.declared.Bounds.the-variants.{Kept, Outside}
 use Rattle.advancing.specs.declared.Outcome.{Outcome}
 use Rattle.advancing.specs.declared.Outcome.the-variants.{Moved, Stuck}
 use Rattle.advancing.specs.Outcomes.{boundsBy, Stepped, StepReady, Rest}
@@ -28,12 +27,9 @@ pub kept-none : (o : Option Place) → Kept ≡ boundsBy o → o ≡ none
 kept-none none e = refl
 kept-none (some x) e = differ (cc e)
 
-abbrev place : Field → ℕ → Place
-place f k = record { field = f; cell = k }
-
-pub left-some : (o : Option Place) (f : Field) (k : ℕ) → Left f k ≡ boundsBy o → o ≡ some (place f k)
-left-some none f k e = differ (cc e)
-left-some (some x) f k e =
+pub outside-some : (o : Option Place) (f : Field) (k : ℕ) → Outside f k ≡ boundsBy o → o ≡ some (place f k)
+outside-some none f k e = differ (cc e)
+outside-some (some x) f k e =
     let a : x .field ≡ f = cc e in
     let b : x .cell ≡ k = cc e in
     ap₂ (λ f k. some (place f k)) a b
@@ -83,9 +79,9 @@ module _ (s g : State) (inflow : List ℤ) where
   unfolding second
   second-moved h e = let r = pass s g inflow in come-to (ap (λ o. passed o 2 (moved r)) (kept-none (leaves r) h)) (record { answers = refl; leads = e })
 
-  pub second-stuck : {t : State} (f : Field) (k : ℕ) → Left f k ≡ boundsBy (leaves (pass s g inflow)) → t ≡ s → Stepped s (second s g inflow) (Stuck 2 f k) t
+  pub second-stuck : {t : State} (f : Field) (k : ℕ) → Outside f k ≡ boundsBy (leaves (pass s g inflow)) → t ≡ s → Stepped s (second s g inflow) (Stuck 2 f k) t
   unfolding second
-  second-stuck f k h e = let r = pass s g inflow in come-to (ap (λ o. passed o 2 (moved r)) (left-some (leaves r) f k h)) (record { answers = refl; leads = e })
+  second-stuck f k h e = let r = pass s g inflow in come-to (ap (λ o. passed o 2 (moved r)) (outside-some (leaves r) f k h)) (record { answers = refl; leads = e })
 
 -- the same of equal states
 pub second-as : (inflow : List ℤ) {x s g g′ t : State} {answer : Outcome} → x ≡ s → g ≡ g′ → Stepped x (second x g inflow) answer t → Stepped s (second s g′ inflow) answer t
@@ -102,9 +98,9 @@ module _ (s : State) (inflow : List ℤ) where
   unfolding twoPass
   both h x = come-to (ap (λ o. passed o 1 (second s first inflow)) (kept-none (leaves first) h)) x
 
-  pub first-stuck : (f : Field) (k : ℕ) → Left f k ≡ boundsBy (leaves first) → Stepped s (twoPass s inflow) (Stuck 1 f k) s
+  pub first-stuck : (f : Field) (k : ℕ) → Outside f k ≡ boundsBy (leaves first) → Stepped s (twoPass s inflow) (Stuck 1 f k) s
   unfolding twoPass
-  first-stuck f k h = come-to (ap (λ o. passed o 1 (second s first inflow)) (left-some (leaves first) f k h)) (record { answers = refl; leads = refl })
+  first-stuck f k h = come-to (ap (λ o. passed o 1 (second s first inflow)) (outside-some (leaves first) f k h)) (record { answers = refl; leads = refl })
 
   -- the state is ready for pass 1, and pass 1's result for pass 2, where the base in the work space is s
   pub first-ready : {d : List ℤ} → StepReady s inflow d → baseIn (parametersOf s) (s .b) d ≡ s → PassReady s inflow d

@@ -6,15 +6,15 @@ use Prim.Native.Nat.{ℕ, _*_, _≤_}
 use lib.IntN.{ℤ}
 use lib.ListN.{length, drop}
 use Rattle.model.specs.Numbers.{inflowLimits}
-use Rattle.model.specs.Grid.{firstFrom}
 use Rattle.model.specs.State.{State, cells, FieldWithin, WithinLimits}
-use Rattle.model.specs.Refusals.{Place, placed, outside}
-use Rattle.model.specs.Step.{moved, stuck}
+use Rattle.model.specs.Fields.{limitsOf}
+use Rattle.model.specs.Tests.{Test, firstFound}
+use Rattle.model.specs.Refusals.{valueTest}
+use Rattle.model.specs.Step.{Place, place, moved, stuck}
 use Rattle.model.specs.Step as Model
 use Rattle.model.specs.declared.Field.{Field}
-use Rattle.faults.specs.Faults.{limitsOf}
 use Rattle.advancing.specs.declared.Bounds.{Bounds}
-use Rattle.advancing.specs.declared.Bounds.the-variants.{Kept, Left}
+use Rattle.advancing.specs.declared.Bounds.the-variants.{Kept, Outside}
 use Rattle.advancing.specs.declared.Outcome.{Outcome}
 use Rattle.advancing.specs.declared.Outcome.the-variants.{Moved, Stuck}
 
@@ -22,16 +22,16 @@ use Rattle.advancing.specs.declared.Outcome.the-variants.{Moved, Stuck}
 
 abbrev pub boundsBy : Option Place → Bounds
 boundsBy none = Kept
-boundsBy (some x) = Left (x .field) (x .cell)
+boundsBy (some x) = Outside (x .field) (x .cell)
 
--- the first of m cells of a field that is outside its bounds
-unfoldable pub fieldLeft : Field → ℕ → List ℤ → Option Place
-fieldLeft field m f = placed field (firstFrom (outside (record { field = field; count = m; limits = limitsOf field; numbers = f })) m 0) none
+-- the test of m cells of a field, as refusal 6 makes it
+abbrev pub fieldTest : Field → ℕ → List ℤ → Test Place
+fieldTest field m f = valueTest place (record { field = field; count = m; limits = limitsOf field; numbers = f })
 
 -- one scan after another
-abbrev pub thenLeft : Bounds → Option Place → Bounds
-thenLeft Kept o = boundsBy o
-thenLeft (Left f k) o = Left f k
+abbrev pub afterScan : Bounds → List (Test Place) → Bounds
+afterScan Kept l = boundsBy (firstFound l)
+afterScan (Outside f k) l = Outside f k
 
 -- ---- a step
 

@@ -2,7 +2,7 @@
 // state is the given state of pass 1, takes pass 1's result for pass 2, and in the end has pass 2's result, or the base again where that
 // leaves a bound.
 ghost use mathlib.Core.Path.{_≡_};
-ghost use mathlib.Core.List.{List};
+ghost use mathlib.Core.List.{List, [], _∷_};
 ghost use Prim.Native.Nat.{_+_, _*_, _≤_};
 ghost use lib.IntN.{ℤ};
 ghost use lib.ListN.{length};
@@ -11,46 +11,46 @@ ghost use Rattle.model.specs.Step.{leaves, twoPass, second};
 ghost use Rattle.grid.specs.Parts.{part};
 ghost use Rattle.grid.specs.Banks.{Elsewhere};
 ghost use Rattle.passes.specs.Spaces.{baseIn, resultIn, PassReady};
-ghost use Rattle.advancing.specs.Outcomes.{boundsBy, thenLeft, fieldLeft, Stepped, StepReady, Rest};
-use faults::Fault;
-use faults::Found;
+ghost use Rattle.advancing.specs.Outcomes.{boundsBy, afterScan, fieldTest, Stepped, StepReady, Rest};
+use tests::Fault;
+use tests::Found;
 use model::Field;
 use model::Parameters;
 
 // ---- refusal 6
 
-// What a scan of a pass's result finds: each number keeps its bounds, or one has left them.
+// What a scan of a pass's result finds: each number keeps its bounds, or one is outside.
 pub enum Bounds {
     Kept,
-    Left { field: Field, cell: usize },
+    Outside { field: Field, cell: usize },
 }
 
-// What was found so far, or else the first cell of a field that has left its bounds.
-fn then_left(earlier: Bounds, w: usize, n: usize, f: &[i64], field: Field) -> Bounds
+// A link of the scan: what was found so far, or else the first cell of a field that is outside its bounds.
+fn then_bounds(earlier: Bounds, w: usize, n: usize, f: &[i64], field: Field) -> Bounds
     requires { ⌜ length (now f) ≡ w * n ⌝ }
-    ensures { λ r. ⌜ r ≡ thenLeft earlier (fieldLeft field (w * n) (now (f .entry))) ⌝ }
+    ensures { λ r. ⌜ r ≡ afterScan earlier (fieldTest field (w * n) (now (f .entry)) ∷ []) ⌝ }
 {
     let Bounds::Kept = earlier else {
         return earlier;
     };
-    match faults::first_bad(w, n, f, Fault::Outside(faults::limits(field))) {
-        Found::At(cell) => Bounds::Left { field, cell },
+    match tests::first_bad(w, n, f, Fault::Outside(tests::limits(field))) {
+        Found::At(cell) => Bounds::Outside { field, cell },
         Found::Nowhere => Bounds::Kept,
     }
 }
 
 // Where the result of a pass leaves a bound: h, then u, then v, lowest cell.
-fn first_left(p: Parameters, work: &[i64]) -> Bounds
+fn first_outside(p: Parameters, work: &[i64]) -> Bounds
     requires { ⌜ Side (p .w) × Side (p .n) × (8 * (p .w * p .n) ≤ length (now work)) ⌝ }
     ensures { λ r. ⌜ ((b : List ℤ) → r ≡ boundsBy (leaves (resultIn p b (now (work .entry))))) ⌝ }
 {
     let m = p.w * p.n;
     let h = grid::part_of(work, 3 * m, m);
-    let first = then_left(Bounds::Kept, p.w, p.n, h, Field::Depth);
+    let first = then_bounds(Bounds::Kept, p.w, p.n, h, Field::Depth);
     let u = grid::part_of(work, 4 * m, m);
-    let second = then_left(first, p.w, p.n, u, Field::VelocityU);
+    let second = then_bounds(first, p.w, p.n, u, Field::VelocityU);
     let v = grid::part_of(work, 5 * m, m);
-    then_left(second, p.w, p.n, v, Field::VelocityV)
+    then_bounds(second, p.w, p.n, v, Field::VelocityV)
 }
 
 // ---- states into the work space and out of it
@@ -126,12 +126,12 @@ fn second_pass(
 {
     let m = p.w * p.n;
     passes::pass(p, h, b, u, v, inflow, work);
-    match first_left(p, work) {
+    match first_outside(p, work) {
         Bounds::Kept => {
             take_state(work, 3 * m, m, h, u, v);
             Outcome::Moved
         }
-        Bounds::Left { field, cell } => {
+        Bounds::Outside { field, cell } => {
             take_state(work, 0, m, h, u, v);
             Outcome::Stuck {
                 pass: 2,
@@ -162,12 +162,12 @@ pub fn two_pass(
     let cells = p.w * p.n;
     keep_base(cells, h, u, v, work);
     passes::pass(p, h, b, u, v, inflow, work);
-    match first_left(p, work) {
+    match first_outside(p, work) {
         Bounds::Kept => {
             take_state(work, 3 * cells, cells, h, u, v);
             second_pass(p, h, b, u, v, inflow, work)
         }
-        Bounds::Left { field, cell } => Outcome::Stuck {
+        Bounds::Outside { field, cell } => Outcome::Stuck {
             pass: 1,
             field,
             cell,

@@ -10,7 +10,7 @@ use borrow.Fn.Kinds.{Dens, resT, endedOf}
 use lib.IntN.{ℤ}
 use Rattle.model.specs.State.{State, stateOf}
 use Rattle.model.specs.Promises.{VorticityPromise, TendenciesPromise}
-use Rattle.model.specs.declared.FillAnswer.{FillAnswer}
+use Rattle.model.specs.declared.Answer.{Answer}
 use Rattle.filling.proofs.tendencies.Kinds as tendencies-kinds
 use Rattle.filling.proofs.tendencies.Reads as tendencies-reads
 use Rattle.filling.proofs.potential_vorticity.Kinds as vorticity-kinds
@@ -27,7 +27,7 @@ pub record TendenciesCall : Type 0 where
   pub dh′ : List ℤ
   pub du′ : List ℤ
   pub dv′ : List ℤ
-  pub answer : FillAnswer
+  pub answer : Answer
   pub promise : TendenciesPromise state q dh du dv answer dh′ du′ dv′
 
 module _ (κs : Lfts 8) (a : Dens κs tendencies-kinds.ps) (answer : resT tendencies-kinds.r κs .Denot) (e : AtExit (endedOf 8 tendencies-kinds.ps tendencies-kinds.r) κs) where
@@ -43,7 +43,7 @@ pub record VorticityCall : Type 0 where
   pub state : State
   pub d : List ℤ
   pub d′ : List ℤ
-  pub answer : FillAnswer
+  pub answer : Answer
   pub promise : VorticityPromise state d answer d′
 
 module _ (κs : Lfts 5) (a : Dens κs vorticity-kinds.ps) (answer : resT vorticity-kinds.r κs .Denot) (e : AtExit (endedOf 5 vorticity-kinds.ps vorticity-kinds.r) κs) where

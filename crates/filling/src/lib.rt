@@ -1,24 +1,25 @@
 // The calls that fill lent fields: potential vorticity, and tendencies. They go by rows and columns, without a division for an index,
 // and work each cell out once; the tendencies do the last column and the last row once more, since the grid wraps.
 ghost use mathlib.Core.Path.{_≡_};
-ghost use mathlib.Core.List.{List, [], _∷_};
+ghost use mathlib.Core.List.{[], _∷_};
 ghost use Prim.Native.Nat.{_*_, _<_, _≤_};
-ghost use lib.Dec.{T};
-ghost use lib.IntN.{ℤ, negℤ};
+ghost use lib.IntN.{negℤ};
 ghost use lib.ListN.{length};
 ghost use Rattle.model.specs.Grid.{filled, previous};
 ghost use Rattle.model.specs.State.{cells, stateOf, lent, before};
-ghost use Rattle.model.specs.Refusals.{gridKnown, roomTest};
+ghost use Rattle.model.specs.Tests.{firstFound};
+ghost use Rattle.model.specs.Refusals.{taken, roomTests, stateTests};
 ghost use Rattle.model.specs.Scheme.{D, vorticity, tendencyU, tendencyV, hTendencies, uTendencies, vTendencies};
-ghost use Rattle.model.specs.Promises.{testAnswer, VorticityPromise, TendenciesPromise};
+ghost use Rattle.model.specs.Promises.{answerOf, VorticityPromise, TendenciesPromise};
+ghost use Rattle.model.specs.declared.Field.the-variants.{Vorticity};
 ghost use Rattle.grid.specs.Writing.{RowWriting};
 ghost use Rattle.scheme.specs.Reading.{VorticityReady, TendenciesReady};
 ghost use Rattle.scheme.specs.Handing.{HandedNorth};
+ghost use Rattle.tests.specs.Links.{after};
 ghost use Rattle.filling.specs.Rooms.{Room};
-use model::Beside;
-use model::FillAnswer;
+use model::Answer;
+use model::Field;
 use model::Parameters;
-use model::TestAnswer;
 
 // ---- potential vorticity
 
@@ -48,19 +49,17 @@ pub fn potential_vorticity(
     u: &[i64],
     v: &[i64],
     d: &mut [i64],
-) -> FillAnswer
+) -> Answer
     ensures { λ r. ⌜ VorticityPromise (before p h b u v) (now (d .entry)) r (now (d .exit)) ⌝ }
 {
-    // the last argument stands for a further field, which nothing looks at here
-    let tested = state::test_state(p, h, b, u, v, Beside::Nothing, h);
-    let room = state::test_room(p, d.len());
-    match state::first_of(tested, room) {
-        TestAnswer::Passed => {
-            fill_vorticity(p, h, u, v, d);
-            FillAnswer::Done
-        }
-        TestAnswer::Refused(refusal) => FillAnswer::Refused(refusal),
-    }
+    let m = tests::cells_of(p);
+    let state = tests::test_state(p, h, b, u, v);
+    let answer = tests::then_room(state, m, d.len());
+    let Answer::Accepted = answer else {
+        return answer;
+    };
+    fill_vorticity(p, h, u, v, d);
+    Answer::Accepted
 }
 
 // ---- tendencies
@@ -147,17 +146,37 @@ fn fill_tendencies(
     }
 }
 
-// Test 8 of the three destinations, by their lengths.
-fn test_rooms(p: Parameters, dh: usize, du: usize, dv: usize) -> TestAnswer
+// Tests 1 to 5 of a state and of q, the potential vorticity lent.
+fn test_vorticity(
+    p: Parameters,
+    h: &[i64],
+    b: &[i64],
+    u: &[i64],
+    v: &[i64],
+    q: &[i64],
+) -> Answer
     ensures { λ r. ⌜
-        ((h b u v : List ℤ) → T (gridKnown (stateOf p h b u v))
-        → r ≡ testAnswer (roomTest (p .w * p .n) (dh ∷ du ∷ dv ∷ [])))
+        (let s = before p h b u v in
+        r ≡ answerOf (firstFound (stateTests s (taken s Vorticity (now (q .entry)) ∷ []) [] [])))
         ⌝ }
 {
-    let first = state::test_room(p, dh);
-    let second = state::test_room(p, du);
-    let third = state::test_room(p, dv);
-    state::first_of(first, state::first_of(second, third))
+    let m = tests::cells_of(p);
+    let grid = tests::then_grid(Answer::Accepted, p);
+    let own = tests::then_lengths(grid, m, h, b, u, v);
+    let lengths = tests::then_length(own, m, q.len());
+    let constants = tests::then_constants(lengths, p);
+    let fields = tests::then_fields(constants, p, h, b, u, v);
+    let values = tests::then_field(fields, p, q, Field::Vorticity);
+    tests::then_edges(values, p, u, v)
+}
+
+// Test 8 of three destinations for m numbers each, by their lengths.
+fn then_rooms(earlier: Answer, m: usize, dh: usize, du: usize, dv: usize) -> Answer
+    ensures { λ r. ⌜ r ≡ after earlier (roomTests m (dh ∷ du ∷ dv ∷ [])) ⌝ }
+{
+    let first = tests::then_room(earlier, m, dh);
+    let second = tests::then_room(first, m, du);
+    tests::then_room(second, m, dv)
 }
 
 // The tendencies of a state with a lent potential vorticity q: -D, Tu and Tv, into the first w·n places of dh, du and dv.
@@ -172,19 +191,18 @@ pub fn tendencies(
     dh: &mut [i64],
     du: &mut [i64],
     dv: &mut [i64],
-) -> FillAnswer
+) -> Answer
     ensures { λ r. ⌜
         TendenciesPromise (before p h b u v) (now (q .entry)) (now (dh .entry)) (now (du .entry))
         (now (dv .entry)) r (now (dh .exit)) (now (du .exit)) (now (dv .exit))
         ⌝ }
 {
-    let tested = state::test_state(p, h, b, u, v, Beside::Vorticity, q);
-    let rooms = test_rooms(p, dh.len(), du.len(), dv.len());
-    match state::first_of(tested, rooms) {
-        TestAnswer::Passed => {
-            fill_tendencies(p, h, b, u, v, q, dh, du, dv);
-            FillAnswer::Done
-        }
-        TestAnswer::Refused(refusal) => FillAnswer::Refused(refusal),
-    }
+    let m = tests::cells_of(p);
+    let state = test_vorticity(p, h, b, u, v, q);
+    let answer = then_rooms(state, m, dh.len(), du.len(), dv.len());
+    let Answer::Accepted = answer else {
+        return answer;
+    };
+    fill_tendencies(p, h, b, u, v, q, dh, du, dv);
+    Answer::Accepted
 }

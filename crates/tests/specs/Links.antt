@@ -2,16 +2,15 @@
 use mathlib.Core.Path.{_≡_, refl, sym, ap, _∙_}
 use mathlib.Core.List.{List, [], _∷_, _++_}
 use mathlib.Core.Option.{Option, none, some}
-use Prim.Native.Nat.{ℕ, _*_}
-use lib.Dec.{T, eqb→eq}
+use Prim.Native.Nat.{ℕ}
+use lib.Dec.{eqb→eq}
 use lib.IntN.{ℤ}
 use lib.ListN.{length}
 use Rattle.model.specs.State.{State, cells}
 use Rattle.model.specs.Tests.{Test, _then_, firstFound}
-use Rattle.model.specs.Refusals.{fieldsOf, gridKnown, gridTest, lengthTest, lengthTests}
+use Rattle.model.specs.Refusals.{fieldsOf, lengthTest, lengthTests}
 use Rattle.model.specs.Promises.{answerOf}
 use Rattle.model.specs.Claims.{EachPasses}
-use Rattle.model.specs.declared.Parameters.{Parameters}
 use Rattle.model.specs.declared.Refusal.{Refusal}
 use Rattle.model.specs.declared.Answer.{Answer}
 use Rattle.model.specs.declared.Answer.the-variants.{Accepted, Refused}
@@ -44,9 +43,17 @@ pub after-append : (a : Answer) (l k : List (Test Refusal)) → after (after a l
 after-append Accepted l k = answer-then (firstFound l) (firstFound k) k refl ∙ ap answerOf (sym (found-append l k))
 after-append (Refused r) l k = refl
 
--- a link k of a chain that has come to a by the tests l
-pub link : {r s : Answer} (a : Answer) (l k : List (Test Refusal)) → r ≡ after a l → s ≡ after r k → s ≡ after a (l ++ k)
-link a l k e f = f ∙ ap (λ x. after x k) e ∙ after-append a l k
+-- ---- a chain: it begins with the answer e, and has come to a by the tests l
+
+pub record Chain (e a : Answer) (l : List (Test Refusal)) : Type 0 where
+  pub is : a ≡ after e l
+
+pub start : {a : Answer} (e : Answer) (k : List (Test Refusal)) → a ≡ after e k → Chain e a k
+start e k h = record { is = h }
+
+-- one link more
+pub more : {e a r : Answer} {l : List (Test Refusal)} (k : List (Test Refusal)) → Chain e a l → r ≡ after a k → Chain e r (l ++ k)
+more {e} {l = l} k c h = record { is = h ∙ ap (λ x. after x k) (c .is) ∙ after-append e l k }
 
 -- ---- what has passed
 
@@ -58,35 +65,27 @@ pub refused-some : (o : Option Refusal) (r : Refusal) → Refused r ≡ answerOf
 refused-some none r e = differ (cc e)
 refused-some (some x) r e = let h : x ≡ r = cc e in ap some h
 
-pub still-accepted : (a : Answer) (l : List (Test Refusal)) → after a l ≡ Accepted → a ≡ Accepted
-still-accepted Accepted l e = refl
-still-accepted (Refused r) l e = e
+by-start : (e : Answer) (l : List (Test Refusal)) → Accepted ≡ after e l → (e ≡ Accepted) × EachPasses l
+by-start Accepted l h = (refl, passes l .0 (accepted-none (firstFound l) h))
+by-start (Refused r) l h = differ (cc h)
 
--- ---- a chain that begins with test 1
+pub passed : {e a : Answer} {l : List (Test Refusal)} → Chain e a l → a ≡ Accepted → EachPasses l
+passed {e} {l = l} c h = by-start e l (sym h ∙ c .is) .1
 
--- of a grid with these parameters: it has come to a by test 1 and the tests l
-pub record Chain (p : Parameters) (a : Answer) (l : List (Test Refusal)) : Type 0 where
-  pub is : a ≡ after Accepted (gridTest p ∷ l)
+-- where a link is not idle, the first of them was not
+pub begun : {e a : Answer} {l : List (Test Refusal)} → Chain e a l → a ≡ Accepted → e ≡ Accepted
+begun {e} {l = l} c h = by-start e l (sym h ∙ c .is) .0
 
-pub start : {p : Parameters} {a : Answer} → a ≡ after Accepted (gridTest p ∷ []) → Chain p a []
-start e = record { is = e }
-
-pub passed : {p : Parameters} {a : Answer} {l : List (Test Refusal)} → Chain p a l → a ≡ Accepted → T (gridKnown p) × EachPasses l
-passed {p} {l = l} c h = passes (gridTest p ∷ l) .0 (accepted-none (firstFound (gridTest p ∷ l)) (sym h ∙ c .is))
-
-pub more : {p : Parameters} {a r : Answer} {l : List (Test Refusal)} (k : List (Test Refusal)) → Chain p a l → r ≡ after a k → Chain p r (l ++ k)
-more {p} {l = l} k c e = record { is = link Accepted (gridTest p ∷ l) k (c .is) e }
-
--- a link whose test goes by the number of cells, which is known where test 1 passed; where it did not, the link is idle
+-- a link whose test goes by a number, n, that the code knows as m where the link is not idle
 idle : (a : Answer) (x y : List (Test Refusal)) → (a ≡ Accepted → x ≡ y) → after a x ≡ after a y
 idle Accepted x y e = ap (after Accepted) (e refl)
 idle (Refused r) x y e = refl
 
-pub counted : {p : Parameters} {a r : Answer} {l : List (Test Refusal)} (m : ℕ) (k : ℕ → List (Test Refusal)) → Chain p a l → (T (gridKnown p) → m ≡ p .w * p .n)
-    → r ≡ after a (k m) → Chain p r (l ++ k (p .w * p .n))
-counted {p} {a} m k c h e = let n = p .w * p .n in more (k n) c (e ∙ idle a (k m) (k n) (λ q. ap k (h (passed c q .0))))
+pub counted : {e a r : Answer} {l : List (Test Refusal)} {m n : ℕ} (k : ℕ → List (Test Refusal)) → Chain e a l → (a ≡ Accepted → m ≡ n)
+    → r ≡ after a (k m) → Chain e r (l ++ k n)
+counted {a = a} {m = m} {n = n} k c h e = more (k n) c (e ∙ idle a (k m) (k n) (λ q. ap k (h q)))
 
--- where the lengths of a state's own fields have been tested, first of all or after one test more
+-- where the lengths of a state's own fields have been tested, first of all, or after one test
 long-by : (s : State) (k : List (Test Refusal)) → EachPasses (lengthTests (fieldsOf s) ++ k) → FieldsLong s
 long-by s k t =
     record {
@@ -96,11 +95,11 @@ long-by s k t =
       v = eqb→eq (length (s .v)) (cells s) (t .1 .1 .1 .0);
     }
 
-pub fields-long : (s : State) {p : Parameters} {a : Answer} {k : List (Test Refusal)} → Chain p a (lengthTests (fieldsOf s) ++ k) → a ≡ Accepted → FieldsLong s
-fields-long s {k = k} c h = long-by s k (passed c h .1)
+pub fields-long : (s : State) {e a : Answer} {k : List (Test Refusal)} → Chain e a (lengthTests (fieldsOf s) ++ k) → a ≡ Accepted → FieldsLong s
+fields-long s {k = k} c h = long-by s k (passed c h)
 
-pub fields-long-after : (s : State) {p : Parameters} {a : Answer} {t : Test Refusal} {k : List (Test Refusal)} → Chain p a (t ∷ (lengthTests (fieldsOf s) ++ k)) → a ≡ Accepted → FieldsLong s
-fields-long-after s {k = k} c h = long-by s k (passed c h .1 .1)
+pub fields-long-after : (s : State) {e a : Answer} {t : Test Refusal} {k : List (Test Refusal)} → Chain e a (t ∷ (lengthTests (fieldsOf s) ++ k)) → a ≡ Accepted → FieldsLong s
+fields-long-after s {k = k} c h = long-by s k (passed c h .1)
 
 -- test 2 of a state's own fields, where they must have m numbers
 abbrev pub ownLengths : (h b u v : List ℤ) (m : ℕ) → List (Test Refusal)

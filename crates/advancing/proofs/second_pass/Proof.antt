@@ -24,15 +24,15 @@ cells c = c .args .p .w * c .args .p .n
 few : (c : tie.Start) → cells c ≤ 4096
 few c = let g = c .pre .given in cells-most (g .columns) (g .rows)
 
-abbrev passed : tie.After-first-left → tie.After-pass
+abbrev passed : tie.After-first-outside → tie.After-pass
 passed c = c .before .before .before
 
 abbrev begin : tie.After-pass → tie.Start
 begin c = c .before .before .before .before .before .before
 
 -- what the scan tells, of the model's pass
-scanned : (c : tie.After-first-left) → let s = begin (passed c) in c .first-left .result ≡ boundsBy (leaves (pass (base s) (given s) (s .args .inflow .now)))
-scanned c = let k = passed c in c .first-left .ensures (begin k .args .b .now) ∙ ap (λ r. boundsBy (leaves r)) (k .pass .ensures .0)
+scanned : (c : tie.After-first-outside) → let s = begin (passed c) in c .first-outside .result ≡ boundsBy (leaves (pass (base s) (given s) (s .args .inflow .now)))
+scanned c = let k = passed c in c .first-outside .ensures (begin k .args .b .now) ∙ ap (λ r. boundsBy (leaves r)) (k .pass .ensures .0)
 
 take-state-requires : tie.Need-take-state-requires
 take-state-requires c κs =

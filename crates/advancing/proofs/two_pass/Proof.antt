@@ -65,14 +65,14 @@ ready-again c = ready-after (ready (kept c)) (c .pass .ensures .1 .long)
 rest : (c : tie.After-pass) → let s = begin (kept c) in Rest (cells s) (s .args .work .now) (space c)
 rest c = let k = kept c in let m = cells (begin k) in rest-then (rest-of m (k .keep-base .ensures .3) (omega arith)) (rest-of m (c .pass .ensures .1) (omega arith))
 
-abbrev passed : tie.After-first-left → tie.After-pass
+abbrev passed : tie.After-first-outside → tie.After-pass
 passed c = c .before .before .before
 
-scanned : (c : tie.After-first-left) → let s = begin (kept (passed c)) in c .first-left .result ≡ boundsBy (leaves (first s))
+scanned : (c : tie.After-first-outside) → let s = begin (kept (passed c)) in c .first-outside .result ≡ boundsBy (leaves (first s))
 scanned c =
     let k = passed c in
     let s = begin (kept k) in
-    c .first-left .ensures (s .args .b .now) ∙ ap (λ r. boundsBy (leaves r)) (k .pass .ensures .0 ∙ ap (λ x. pass x (state s) (s .args .inflow .now)) (base-is (kept k)))
+    c .first-outside .ensures (s .args .b .now) ∙ ap (λ r. boundsBy (leaves r)) (k .pass .ensures .0 ∙ ap (λ x. pass x (state s) (s .args .inflow .now)) (base-is (kept k)))
 
 take-state-requires : tie.Need-take-state-requires
 take-state-requires c κs =

@@ -7,10 +7,12 @@ use borrow.Author.Needs.{needs}
 use Rattle.model.specs.Grid.{filled}
 use Rattle.model.specs.State.{State, stateOf, cells}
 use Rattle.model.specs.Scheme.{Z, H, vorticityAt, vorticity}
-use Rattle.model.specs.Promises.{testAnswer, vorticityTest}
+use Rattle.model.specs.Refusals.{stateTests, roomTests}
+use Rattle.model.specs.Promises.{answerOf, _into_, vorticityTest}
 use Rattle.model.specs.declared.Parameters.{Parameters}
-use Rattle.model.specs.declared.TestAnswer.the-variants.{Passed}
-use Rattle.filling.proofs.CallLaws.{call-tested, vorticity-done, vorticity-refused, vorticity-passed}
+use Rattle.model.specs.declared.Answer.the-variants.{Accepted}
+use Rattle.tests.specs.Links.{start, counted, passed}
+use Rattle.filling.proofs.CallLaws.{fill-done, fill-refused, vorticity-passed}
 use Rattle.filling.proofs.potential_vorticity.Statement.{statement}
 use Rattle.filling.proofs.potential_vorticity.Tie as tie
 
@@ -23,38 +25,40 @@ unfolding vorticity vorticityAt Z H
 bottomless p h b u v = refl
 
 -- what the tests have found, once all are made
-tested : (c : tie.After-first-of) → let s = c .before .before .before in c .first-of .result ≡ testAnswer (vorticityTest (state s) (length (s .args .d .now)))
+tested : (c : tie.After-then-room) → let b = c .before .before .before in c .then-room .result ≡ answerOf (vorticityTest (state b) (length (b .args .d .now)))
 unfolding vorticityTest
 tested c =
-    let r = c .before in
-    let t = r .before in
-    let a = t .before .args in
-    call-tested (state (t .before)) [] (length (a .d .now) ∷ []) (t .test-state .ensures .answers) (r .test-room .ensures (a .h .now) (a .b .now) (a .u .now) (a .v .now)) (c .first-of .ensures)
+    let t = c .before in
+    let m = t .before in
+    let a = m .before .args in
+    let g = start Accepted (stateTests (state (m .before)) [] [] []) (t .test-state .ensures) in
+    counted (λ k. roomTests k (length (a .d .now) ∷ [])) g (λ h. m .cells-of .ensures .0 (passed g h .0)) (c .then-room .ensures) .is
 
-passed : (c : tie.After-enum-told) → let s = c .before .before .before .before .before in Passed ≡ testAnswer (vorticityTest (state s) (length (s .args .d .now)))
-passed c = sym (c .enum-told .given .1) ∙ tested (c .before .before)
+accepted : (c : tie.After-enum-told) → let b = c .before .before .before .before .before in Accepted ≡ answerOf (vorticityTest (state b) (length (b .args .d .now)))
+accepted c = sym (c .enum-told .given .1) ∙ tested (c .before .before)
 
 fill-vorticity-requires : tie.Need-fill-vorticity-requires
 fill-vorticity-requires c κs =
     let e = c .before in
-    let s = e .before .before .before .before .before in
-    let l = vorticity-passed (state s) (s .args .d .now) (passed e) in
+    let b = e .before .before .before .before .before in
+    let l = vorticity-passed (state b) (length (b .args .d .now)) (accepted e) in
     (record { columns = l .0 .columns; rows = l .0 .rows; coriolis = l .0 .coriolis; depths = l .0 .depths; us = l .0 .us; vs = l .0 .vs }, l .1)
 
-returns : tie.Need-returns
-returns c =
+refused : tie.Need-returns
+refused c =
+    let t = c .before .before in
+    let b = t .before .before .before in
+    fill-refused _ (cells (state b)) (vorticity (state b) into b .args .d .now ∷ []) _ (c .enum-told2 .given .1) (tested t)
+
+done : tie.Need-returns-2
+done c =
     let f = c .before in
     let e = f .before .before in
-    let s = e .before .before .before .before .before in
-    let a = s .args in
-    vorticity-done (state s) (a .d .now) (passed e) (f .fill-vorticity .ensures ∙ ap (λ l. filled (cells (state s)) l (a .d .now)) (bottomless (a .p) (a .h .now) (a .b .now) (a .u .now) (a .v .now)))
-
-returns-2 : tie.Need-returns-2
-returns-2 c =
-    let k = c .before in
-    let f = k .before .before in
-    let s = f .before .before .before in
-    vorticity-refused (state s) (s .args .d .now) (sym (k .refusal .given .1) ∙ tested f)
+    let b = e .before .before .before .before .before in
+    let a = b .args in
+    let m = cells (state b) in
+    fill-done _ m (vorticity (state b) into a .d .now ∷ []) (accepted e)
+    (ap (λ l. l ∷ []) (f .fill-vorticity .ensures ∙ ap (λ l. filled m l (a .d .now)) (bottomless (a .p) (a .h .now) (a .b .now) (a .u .now) (a .v .now))))
 
 pub potential-vorticity-spec : {M : Type 1} → statement M
 potential-vorticity-spec =
@@ -64,8 +68,8 @@ potential-vorticity-spec =
     (λ c κs. search needs)
     (λ c κs. search needs)
     (λ c. search needs)
+    (λ c. search needs)
+    refused
     fill-vorticity-requires
     (λ c. search needs)
-    (λ c. search needs)
-    returns
-    returns-2)
+    done)

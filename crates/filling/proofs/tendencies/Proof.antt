@@ -3,11 +3,14 @@ use mathlib.Core.Path.{_≡_, sym, _∙_}
 use mathlib.Core.List.{[], _∷_}
 use lib.ListN.{length}
 use borrow.Author.Needs.{needs}
-use Rattle.model.specs.State.{State, stateOf}
-use Rattle.model.specs.Refusals.{vorticityTaken}
-use Rattle.model.specs.Promises.{testAnswer, tendenciesTest}
-use Rattle.model.specs.declared.TestAnswer.the-variants.{Passed}
-use Rattle.filling.proofs.CallLaws.{call-tested, tendencies-done, tendencies-refused, tendencies-passed}
+use Rattle.model.specs.State.{State, stateOf, cells}
+use Rattle.model.specs.Refusals.{taken, stateTests, roomTests}
+use Rattle.model.specs.declared.Field.the-variants.{Vorticity}
+use Rattle.model.specs.Scheme.{hTendencies, uTendencies, vTendencies}
+use Rattle.model.specs.Promises.{answerOf, _into_, tendenciesTest}
+use Rattle.model.specs.declared.Answer.the-variants.{Accepted}
+use Rattle.tests.specs.Links.{start, counted, passed}
+use Rattle.filling.proofs.CallLaws.{fill-done, fill-refused, tendencies-passed}
 use Rattle.filling.proofs.tendencies.Statement.{statement}
 use Rattle.filling.proofs.tendencies.Tie as tie
 
@@ -15,44 +18,47 @@ abbrev state : tie.Start → State
 state c = let a = c .args in stateOf (a .p) (a .h .now) (a .b .now) (a .u .now) (a .v .now)
 
 -- what the tests have found, once all are made
-tested : (c : tie.After-first-of)
-    → let s = c .before .before .before in let a = s .args in
-    c .first-of .result ≡ testAnswer (tendenciesTest (state s) (a .q .now) (length (a .dh .now)) (length (a .du .now)) (length (a .dv .now)))
+tested : (c : tie.After-then-rooms)
+    → let b = c .before .before .before in let a = b .args in
+    c .then-rooms .result ≡ answerOf (tendenciesTest (state b) (a .q .now) (length (a .dh .now)) (length (a .du .now)) (length (a .dv .now)))
 unfolding tendenciesTest
 tested c =
-    let r = c .before in
-    let t = r .before in
-    let a = t .before .args in
-    call-tested (state (t .before)) (vorticityTaken (state (t .before)) (a .q .now)) (length (a .dh .now) ∷ length (a .du .now) ∷ length (a .dv .now) ∷ [])
-    (t .test-state .ensures .answers) (r .test-rooms .ensures (a .h .now) (a .b .now) (a .u .now) (a .v .now)) (c .first-of .ensures)
+    let t = c .before in
+    let m = t .before in
+    let a = m .before .args in
+    let s = state (m .before) in
+    let g = start Accepted (stateTests s (taken s Vorticity (a .q .now) ∷ []) [] []) (t .test-vorticity .ensures) in
+    counted (λ k. roomTests k (length (a .dh .now) ∷ length (a .du .now) ∷ length (a .dv .now) ∷ [])) g (λ h. m .cells-of .ensures .0 (passed g h .0)) (c .then-rooms .ensures) .is
 
-passed : (c : tie.After-enum-told)
-    → let s = c .before .before .before .before .before in let a = s .args in
-    Passed ≡ testAnswer (tendenciesTest (state s) (a .q .now) (length (a .dh .now)) (length (a .du .now)) (length (a .dv .now)))
-passed c = sym (c .enum-told .given .1) ∙ tested (c .before .before)
+accepted : (c : tie.After-enum-told)
+    → let b = c .before .before .before .before .before in let a = b .args in
+    Accepted ≡ answerOf (tendenciesTest (state b) (a .q .now) (length (a .dh .now)) (length (a .du .now)) (length (a .dv .now)))
+accepted c = sym (c .enum-told .given .1) ∙ tested (c .before .before)
 
 fill-tendencies-requires : tie.Need-fill-tendencies-requires
 fill-tendencies-requires c κs =
     let e = c .before .before .before in
-    let s = e .before .before .before .before .before in
-    let a = s .args in
-    tendencies-passed (state s) (a .q .now) (a .dh .now) (a .du .now) (a .dv .now) (passed e)
+    let b = e .before .before .before .before .before in
+    let a = b .args in
+    tendencies-passed (state b) (a .q .now) (a .dh .now) (a .du .now) (a .dv .now) (accepted e)
 
-returns : tie.Need-returns
-returns c =
+refused : tie.Need-returns
+refused c =
+    let t = c .before .before in
+    let b = t .before .before .before in
+    let a = b .args in
+    let s = state b in
+    fill-refused _ (cells s) (hTendencies s into a .dh .now ∷ uTendencies s (a .q .now) into a .du .now ∷ vTendencies s (a .q .now) into a .dv .now ∷ []) _ (c .enum-told2 .given .1) (tested t)
+
+done : tie.Need-returns-2
+done c =
     let f = c .before .before .before in
     let e = f .before .before .before .before in
-    let s = e .before .before .before .before .before in
-    let a = s .args in
-    tendencies-done (state s) (a .q .now) (a .dh .now) (a .du .now) (a .dv .now) (passed e) (f .fill-tendencies .ensures)
-
-returns-2 : tie.Need-returns-2
-returns-2 c =
-    let k = c .before in
-    let f = k .before .before in
-    let s = f .before .before .before in
-    let a = s .args in
-    tendencies-refused (state s) (a .q .now) (a .dh .now) (a .du .now) (a .dv .now) (sym (k .refusal .given .1) ∙ tested f)
+    let b = e .before .before .before .before .before in
+    let a = b .args in
+    let s = state b in
+    let l = f .fill-tendencies .ensures in
+    fill-done _ (cells s) (hTendencies s into a .dh .now ∷ uTendencies s (a .q .now) into a .du .now ∷ vTendencies s (a .q .now) into a .dv .now ∷ []) (accepted e) (λ i. l .0 i ∷ l .1 i ∷ l .2 i ∷ [])
 
 pub tendencies-spec : {M : Type 1} → statement M
 tendencies-spec =
@@ -62,10 +68,10 @@ tendencies-spec =
     (λ c κs. search needs)
     (λ c κs. search needs)
     (λ c. search needs)
+    (λ c. search needs)
+    refused
     fill-tendencies-requires
     (λ c. search needs)
     (λ c. search needs)
     (λ c. search needs)
-    (λ c. search needs)
-    returns
-    returns-2)
+    done)

@@ -1,5 +1,5 @@
 -- `tests::then_edges` meets its contract: whether an edge is closed goes by the parameters alone. Assumes nothing.
-use mathlib.Core.Path.{_≡_, refl, sym, ap, _∙_}
+use mathlib.Core.Path.{_≡_, refl, ap, _∙_}
 use mathlib.Core.List.{List, [], _∷_}
 use lib.IntN.{ℤ}
 use Rattle.model.specs.State.{stateOf, closedWest, closedSouth}
@@ -8,7 +8,7 @@ use Rattle.model.specs.declared.Parameters.{Parameters}
 use Rattle.model.specs.declared.Field.the-variants.{VelocityU, VelocityV}
 use Rattle.tests.specs.declared.Fault.the-variants.{West, South}
 use Rattle.tests.specs.Faults.{cellTest}
-use Rattle.tests.specs.Links.{after, link, still-accepted}
+use Rattle.tests.specs.Links.{after, Chain, start, more, begun}
 use Rattle.tests.proofs.then_edges.Statement.{statement}
 use Rattle.tests.proofs.then_edges.Tie as tie
 
@@ -17,17 +17,16 @@ edges-are : (p : Parameters) (h b u v : List ℤ)
 unfolding closedWest closedSouth
 edges-are p h b u v = refl
 
+-- u's edges, the first link
+west : (c : tie.After-then-cells) → let a = c .before .args in Chain (a .earlier) (c .then-cells .result) (cellTest (a .p .w) (a .p .n) (a .u .now) VelocityU (West (a .p)) ∷ [])
+west c = start (c .before .args .earlier) _ (c .then-cells .ensures)
+
 returns : tie.Need-returns
 returns c h b =
     let w = c .before in
     let a = w .before .args in
-    link (a .earlier) (cellTest (a .p .w) (a .p .n) (a .u .now) VelocityU (West (a .p)) ∷ []) (cellTest (a .p .w) (a .p .n) (a .v .now) VelocityV (South (a .p)) ∷ []) (w .then-cells .ensures) (c .then-cells2 .ensures)
+    more (cellTest (a .p .w) (a .p .n) (a .v .now) VelocityV (South (a .p)) ∷ []) (west w) (c .then-cells2 .ensures) .is
     ∙ ap (after (a .earlier)) (edges-are (a .p) h b (a .u .now) (a .v .now))
 
 pub then-edges-spec : {M : Type 1} → statement M
-then-edges-spec =
-    tie.close
-    (tie.spec
-    (λ c κs h. c .pre h .0)
-    (λ c κs h. let a = c .before .args in c .before .pre (still-accepted (a .earlier) (cellTest (a .p .w) (a .p .n) (a .u .now) VelocityU (West (a .p)) ∷ []) (sym (c .then-cells .ensures) ∙ h)) .1)
-    returns)
+then-edges-spec = tie.close (tie.spec (λ c κs h. c .pre h .0) (λ c κs h. c .before .pre (begun (west c) h) .1) returns)

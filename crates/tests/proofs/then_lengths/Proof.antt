@@ -6,7 +6,7 @@ use borrow.Author.Needs.{needs}
 use Rattle.model.specs.Tests.{Test}
 use Rattle.model.specs.Refusals.{lengthTest}
 use Rattle.model.specs.declared.Refusal.{Refusal}
-use Rattle.tests.specs.Links.{link}
+use Rattle.tests.specs.Links.{start, more}
 use Rattle.tests.proofs.then_lengths.Statement.{statement}
 use Rattle.tests.proofs.then_lengths.Tie as tie
 
@@ -17,11 +17,7 @@ returns c =
     let h = b .before in
     let a = h .before .args in
     let t : List ℤ → Test Refusal = λ l. lengthTest (a .m) (length l) in
-    link (a .earlier) (t (a .h .now) ∷ t (a .b .now) ∷ t (a .u .now) ∷ []) (t (a .v .now) ∷ [])
-    (link (a .earlier) (t (a .h .now) ∷ t (a .b .now) ∷ []) (t (a .u .now) ∷ [])
-    (link (a .earlier) (t (a .h .now) ∷ []) (t (a .b .now) ∷ []) (h .then-length .ensures) (b .then-length2 .ensures))
-    (u .then-length3 .ensures))
-    (c .then-length4 .ensures)
+    more (t (a .v .now) ∷ []) (more (t (a .u .now) ∷ []) (more (t (a .b .now) ∷ []) (start (a .earlier) (t (a .h .now) ∷ []) (h .then-length .ensures)) (b .then-length2 .ensures)) (u .then-length3 .ensures)) (c .then-length4 .ensures) .is
 
 pub then-lengths-spec : {M : Type 1} → statement M
 then-lengths-spec =

@@ -1,10 +1,10 @@
--- `advancing::then_left` meets its contract. Assumes nothing.
+-- `advancing::then_bounds` meets its contract. Assumes nothing.
 use mathlib.Core.Path.{sym, _∙_}
 use Prim.Native.Nat.{_*_}
 use borrow.Author.Needs.{needs}
-use Rattle.advancing.proofs.ScanLaws.{field-left, field-kept}
-use Rattle.advancing.proofs.then_left.Statement.{statement}
-use Rattle.advancing.proofs.then_left.Tie as tie
+use Rattle.advancing.proofs.ScanLaws.{field-outside, field-kept}
+use Rattle.advancing.proofs.then_bounds.Statement.{statement}
+use Rattle.advancing.proofs.then_bounds.Tie as tie
 
 returns-2 : tie.Need-returns-2
 returns-2 c =
@@ -13,7 +13,7 @@ returns-2 c =
     let l = f .before in
     let e = l .before in
     let a = e .before .before .args in
-    field-left (a .field) (a .w) (a .w * a .n) (a .f .now) (l .limits .result) (l .limits .ensures) (e .enum-told .given .1) _ (sym (k .cell .given .1) ∙ f .first-bad .ensures)
+    field-outside (a .field) (a .w) (a .w * a .n) (a .f .now) (l .limits .result) (l .limits .ensures) (e .enum-told .given .1) _ (sym (k .cell .given .1) ∙ f .first-bad .ensures)
 
 returns-3 : tie.Need-returns-3
 returns-3 c =
@@ -23,8 +23,8 @@ returns-3 c =
     let a = e .before .before .args in
     field-kept (a .field) (a .w) (a .w * a .n) (a .f .now) (l .limits .result) (l .limits .ensures) (e .enum-told .given .1) (sym (c .enum-told3 .given .1) ∙ f .first-bad .ensures)
 
-pub then-left-spec : {M : Type 1} → statement M
-then-left-spec =
+pub then-bounds-spec : {M : Type 1} → statement M
+then-bounds-spec =
     tie.close
     (tie.spec
     (λ c. search needs)
