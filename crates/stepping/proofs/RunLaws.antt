@@ -9,7 +9,7 @@ use Rattle.model.specs.State.{State, cells, FieldWithin}
 use Rattle.model.specs.Step.{pass, moved, stuck, twoPass}
 use Rattle.model.specs.Step as Model
 use Rattle.model.specs.declared.Field.{Field}
-use Rattle.theorems.specs.Tests.{differ}
+use Rattle.theorems.specs.Truth.{differ}
 use Rattle.theorems.specs.Theorems.{theorems}
 use Rattle.advancing.specs.declared.Outcome.the-variants.{Moved, Stuck}
 use Rattle.advancing.specs.Outcomes.{Stepped, StepReady}

@@ -6,7 +6,7 @@ use native.Mathlib.Numerals.{add-one}
 use native.Mathlib.Omega.{arith}
 use lib.IntN.{ℤ}
 use Rattle.model.specs.State.{State}
-use Rattle.model.specs.Refusals.{Place}
+use Rattle.model.specs.Step.{Place}
 use Rattle.model.specs.Step.{Outcome, moved, stuck, twoPass, runOn, runFrom}
 use Rattle.model.specs.declared.RunAnswer.the-variants.{Finished, Stopped}
 

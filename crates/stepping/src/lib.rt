@@ -1,4 +1,4 @@
-// The step and the run: the tests, two passes a step, and the work space cleared.
+// The run and the step, which is a run of one: the tests, two passes a step, and the work space cleared.
 ghost use mathlib.Core.Path.{_≡_};
 ghost use mathlib.Core.Bool.{false};
 ghost use mathlib.Core.List.{List};
@@ -8,17 +8,19 @@ ghost use lib.IntN.{ℤ, pos};
 ghost use lib.ListN.{length, replicate};
 ghost use Rattle.model.specs.Grid.{filled};
 ghost use Rattle.model.specs.State.{Side, stateOf, lent, before, after};
-ghost use Rattle.model.specs.Step.{runFrom, leavesAll, workLeft};
-ghost use Rattle.model.specs.Promises.{StepPromise, RunPromise};
+ghost use Rattle.model.specs.Step.{runFrom, runTest, leavesAll, workLeft};
+ghost use Rattle.model.specs.Promises.{answerOf, StepPromise, RunPromise};
 ghost use Rattle.advancing.specs.Outcomes.{StepReady, Rest};
-ghost use Rattle.stepping.specs.Answers.{answerBy};
+ghost use Rattle.stepping.specs.Answers.{asStep};
 use advancing::Outcome;
-use model::Beside;
+use model::Answer;
+use model::Field;
 use model::Parameters;
 use model::Refusal;
 use model::RunAnswer;
 use model::StepAnswer;
-use model::TestAnswer;
+
+// ---- the work space
 
 // Clears the numbers that a step uses: 8 for each cell.
 fn clear_used(p: Parameters, work: &mut [i64])
@@ -31,19 +33,14 @@ fn clear_used(p: Parameters, work: &mut [i64])
     grid::clear(work, 8 * (p.w * p.n));
 }
 
-// Whether a refusal leaves the work space as it was: 1 and 2 do, 3, 4 and 5 clear it. 7 and 8, which no step or run answers, are as
-// the table has them.
+// Whether a refusal leaves the work space as it was: 1 and 2 do, all others clear it.
 fn leaves_all(refusal: Refusal) -> bool
     ensures { λ r. ⌜ r ≡ leavesAll refusal ⌝ }
 {
     match refusal {
         Refusal::Grid => true,
         Refusal::Lengths => true,
-        Refusal::Constants => false,
-        Refusal::Value { field: _, cell: _ } => false,
-        Refusal::ClosedEdge { field: _, cell: _ } => false,
-        Refusal::Record { offset: _ } => true,
-        Refusal::Destination => true,
+        _ => false,
     }
 }
 
@@ -61,44 +58,31 @@ fn clear_after(refusal: Refusal, p: Parameters, work: &mut [i64])
     }
 }
 
-// What a step tells.
-fn answer_of(outcome: Outcome) -> StepAnswer
-    ensures { λ r. ⌜ r ≡ answerBy outcome ⌝ }
-{
-    match outcome {
-        Outcome::Moved => StepAnswer::Done,
-        Outcome::Stuck { pass, field, cell } => StepAnswer::OutOfBounds { pass, field, cell },
-    }
-}
+// ---- the run
 
-// A step: h, u and v become those of the next state. Refusals: 1, 2, 3, 4, 5, 6.
-// It rules out, for instance: pass 1 returned; a refusal that leaves pass 1's state behind; the work space not cleared.
-pub fn step(
+// Tests 1 to 5 of a run: those of a state, its length after 1, the work space after 2, the inflow after the state's own fields.
+fn test_run(
     p: Parameters,
-    h: &mut [i64],
+    h: &[i64],
     b: &[i64],
-    u: &mut [i64],
-    v: &mut [i64],
+    u: &[i64],
+    v: &[i64],
     inflow: &[i64],
-    work: &mut [i64],
-) -> StepAnswer
-    ensures { λ r. ⌜
-        (let s = before p h b u v in
-        StepPromise s (now (inflow .entry)) (now (work .entry)) r (after p h b u v) (now (work .exit)))
-        ⌝ }
+    steps: u64,
+    room: usize,
+) -> Answer
+    ensures { λ r. ⌜ r ≡ answerOf (runTest (before p h b u v) (now (inflow .entry)) steps room) ⌝ }
 {
-    let room = work.len();
-    match state::test_state(p, h, b, u, v, Beside::Inflow { work: room }, inflow) {
-        TestAnswer::Passed => {
-            let outcome = advancing::two_pass(p, h, b, u, v, inflow, work);
-            clear_used(p, work);
-            answer_of(outcome)
-        }
-        TestAnswer::Refused(refusal) => {
-            clear_after(refusal, p, work);
-            StepAnswer::Refused(refusal)
-        }
-    }
+    let m = tests::cells_of(p);
+    let grid = tests::then_grid(Answer::Accepted, p);
+    let length = tests::then_run_length(grid, steps);
+    let own = tests::then_lengths(length, m, h, b, u, v);
+    let lengths = tests::then_length(own, m, inflow.len());
+    let work = tests::then_work(lengths, m, room);
+    let constants = tests::then_constants(work, p);
+    let fields = tests::then_fields(constants, p, h, b, u, v);
+    let values = tests::then_field(fields, p, inflow, Field::Inflow);
+    tests::then_edges(values, p, u, v)
 }
 
 // Steps with the same inflow, until there are so many or the next one is refused with 6.
@@ -153,16 +137,52 @@ pub fn run(
         RunPromise s (now (inflow .entry)) steps (now (work .entry)) r (after p h b u v) (now (work .exit)))
         ⌝ }
 {
-    let room = work.len();
-    match state::test_state(p, h, b, u, v, Beside::Run { steps, work: room }, inflow) {
-        TestAnswer::Passed => {
+    match test_run(p, h, b, u, v, inflow, steps, work.len()) {
+        Answer::Accepted => {
             let answer = run_steps(p, h, b, u, v, inflow, steps, work);
             clear_used(p, work);
             answer
         }
-        TestAnswer::Refused(refusal) => {
+        Answer::Refused(refusal) => {
             clear_after(refusal, p, work);
             RunAnswer::Refused(refusal)
         }
     }
+}
+
+// ---- the step
+
+// What a run of one step tells, as a step.
+fn as_step(run: RunAnswer) -> StepAnswer
+    ensures { λ r. ⌜ r ≡ asStep run ⌝ }
+{
+    match run {
+        RunAnswer::Finished { steps: _ } => StepAnswer::Done,
+        RunAnswer::Refused(refusal) => StepAnswer::Refused(refusal),
+        RunAnswer::Stopped {
+            steps: _,
+            pass,
+            field,
+            cell,
+        } => StepAnswer::OutOfBounds { pass, field, cell },
+    }
+}
+
+// A step, which is a run of one: h, u and v become those of the next state. Refusals: 1, 2, 3, 4, 5, 6.
+// It rules out, for instance: pass 1 returned; a refusal that leaves pass 1's state behind; the work space not cleared.
+pub fn step(
+    p: Parameters,
+    h: &mut [i64],
+    b: &[i64],
+    u: &mut [i64],
+    v: &mut [i64],
+    inflow: &[i64],
+    work: &mut [i64],
+) -> StepAnswer
+    ensures { λ r. ⌜
+        (let s = before p h b u v in
+        StepPromise s (now (inflow .entry)) (now (work .entry)) r (after p h b u v) (now (work .exit)))
+        ⌝ }
+{
+    as_step(run(p, h, b, u, v, inflow, 1, work))
 }

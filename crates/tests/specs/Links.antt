@@ -85,7 +85,7 @@ pub counted : {e a r : Answer} {l : List (Test Refusal)} {m n : ℕ} (k : ℕ �
     → r ≡ after a (k m) → Chain e r (l ++ k n)
 counted {a = a} {m = m} {n = n} k c h e = more (k n) c (e ∙ idle a (k m) (k n) (λ q. ap k (h q)))
 
--- where the lengths of a state's own fields have been tested, first of all, or after one test
+-- where the lengths of a state's own fields have been tested, first of all, after one test, or after two
 long-by : (s : State) (k : List (Test Refusal)) → EachPasses (lengthTests (fieldsOf s) ++ k) → FieldsLong s
 long-by s k t =
     record {
@@ -100,6 +100,9 @@ fields-long s {k = k} c h = long-by s k (passed c h)
 
 pub fields-long-after : (s : State) {e a : Answer} {t : Test Refusal} {k : List (Test Refusal)} → Chain e a (t ∷ (lengthTests (fieldsOf s) ++ k)) → a ≡ Accepted → FieldsLong s
 fields-long-after s {k = k} c h = long-by s k (passed c h .1)
+
+pub fields-long-after-two : (s : State) {e a : Answer} {t u : Test Refusal} {k : List (Test Refusal)} → Chain e a (t ∷ u ∷ (lengthTests (fieldsOf s) ++ k)) → a ≡ Accepted → FieldsLong s
+fields-long-after-two s {k = k} c h = long-by s k (passed c h .1 .1)
 
 -- test 2 of a state's own fields, where they must have m numbers
 abbrev pub ownLengths : (h b u v : List ℤ) (m : ℕ) → List (Test Refusal)

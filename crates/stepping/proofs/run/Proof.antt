@@ -5,8 +5,8 @@ use lib.ListN.{length}
 use borrow.Author.Needs.{needs}
 use Rattle.model.specs.State.{State, stateOf}
 use Rattle.model.specs.Step.{runTest}
-use Rattle.model.specs.Promises.{testAnswer}
-use Rattle.model.specs.declared.TestAnswer.the-variants.{Passed}
+use Rattle.model.specs.Promises.{answerOf}
+use Rattle.model.specs.declared.Answer.the-variants.{Accepted}
 use Rattle.advancing.specs.Outcomes.{StepReady}
 use Rattle.stepping.proofs.CallLaws.{run-passed, run-done, run-refused, run-room}
 use Rattle.stepping.proofs.run.Statement.{statement}
@@ -15,18 +15,18 @@ use Rattle.stepping.proofs.run.Tie as tie
 abbrev state : tie.Start → State
 state c = let a = c .args in stateOf (a .p) (a .h .now) (a .b .now) (a .u .now) (a .v .now)
 
-abbrev begin : tie.After-test-state → tie.Start
+abbrev begin : tie.After-test-run → tie.Start
 begin c = c .before .before .before .before
 
-tested : (c : tie.After-test-state) → let s = begin c in c .test-state .result ≡ testAnswer (runTest (state s) (s .args .inflow .now) (s .args .steps) (length (s .args .work .now)))
-tested c = c .test-state .ensures .answers
+tested : (c : tie.After-test-run) → let s = begin c in c .test-run .result ≡ answerOf (runTest (state s) (s .args .inflow .now) (s .args .steps) (length (s .args .work .now)))
+tested c = c .test-run .ensures
 
 -- ---- the tests have passed
 
-abbrev test : tie.After-enum-told → tie.After-test-state
+abbrev test : tie.After-enum-told → tie.After-test-run
 test c = c .before .before
 
-passed : (c : tie.After-enum-told) → let s = begin (test c) in Passed ≡ testAnswer (runTest (state s) (s .args .inflow .now) (s .args .steps) (length (s .args .work .now)))
+passed : (c : tie.After-enum-told) → let s = begin (test c) in Accepted ≡ answerOf (runTest (state s) (s .args .inflow .now) (s .args .steps) (length (s .args .work .now)))
 passed c = sym (c .enum-told .given .1) ∙ tested (test c)
 
 ready : (c : tie.After-enum-told) → let s = begin (test c) in StepReady (state s) (s .args .inflow .now) (s .args .work .now)
