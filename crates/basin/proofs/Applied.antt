@@ -12,13 +12,13 @@ use lib.IntN.{pos}
 use lib.ListN.{length, getD}
 use Rattle.model.specs.Numbers.{vorticityLimits}
 use Rattle.model.specs.State.{stateOf, cells, FieldWithin, WithinLimits}
-use Rattle.model.specs.Answers.{number, fillNumbers}
+use Rattle.model.specs.Answers.{number, answerNumbers}
 use Rattle.model.specs.Rates.{energyRate, enstrophyRate}
 use Rattle.model.specs.Promises.{TendenciesPromise}
 use Rattle.model.specs.declared.Refusal.{Refusal}
 use Rattle.model.specs.declared.Refusal.the-variants.{Grid, Lengths, Constants, Value, ClosedEdge, Record, Destination}
-use Rattle.model.specs.declared.FillAnswer.{FillAnswer}
-use Rattle.model.specs.declared.FillAnswer.the-variants.{Done, Refused}
+use Rattle.model.specs.declared.Answer.{Answer}
+use Rattle.model.specs.declared.Answer.the-variants.{Accepted, Refused}
 use Rattle.theorems.specs.Theorems.{theorems}
 use Rattle.basin.specs.FromC.{parameters}
 use Rattle.basin.proofs.basin_tendencies.Kinds as tendencies-kinds
@@ -35,8 +35,8 @@ from-one (ClosedEdge f k) = lit≤ tt
 from-one (Record k) = lit≤ tt
 from-one Destination = lit≤ tt
 
-done : (a : FillAnswer) → getD (fillNumbers a) 0 0 ≡ 0 → a ≡ Done
-done Done e = refl
+done : (a : Answer) → getD (answerNumbers a) 0 0 ≡ 0 → a ≡ Accepted
+done Accepted e = refl
 done (Refused x) e = absurd (omega (arith, from-one x, e))
 
 -- a state within the limits, with any q within its bound and destinations that have room
@@ -48,17 +48,17 @@ pub record Taken (call : TendenciesCall) : Type 0 where
   pub velocity-v : cells (call .state) ≤ length (call .dv)
 
 module _ (call : TendenciesCall) where
-  abbrev Promised : FillAnswer → Type 0
+  abbrev Promised : Answer → Type 0
   Promised x = TendenciesPromise (call .state) (call .q) (call .dh) (call .du) (call .dv) x (call .dh′) (call .du′) (call .dv′)
 
-  promised : call .returned ≡ 0 → Promised Done
+  promised : call .returned ≡ 0 → Promised Accepted
   promised z = subst Promised (done (call .told .answer) (sym (call .told .told .returns) ∙ z)) (call .told .promise)
 
   -- such a call is not refused
   pub returns-0 : Taken call → call .returned ≡ 0
   returns-0 t =
       call .told .told .returns
-      ∙ ap (λ x. getD (fillNumbers x) 0 0) (theorems .tendencies-accepted (call .state) (call .q) _ _ _ _ _ _ (call .told .answer) (call .told .promise) .1 (t .state, t .vorticity, t .depth, t .velocity-u, t .velocity-v))
+      ∙ ap (λ x. getD (answerNumbers x) 0 0) (theorems .tendencies-accepted (call .state) (call .q) _ _ _ _ _ _ (call .told .answer) (call .told .promise) .1 (t .state, t .vorticity, t .depth, t .velocity-u, t .velocity-v))
 
   -- the scaled energy rate is zero: every boundary, every q within its bound
   pub energy-rate-zero : call .returned ≡ 0 → energyRate (call .state) (call .dh′) (call .du′) (call .dv′) ≡ pos 0

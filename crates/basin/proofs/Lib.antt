@@ -1,5 +1,3 @@
--- an answer of the tests, told
-pub mod Tells
 -- calls by name, and the theorems of them
 pub mod Calls
 pub mod Applied

@@ -24,7 +24,7 @@ use Rattle.model.specs.declared.ReadAnswer.the-variants.{Read, Refused}
 use Rattle.model.specs.declared.CompareAnswer.{CompareAnswer}
 use Rattle.model.specs.declared.CompareAnswer.the-variants.{Same, FirstNewer, SecondNewer, Conflict, FirstRefused, SecondRefused}
 use Rattle.theorems.specs.Theorems.{theorems}
-use Rattle.theorems.specs.Tests.{_⟫_}
+use Rattle.theorems.specs.Truth.{_⟫_}
 use Rattle.telling.specs.Told.{eight, orKept}
 use Rattle.reading.specs.Rooms.{Room}
 use Rattle.basin.specs.FromC.{parameters}

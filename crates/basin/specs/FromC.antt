@@ -7,12 +7,11 @@ use lib.IntN.{ℤ, pos, negℤ}
 use lib.ListN.{getD}
 use Rattle.model.specs.Numbers.{_to_, within, rnd}
 use Rattle.model.specs.State.{State}
-use Rattle.model.specs.Answers.{testNumbers, fillNumbers, stepNumbers, runNumbers, totalNumbers, totalIn, writeNumbers, readNumbers, constantsIn, compareNumbers}
+use Rattle.model.specs.Answers.{answerNumbers, stepNumbers, runNumbers, totalNumbers, totalIn, writeNumbers, readNumbers, constantsIn, compareNumbers}
 use Rattle.model.specs.Record.{Timestamp}
-use Rattle.model.specs.Promises.{testOf, testAnswer, VorticityPromise, TendenciesPromise, StepPromise, RunPromise, WritePromise, ReadPromise, ComparePromise}
+use Rattle.model.specs.Promises.{VorticityPromise, TendenciesPromise, StepPromise, RunPromise, WritePromise, ReadPromise, ComparePromise}
 use Rattle.model.specs.declared.Parameters.{Parameters}
-use Rattle.model.specs.declared.Beside.{Beside}
-use Rattle.model.specs.declared.FillAnswer.{FillAnswer}
+use Rattle.model.specs.declared.Answer.{Answer}
 use Rattle.model.specs.declared.StepAnswer.{StepAnswer}
 use Rattle.model.specs.declared.RunAnswer.{RunAnswer}
 use Rattle.model.specs.declared.TotalAnswer.{TotalAnswer}
@@ -25,20 +24,16 @@ use Rattle.telling.specs.Told.{Told, orKept}
 abbrev pub parameters : (w n kind : ℕ) (g c r : ℤ) → Parameters
 parameters w n kind g c r = record { w = w; n = n; kind = kind; g = g; c = c; r = r }
 
--- the tests by themselves: 01's number, and then the values returned with it
-abbrev pub TestFromC : State → Beside → List ℤ → ℕ → List ℕ → Type 0
-TestFromC s beside x k exit = Told (testNumbers (testAnswer (testOf s beside x))) k exit
-
 -- a call that fills: its promise, of the answer that is told. The promise leaves one answer possible
 pub record VorticityFromC (s : State) (q q′ : List ℤ) (k : ℕ) (exit : List ℕ) : Type 0 where
-  pub answer : FillAnswer
+  pub answer : Answer
   pub promise : VorticityPromise s q answer q′
-  pub told : Told (fillNumbers answer) k exit
+  pub told : Told (answerNumbers answer) k exit
 
 pub record TendenciesFromC (s : State) (q dh du dv dh′ du′ dv′ : List ℤ) (k : ℕ) (exit : List ℕ) : Type 0 where
-  pub answer : FillAnswer
+  pub answer : Answer
   pub promise : TendenciesPromise s q dh du dv answer dh′ du′ dv′
-  pub told : Told (fillNumbers answer) k exit
+  pub told : Told (answerNumbers answer) k exit
 
 -- step and run, from a state to the state that they leave
 pub record StepFromC (s : State) (inflow work : List ℤ) (s′ : State) (work′ : List ℤ) (k : ℕ) (exit : List ℕ) : Type 0 where
@@ -91,6 +86,6 @@ pub record Rounded (a b entry : ℤ) (k : ℕ) (exit : ℤ) : Type 0 where
 
 -- ---- version
 
--- 0.2.0
+-- 0.3.0
 abbrev pub version : ℕ
-version = 200
+version = 300

@@ -2,152 +2,26 @@
 // told crosses as a pointer alone, to one number, three or eight, so that no call has too little room for it. Any numbers and any lengths
 // may come in.
 ghost use mathlib.Core.Path.{_≡_};
-ghost use mathlib.Core.List.{[]};
 ghost use Rattle.model.specs.State.{before, after};
 ghost use Rattle.model.specs.Promises.{TotalDepthPromise, TotalEnergyPromise};
-ghost use Rattle.model.specs.declared.Beside.the-variants.{Nothing, Vorticity, Inflow, Run};
-ghost use Rattle.basin.specs.FromC.{TestFromC, VorticityFromC, TendenciesFromC, StepFromC, RunFromC, TotalFromC, WriteFromC};
-ghost use Rattle.basin.specs.FromC.{ReadFromC, CompareFromC, parameters, roundable, Rounded, version};
+ghost use Rattle.basin.specs.FromC;
+ghost use Rattle.basin.specs.FromC.{VorticityFromC, TendenciesFromC, StepFromC, RunFromC, TotalFromC, WriteFromC};
+ghost use Rattle.basin.specs.FromC.{ReadFromC, CompareFromC, roundable, Rounded, version};
 use integers::Range;
-use model::Beside;
 use model::Parameters;
 
-// ---- the tests by themselves
-
-// Each rules out, for instance: 3 returned as 4; two fields numbered the other way round; a place of the eight left as it was.
-
-// Tests 1 to 5 of a state: what total depth, total energy, potential vorticity and the writer test first.
-#[no_mangle]
-pub extern "C" fn basin_test_state(
-    w: usize,
-    n: usize,
-    kind: u8,
-    g: i64,
-    c: i64,
-    r: i64,
-    h: &[i64],
-    b: &[i64],
-    u: &[i64],
-    v: &[i64],
-    answer: &mut [u64; 8],
-) -> u64
-    ensures { λ k. ⌜
-        TestFromC (before (parameters w n kind g c r) h b u v) Nothing [] k (now (answer .exit))
-        ⌝ }
+// The parameters of a state, from the six numbers that a C function takes for them.
+fn parameters(w: usize, n: usize, kind: u8, g: i64, c: i64, r: i64) -> Parameters
+    ensures { λ p. ⌜ p ≡ FromC.parameters w n kind g c r ⌝ }
 {
-    let p = Parameters {
+    Parameters {
         w,
         n,
         kind,
         g,
         c,
         r,
-    };
-    // the last argument stands for a further field, which nothing looks at here
-    let x = state::test_state(p, h, b, u, v, Beside::Nothing, h);
-    telling::tell(answer, telling::test_numbers(x))
-}
-
-// The same with a potential vorticity: what the tendencies test first.
-#[no_mangle]
-pub extern "C" fn basin_test_vorticity(
-    w: usize,
-    n: usize,
-    kind: u8,
-    g: i64,
-    c: i64,
-    r: i64,
-    h: &[i64],
-    b: &[i64],
-    u: &[i64],
-    v: &[i64],
-    q: &[i64],
-    answer: &mut [u64; 8],
-) -> u64
-    ensures { λ k. ⌜
-        TestFromC (before (parameters w n kind g c r) h b u v) Vorticity (now (q .entry)) k
-        (now (answer .exit))
-        ⌝ }
-{
-    let p = Parameters {
-        w,
-        n,
-        kind,
-        g,
-        c,
-        r,
-    };
-    let x = state::test_state(p, h, b, u, v, Beside::Vorticity, q);
-    telling::tell(answer, telling::test_numbers(x))
-}
-
-// The same with an inflow and a work space of so many numbers: what the step tests first.
-#[no_mangle]
-pub extern "C" fn basin_test_step(
-    w: usize,
-    n: usize,
-    kind: u8,
-    g: i64,
-    c: i64,
-    r: i64,
-    h: &[i64],
-    b: &[i64],
-    u: &[i64],
-    v: &[i64],
-    inflow: &[i64],
-    work: usize,
-    answer: &mut [u64; 8],
-) -> u64
-    ensures { λ k. ⌜
-        TestFromC (before (parameters w n kind g c r) h b u v) (Inflow work) (now (inflow .entry)) k
-        (now (answer .exit))
-        ⌝ }
-{
-    let p = Parameters {
-        w,
-        n,
-        kind,
-        g,
-        c,
-        r,
-    };
-    let x = state::test_state(p, h, b, u, v, Beside::Inflow { work }, inflow);
-    telling::tell(answer, telling::test_numbers(x))
-}
-
-// The same with a run length too: what the run tests first.
-#[no_mangle]
-pub extern "C" fn basin_test_run(
-    w: usize,
-    n: usize,
-    kind: u8,
-    g: i64,
-    c: i64,
-    r: i64,
-    h: &[i64],
-    b: &[i64],
-    u: &[i64],
-    v: &[i64],
-    inflow: &[i64],
-    steps: u64,
-    work: usize,
-    answer: &mut [u64; 8],
-) -> u64
-    ensures { λ k. ⌜
-        TestFromC (before (parameters w n kind g c r) h b u v) (Run steps work) (now (inflow .entry)) k
-        (now (answer .exit))
-        ⌝ }
-{
-    let p = Parameters {
-        w,
-        n,
-        kind,
-        g,
-        c,
-        r,
-    };
-    let x = state::test_state(p, h, b, u, v, Beside::Run { steps, work }, inflow);
-    telling::tell(answer, telling::test_numbers(x))
+    }
 }
 
 // ---- potential vorticity and tendencies
@@ -170,20 +44,13 @@ pub extern "C" fn basin_potential_vorticity(
     answer: &mut [u64; 8],
 ) -> u64
     ensures { λ k. ⌜
-        VorticityFromC (before (parameters w n kind g c r) h b u v) (now (q .entry)) (now (q .exit)) k
+        VorticityFromC (before (FromC.parameters w n kind g c r) h b u v) (now (q .entry)) (now (q .exit)) k
         (now (answer .exit))
         ⌝ }
 {
-    let p = Parameters {
-        w,
-        n,
-        kind,
-        g,
-        c,
-        r,
-    };
+    let p = parameters(w, n, kind, g, c, r);
     let x = filling::potential_vorticity(p, h, b, u, v, q);
-    telling::tell(answer, telling::fill_numbers(x))
+    telling::tell(answer, telling::answer_numbers(x))
 }
 
 #[no_mangle]
@@ -205,21 +72,14 @@ pub extern "C" fn basin_tendencies(
     answer: &mut [u64; 8],
 ) -> u64
     ensures { λ k. ⌜
-        TendenciesFromC (before (parameters w n kind g c r) h b u v) (now (q .entry)) (now (dh .entry))
+        TendenciesFromC (before (FromC.parameters w n kind g c r) h b u v) (now (q .entry)) (now (dh .entry))
         (now (du .entry)) (now (dv .entry)) (now (dh .exit)) (now (du .exit)) (now (dv .exit)) k
         (now (answer .exit))
         ⌝ }
 {
-    let p = Parameters {
-        w,
-        n,
-        kind,
-        g,
-        c,
-        r,
-    };
+    let p = parameters(w, n, kind, g, c, r);
     let x = filling::tendencies(p, h, b, u, v, q, dh, du, dv);
-    telling::tell(answer, telling::fill_numbers(x))
+    telling::tell(answer, telling::answer_numbers(x))
 }
 
 // ---- step and run
@@ -244,18 +104,11 @@ pub extern "C" fn basin_step(
     answer: &mut [u64; 8],
 ) -> u64
     ensures { λ k. ⌜
-        StepFromC (before (parameters w n kind g c r) h b u v) (now (inflow .entry)) (now (work .entry))
-        (after (parameters w n kind g c r) h b u v) (now (work .exit)) k (now (answer .exit))
+        StepFromC (before (FromC.parameters w n kind g c r) h b u v) (now (inflow .entry)) (now (work .entry))
+        (after (FromC.parameters w n kind g c r) h b u v) (now (work .exit)) k (now (answer .exit))
         ⌝ }
 {
-    let p = Parameters {
-        w,
-        n,
-        kind,
-        g,
-        c,
-        r,
-    };
+    let p = parameters(w, n, kind, g, c, r);
     let x = stepping::step(p, h, b, u, v, inflow, work);
     telling::tell(answer, telling::step_numbers(x))
 }
@@ -278,18 +131,11 @@ pub extern "C" fn basin_run(
     answer: &mut [u64; 8],
 ) -> u64
     ensures { λ k. ⌜
-        RunFromC (before (parameters w n kind g c r) h b u v) (now (inflow .entry)) steps (now (work .entry))
-        (after (parameters w n kind g c r) h b u v) (now (work .exit)) k (now (answer .exit))
+        RunFromC (before (FromC.parameters w n kind g c r) h b u v) (now (inflow .entry)) steps (now (work .entry))
+        (after (FromC.parameters w n kind g c r) h b u v) (now (work .exit)) k (now (answer .exit))
         ⌝ }
 {
-    let p = Parameters {
-        w,
-        n,
-        kind,
-        g,
-        c,
-        r,
-    };
+    let p = parameters(w, n, kind, g, c, r);
     let x = stepping::run(p, h, b, u, v, inflow, steps, work);
     telling::tell(answer, telling::run_numbers(x))
 }
@@ -315,18 +161,11 @@ pub extern "C" fn basin_total_depth(
     answer: &mut [u64; 8],
 ) -> u64
     ensures { λ k. ⌜
-        TotalFromC (TotalDepthPromise (before (parameters w n kind g c r) h b u v)) (now (total .entry))
+        TotalFromC (TotalDepthPromise (before (FromC.parameters w n kind g c r) h b u v)) (now (total .entry))
         (now (total .exit)) k (now (answer .exit))
         ⌝ }
 {
-    let p = Parameters {
-        w,
-        n,
-        kind,
-        g,
-        c,
-        r,
-    };
+    let p = parameters(w, n, kind, g, c, r);
     let x = totals::total_depth(p, h, b, u, v);
     *total = telling::total_or(x, *total);
     telling::tell(answer, telling::total_numbers(x))
@@ -348,18 +187,11 @@ pub extern "C" fn basin_total_energy(
     answer: &mut [u64; 8],
 ) -> u64
     ensures { λ k. ⌜
-        TotalFromC (TotalEnergyPromise (before (parameters w n kind g c r) h b u v)) (now (total .entry))
+        TotalFromC (TotalEnergyPromise (before (FromC.parameters w n kind g c r) h b u v)) (now (total .entry))
         (now (total .exit)) k (now (answer .exit))
         ⌝ }
 {
-    let p = Parameters {
-        w,
-        n,
-        kind,
-        g,
-        c,
-        r,
-    };
+    let p = parameters(w, n, kind, g, c, r);
     let x = totals::total_energy(p, h, b, u, v);
     *total = telling::total_or(x, *total);
     telling::tell(answer, telling::total_numbers(x))
@@ -389,18 +221,11 @@ pub extern "C" fn basin_write(
     answer: &mut [u64; 8],
 ) -> u64
     ensures { λ k. ⌜
-        WriteFromC (before (parameters w n kind g c r) h b u v) timestamp (now («record» .entry))
+        WriteFromC (before (FromC.parameters w n kind g c r) h b u v) timestamp (now («record» .entry))
         (now («record» .exit)) k (now (answer .exit))
         ⌝ }
 {
-    let p = Parameters {
-        w,
-        n,
-        kind,
-        g,
-        c,
-        r,
-    };
+    let p = parameters(w, n, kind, g, c, r);
     let x = writing::write(p, h, b, u, v, timestamp, record);
     telling::tell(answer, telling::write_numbers(x))
 }
@@ -472,5 +297,5 @@ pub extern "C" fn basin_rnd(a: i64, b: i64, rounded: &mut i64) -> u64
 pub extern "C" fn basin_version() -> u64
     ensures { λ k. ⌜ k ≡ version ⌝ }
 {
-    200
+    300
 }

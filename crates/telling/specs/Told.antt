@@ -18,13 +18,14 @@ pub record Told (numbers : List ℕ) (r : ℕ) (answer : List ℕ) : Type 0 wher
   pub returns : r ≡ getD numbers 0 0
   pub holds : answer ≡ eight numbers
 
+-- the first of them
+pub first-of : (l : List ℕ) → getD (eight l) 0 0 ≡ getD l 0 0
+first-of [] = refl
+first-of (x ∷ l) = refl
+
 -- from the eight numbers, of which the first is returned
 pub told-by : {numbers told answer : List ℕ} {r : ℕ} → told ≡ eight numbers → (r ≡ getD told 0 0) × (answer ≡ told) → Told numbers r answer
-told-by {numbers} e t = record { returns = t .0 ∙ ap (λ l. getD l 0 0) e ∙ first numbers; holds = t .1 ∙ e }
-  where
-    first : (l : List ℕ) → getD (eight l) 0 0 ≡ getD l 0 0
-    first [] = refl
-    first (x ∷ l) = refl
+told-by {numbers} e t = record { returns = t .0 ∙ ap (λ l. getD l 0 0) e ∙ first-of numbers; holds = t .1 ∙ e }
 
 -- what a lent place holds after the call: what is told, or what it held where nothing is
 abbrev pub orKept : {A : Type 0} → List A → List A → List A

@@ -2,31 +2,24 @@
 // a sign goes into places of its own.
 ghost use mathlib.Core.Path.{_≡_};
 ghost use lib.ListN.{getD};
-ghost use Rattle.model.specs.Answers.{number, fieldNumber, refusalNumbers, testNumbers, fillNumbers, stepNumbers, runNumbers, writeNumbers};
+ghost use Rattle.model.specs.Fields.{fieldNumber};
+ghost use Rattle.model.specs.Answers.{number, refusalNumbers, answerNumbers, stepNumbers, runNumbers, writeNumbers};
 ghost use Rattle.model.specs.Answers.{totalNumbers, totalIn, readNumbers, constantsIn, refusalNumbersOf, compareNumbers};
 ghost use Rattle.telling.specs.Told.{eight, orKept};
+use model::Answer;
 use model::CompareAnswer;
 use model::Field;
-use model::FillAnswer;
 use model::ReadAnswer;
 use model::Refusal;
 use model::RunAnswer;
 use model::StepAnswer;
-use model::TestAnswer;
 use model::TotalAnswer;
 use model::WriteAnswer;
 
 fn field_number(field: Field) -> u64
     ensures { λ r. ⌜ r ≡ fieldNumber field ⌝ }
 {
-    match field {
-        Field::Depth => 0,
-        Field::Bottom => 1,
-        Field::VelocityU => 2,
-        Field::VelocityV => 3,
-        Field::Vorticity => 4,
-        Field::Inflow => 5,
-    }
+    tests::row_of(field).number
 }
 
 // 01's number of a refusal, and the values returned with it.
@@ -57,21 +50,12 @@ pub fn number_of(refusal: Refusal) -> u8
 // Each rules out, for instance: 3 told as 4; the cell told before its field; the steps done told before the pass; a place past the
 // values that is not 0.
 
-pub fn test_numbers(test: TestAnswer) -> [u64; 8]
-    ensures { λ r. ⌜ r ≡ eight (testNumbers test) ⌝ }
+pub fn answer_numbers(answer: Answer) -> [u64; 8]
+    ensures { λ r. ⌜ r ≡ eight (answerNumbers answer) ⌝ }
 {
-    match test {
-        TestAnswer::Passed => [0; 8],
-        TestAnswer::Refused(refusal) => refusal_numbers(refusal),
-    }
-}
-
-pub fn fill_numbers(fill: FillAnswer) -> [u64; 8]
-    ensures { λ r. ⌜ r ≡ eight (fillNumbers fill) ⌝ }
-{
-    match fill {
-        FillAnswer::Done => [0; 8],
-        FillAnswer::Refused(refusal) => refusal_numbers(refusal),
+    match answer {
+        Answer::Accepted => [0; 8],
+        Answer::Refused(refusal) => refusal_numbers(refusal),
     }
 }
 

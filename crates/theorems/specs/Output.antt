@@ -72,18 +72,18 @@ two-long a b = rw (length-append, length-append) (omega arith)
 five-long : (a b c d e : List ℕ) → length (line (a ∷ b ∷ c ∷ d ∷ e ∷ [])) ≡ length a + length b + length c + length d + length e + 5
 five-long a b c d e = rw (length-append, length-append, length-append, length-append, length-append) (omega arith)
 
-refused-long : (k : ℕ) → k < 10 → length (refusedLine k) ≤ 10
-refused-long k h = subst (λ m. m ≤ 10) (sym (two-long (text "refused") (decimal (pos k)))) (omega (arith, natural-long 0 k h))
+refused-long : (k : ℕ) → k < 100 → length (refusedLine k) ≤ 11
+refused-long k h = subst (λ m. m ≤ 11) (sym (two-long (text "refused") (decimal (pos k)))) (omega (arith, natural-long 1 k h))
 
--- the number of a refusal is a digit
-pub one-digit : (r : Refusal) → number r < 10
-one-digit Grid = omega arith
-one-digit Lengths = omega arith
-one-digit Constants = omega arith
-one-digit (Value f k) = omega arith
-one-digit (ClosedEdge f k) = omega arith
-one-digit (Record k) = omega arith
-one-digit Destination = omega arith
+-- the number of a refusal has two digits at most
+pub two-digits : (r : Refusal) → number r < 100
+two-digits Grid = omega arith
+two-digits Lengths = omega arith
+two-digits Constants = omega arith
+two-digits (Value f k) = omega arith
+two-digits (ClosedEdge f k) = omega arith
+two-digits (Record k) = omega arith
+two-digits Destination = omega arith
 
 total-long : (x : ℤ) → natAbs x < 10 ^ 9 → length (totalLine x) ≤ 17
 total-long x h = subst (λ m. m ≤ 17) (sym (two-long (text "total") (decimal x))) (omega (arith, decimal-long 8 x h))
@@ -121,12 +121,12 @@ state-long s l p =
 
 step-long : (a : StepAnswer) (s : State) → WithinLimits s → cells s ≤ programCells → length (stepLines a s) ≤ 30737
 step-long StepAnswer.Done s l p = state-long s l p
-step-long (StepAnswer.Refused r) s l p = le-trans (refused-long (number r) (one-digit r)) (omega arith)
+step-long (StepAnswer.Refused r) s l p = le-trans (refused-long (number r) (two-digits r)) (omega arith)
 step-long (StepAnswer.OutOfBounds p f k) s l q = le-trans (refused-long 6 (omega arith)) (omega arith)
 
 stepped-long : (inflow : List ℤ) (room : ℕ) (x : Decoded) → ((s : State) (t : ℕ) → x ≡ accepted s t → WithinLimits s × (cells s ≤ programCells))
     → length (steppedLines inflow room x) ≤ 30737
-stepped-long inflow room (refused r) h = le-trans (refused-long (number r) (one-digit r)) (omega arith)
+stepped-long inflow room (refused r) h = le-trans (refused-long (number r) (two-digits r)) (omega arith)
 stepped-long inflow room (accepted s t) h =
     let a = h s t refl in
     let k = step-leaves s (inflowFor s inflow) room (a .0) in

@@ -15,11 +15,11 @@ returns c =
     let n = c .before in
     let o = n .before .before in
     let k = o .before .before in
-    let f = k .before .fits in
+    let f = k .before .parameters .ensures in
     let x = k .total-energy .result in
     record {
       answer = x;
-      promise = rw (toZ-ofZ (f .g), toZ-ofZ (f .c), toZ-ofZ (f .r)) at (k .total-energy .ensures);
+      promise = rw f at (k .total-energy .ensures);
       holds = held-is w64 (o .total-or .ok) (o .total-or .ensures) ∙ ap (λ z. getD (totalIn x) 0 z) (toZ-ofZ {w = w64} {z = k .before .args .total .now} (record { sfits = o .before .total-or-arg .given }));
       told = told-by (n .total-numbers .ensures) (c .tell .ensures);
     }
@@ -28,6 +28,7 @@ pub basin-total-energy-spec : {M : Type 1} → statement M
 basin-total-energy-spec =
     tie.close
     (tie.spec
+    (λ c κs. search needs)
     (λ c κs. search needs)
     (λ c κs. search needs)
     (λ c κs. search needs)

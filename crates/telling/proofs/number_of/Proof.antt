@@ -1,4 +1,8 @@
 -- `telling::number_of` meets its contract. Assumes nothing.
+use mathlib.Core.Path.{ap, _∙_}
+use lib.ListN.{getD}
+use Rattle.model.specs.Answers.{refusalNumbers}
+use Rattle.telling.specs.Told.{first-of}
 use Rattle.telling.proofs.Tells.{small}
 use borrow.Author.Needs.{needs}
 use Rattle.telling.proofs.number_of.Statement.{statement}
@@ -11,4 +15,4 @@ number-of-spec =
     (λ c κs. search needs)
     (λ c. search needs)
     (λ c. record { fits = small (c .before .args .refusal) _ (c .refusal-numbers .ensures) })
-    (λ c. search needs))
+    (λ c. ap (λ l. getD l 0 0) (c .refusal-numbers .ensures) ∙ first-of (refusalNumbers (c .before .args .refusal))))
