@@ -13,11 +13,11 @@ use lib.Seq.{take-suc, take-all, length-take-le, getD-drop, sets, length-sets}
 use mir.Val.{bits, hbits}
 use Rattle.model.specs.Record.{bytes, unsignedFrom, unsigned, eachBy}
 use Rattle.grid.specs.Fields.{length-tabulate, getD-tabulate}
-use Rattle.theorems.specs.Bytes.{length-each}
+use Rattle.theorems.specs.Bytes.{length-bytes, length-each}
 use Rattle.wire.specs.declared.Size.{Size}
 use Rattle.wire.specs.declared.Size.the-variants.{Two, Four}
 use Rattle.wire.specs.Sizes.{sizeOf, widthOf, signedBy, bytesBy, numbersBy, valueBy}
-use Rattle.wire.specs.Stores.{sets-first, chained}
+use Rattle.wire.specs.Stores.{sets-first, Puts, puts-then}
 
 -- ---- read
 
@@ -56,11 +56,11 @@ module _ {s : List ℕ} {k i x y : ℕ} where
 rest-more : (x i : ℕ) → x / 256 ^ i / 256 ≡ x / 256 ^ suc i
 rest-more x i = rw (pow-suc 256 i) (div-div-eq-div-mul x (256 ^ i) 256)
 
--- all but the first `left` of the last `count` bytes of x stand at k + left on, and `rest` is what is left of x
-pub record Putting (d₀ : List ℕ) (k count x left rest : ℕ) (d : List ℕ) : Type 0 where
-  pub most : left ≤ count
-  pub rests : rest ≡ x / 256 ^ (count - left)
-  pub holds : d ≡ sets d₀ (k + left) (bytes (count - left) x)
+-- all but the first `remaining` of the last `count` bytes of x stand at k + remaining on, and `rest` is what is left of x
+pub record Putting (d₀ : List ℕ) (k count x remaining rest : ℕ) (d : List ℕ) : Type 0 where
+  pub most : remaining ≤ count
+  pub rests : rest ≡ x / 256 ^ (count - remaining)
+  pub holds : d ≡ sets d₀ (k + remaining) (bytes (count - remaining) x)
   pub long : length d ≡ length d₀
 
 module _ {d₀ : List ℕ} {k count x : ℕ} where
@@ -69,24 +69,28 @@ module _ {d₀ : List ℕ} {k count x : ℕ} where
       let e : count - count ≡ 0 = omega arith in
       record { most = le-refl count; rests = rw e (sym (div-one x)); holds = rw e; long = refl }
 
-  pub putting-more : {left rest : ℕ} {d : List ℕ} → Putting d₀ k count x left rest d → 0 < left → Putting d₀ k count x (left - 1) (rest / 256) (set d (k + (left - 1)) (rest % 256))
-  putting-more {left} {rest} {d} p h =
-      let e : count - (left - 1) ≡ suc (count - left) = one-more (p .most) in
-      let f : k + left ≡ suc (k + (left - 1)) = omega arith in
+  pub putting-more : {remaining rest : ℕ} {d : List ℕ} → Putting d₀ k count x remaining rest d → 0 < remaining
+      → Putting d₀ k count x (remaining - 1) (rest / 256) (set d (k + (remaining - 1)) (rest % 256))
+  putting-more {remaining} {rest} {d} p h =
+      let e : count - (remaining - 1) ≡ suc (count - remaining) = one-more (p .most) in
+      let f : k + remaining ≡ suc (k + (remaining - 1)) = omega arith in
       record {
         most = omega (arith, p .most);
-        rests = rw e (ap (λ r. r / 256) (p .rests) ∙ rest-more x (count - left));
-        holds = rw (e, p .holds, f, p .rests) (sets-first d₀ (k + (left - 1)) (x / 256 ^ (count - left) % 256) (bytes (count - left) x));
-        long = length-set d (k + (left - 1)) (rest % 256) ∙ p .long;
+        rests = rw e (ap (λ r. r / 256) (p .rests) ∙ rest-more x (count - remaining));
+        holds = rw (e, p .holds, f, p .rests) (sets-first d₀ (k + (remaining - 1)) (x / 256 ^ (count - remaining) % 256) (bytes (count - remaining) x));
+        long = length-set d (k + (remaining - 1)) (rest % 256) ∙ p .long;
       }
     where
-      one-more : left ≤ count → count - (left - 1) ≡ suc (count - left)
+      one-more : remaining ≤ count → count - (remaining - 1) ≡ suc (count - remaining)
       one-more l = omega arith
 
-  pub putting-done : {left rest : ℕ} {d : List ℕ} → Putting d₀ k count x left rest d → left ≤ 0 → d ≡ sets d₀ k (bytes count x)
-  putting-done {left} {rest} {d} p h =
-      let e : left ≡ 0 = omega arith in
-      p .holds ∙ ap (λ l. sets d₀ (k + l) (bytes (count - l) x)) e ∙ rw (add-zero k, sub-zero count)
+  pub putting-done : {remaining rest : ℕ} {d : List ℕ} → Putting d₀ k count x remaining rest d → remaining ≤ 0 → Puts d₀ k (bytes count x) (k + count) d
+  putting-done {remaining} p h =
+      let e : remaining ≡ 0 = omega arith in
+      record {
+        ends = ap (λ n. k + n) (sym (length-bytes count x));
+        holds = p .holds ∙ ap (λ l. sets d₀ (k + l) (bytes (count - l) x)) e ∙ rw (add-zero k, sub-zero count);
+      }
 
 -- ---- fields of numbers
 
@@ -108,30 +112,30 @@ number-within {i} {m} z h = le-trans (eq (suc-mul i z)) (mul-le-mul-right z h)
     eq : suc i * z ≡ i * z + z → i * z + z ≤ suc i * z
     eq e = omega arith
 
--- d has the first i numbers of f from k on
-pub record Listing (z : Size) (f : List ℤ) (k : ℕ) (d₀ : List ℕ) (i : ℕ) (d : List ℕ) : Type 0 where
+-- d has the first i numbers of f from k on, and `after` is the place after them
+pub record Listing (z : Size) (f : List ℤ) (k : ℕ) (d₀ : List ℕ) (i after : ℕ) (d : List ℕ) : Type 0 where
   pub so-far : i ≤ length f
-  pub holds : d ≡ sets d₀ k (valueBy z (take i f))
-  pub long : length d ≡ length d₀
+  pub puts : Puts d₀ k (valueBy z (take i f)) after d
 
 module _ {z : Size} {f : List ℤ} {k : ℕ} {d₀ : List ℕ} where
-  pub listing-none : Listing z f k d₀ 0 d₀
-  listing-none = record { so-far = zero-le; holds = refl; long = refl }
+  pub listing-none : Listing z f k d₀ 0 k d₀
+  listing-none = record { so-far = zero-le; puts = record { ends = sym (add-zero k); holds = refl } }
 
-  pub listing-more : {i : ℕ} {d e : List ℕ} → Listing z f k d₀ i d → i < length f → e ≡ sets d (k + i * sizeOf z) (bytesBy z (getD f i (pos 0))) → Listing z f k d₀ (i + 1) e
-  listing-more {i} {d} {e} p h q =
+  pub listing-at : {i after : ℕ} {d : List ℕ} → Listing z f k d₀ i after d → after ≡ k + i * sizeOf z
+  listing-at {i} p = p .puts .ends ∙ ap (λ n. k + n) (length-value z (take i f) ∙ ap (λ n. n * sizeOf z) (length-take-le i f (p .so-far)))
+
+  pub listing-long : {i after : ℕ} {d : List ℕ} → Listing z f k d₀ i after d → length d ≡ length d₀
+  listing-long {i} p = ap length (p .puts .holds) ∙ length-sets d₀ k (valueBy z (take i f))
+
+  pub listing-more : {i after r : ℕ} {d e : List ℕ} → Listing z f k d₀ i after d → i < length f → Puts d after (bytesBy z (getD f i (pos 0))) r e → Listing z f k d₀ (i + 1) r e
+  listing-more {i} {r = r} {e = e} p h q =
       let x = valueBy z (take i f) in
       let y = bytesBy z (getD f i (pos 0)) in
-      let l : length x ≡ i * sizeOf z = length-value z (take i f) ∙ ap (λ n. n * sizeOf z) (length-take-le i f (p .so-far)) in
       let n : valueBy z (take (i + 1) f) ≡ x ++ y = rw (add-one i, take-suc f i (pos 0) h) (each-append (bytesBy z) (take i f) (getD f i (pos 0) ∷ []) ∙ ap (λ r. x ++ r) (append-nil y)) in
-      record {
-        so-far = omega arith;
-        holds = chained d₀ k (k + i * sizeOf z) x y (p .holds) q (ap (λ n. k + n) l) ∙ ap (sets d₀ k) (sym n);
-        long = ap length q ∙ length-sets d (k + i * sizeOf z) y ∙ p .long;
-      }
+      record { so-far = omega arith; puts = subst (λ l. Puts d₀ k l r e) (sym n) (puts-then (p .puts) q) }
 
-  pub listing-done : {i : ℕ} {d : List ℕ} → Listing z f k d₀ i d → length f ≤ i → d ≡ sets d₀ k (valueBy z f)
-  listing-done {i} p h = p .holds ∙ ap (λ l. sets d₀ k (valueBy z l)) (take-all i f h)
+  pub listing-done : {i after : ℕ} {d : List ℕ} → Listing z f k d₀ i after d → length f ≤ i → Puts d₀ k (valueBy z f) after d
+  listing-done {i} {after} {d} p h = subst (λ l. Puts d₀ k (valueBy z l) after d) (take-all i f h) (p .puts)
 
 -- the number that a field of them has at i
 pub number-is : (z : Size) (m : ℕ) (value : List ℕ) (i : ℕ) → i < m → getD (numbersBy z m value) i (pos 0) ≡ signedBy z (take (sizeOf z) (drop (i * sizeOf z) value))

@@ -2,10 +2,10 @@
 use mathlib.Core.Path.{_≡_, refl, sym, ap, _∙_}
 use mathlib.Core.List.{List, [], _∷_, _++_}
 use Prim.Native.Nat.{ℕ, suc, _+_, _≤_, _<_}
-use native.Mathlib.Nat.{add-zero, zero-add}
+use native.Mathlib.Nat.{add-zero, zero-add, add-assoc}
 use native.Mathlib.Omega.{arith}
-use lib.ListN.{length, set}
-use lib.Seq.{sets, set-comm, sets-eq}
+use lib.ListN.{length, set, length-append}
+use lib.Seq.{sets, set-comm, sets-eq, length-sets}
 use Rattle.model.specs.Grid.{filled}
 
 module _ {A : Type 0} where
@@ -32,9 +32,25 @@ module _ {A : Type 0} where
       past : (k n : ℕ) → k + suc n ≡ suc k + n
       past k n = omega arith
 
-  -- the same of lists that are known to be such runs
-  pub chained : (d₀ : List A) {d e : List A} (k j : ℕ) (x y : List A) → d ≡ sets d₀ k x → e ≡ sets d j y → k + length x ≡ j → e ≡ sets d₀ k (x ++ y)
-  chained d₀ k j x y p q r = q ∙ rw (p, ← r) (sets-append d₀ k x y)
+  -- what a put leaves, which stores l from place k on and answers the place after it
+  pub record Puts (d₀ : List A) (k : ℕ) (l : List A) (after : ℕ) (d : List A) : Type 0 where
+    pub ends : after ≡ k + length l
+    pub holds : d ≡ sets d₀ k l
+
+  -- one put after the other is one put
+  pub puts-then : {d₀ d e : List A} {k j r : ℕ} {x y : List A} → Puts d₀ k x j d → Puts d j y r e → Puts d₀ k (x ++ y) r e
+  puts-then {d₀} {k = k} {x = x} {y} p q =
+      record {
+        ends = q .ends ∙ ap (λ j. j + length y) (p .ends) ∙ add-assoc k (length x) (length y) ∙ ap (λ n. k + n) (sym (length-append x y));
+        holds = q .holds ∙ rw (p .holds, p .ends) (sets-append d₀ k x y);
+      }
+
+  -- the room that is left for what comes after it
+  pub room-first : (k : ℕ) (x y : List A) {n : ℕ} → k + length (x ++ y) ≤ n → k + length x ≤ n
+  room-first k x y h = omega (arith, length-append x y)
+
+  pub room-rest : {d₀ d : List A} {k j : ℕ} {x : List A} (y : List A) → Puts d₀ k x j d → k + length (x ++ y) ≤ length d₀ → j + length y ≤ length d
+  room-rest {d₀} {k = k} {x = x} y p h = omega (arith, length-append x y, p .ends, ap length (p .holds) ∙ length-sets d₀ k x)
 
   -- a run from the front fills
   pub sets-front : (d l : List A) (m : ℕ) → length l ≡ m → m ≤ length d → sets d 0 l ≡ filled m l d

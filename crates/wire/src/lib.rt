@@ -3,12 +3,13 @@
 ghost use mathlib.Core.Path.{_≡_};
 ghost use Prim.Native.Nat.{_+_, _*_, _^_, _≤_, _<_};
 ghost use lib.ListN.{length, take, drop};
-ghost use lib.Seq.{sets};
 ghost use mir.Val.{toZ, ofZ, SFits, hbits};
 ghost use Rattle.model.specs.Grid.{filled};
-ghost use Rattle.model.specs.Record.{bytes, unsigned};
+ghost use Rattle.model.specs.Record.{bytes, unsigned, tagTable, sizeIn};
 ghost use Rattle.theorems.specs.Bytes.{EachFits};
 ghost use Rattle.wire.specs.Sizes.{sizeOf, widthOf, signedBy, bytesBy, numbersBy, valueBy};
+ghost use Rattle.wire.specs.Stores.{Puts};
+ghost use Rattle.wire.specs.Tags.{tagSizeOf};
 
 // ---- unsigned numbers
 
@@ -41,19 +42,21 @@ pub fn unsigned_at(s: &[u8], k: usize, count: usize) -> u64
     x
 }
 
-// Puts the last `count` bytes of x at k, from the last one on. It rules out, for instance: the lowest byte first; a byte past them.
-pub fn put_unsigned(d: &mut [u8], k: usize, count: usize, x: u64)
+// Puts the last `count` bytes of x at k, from the last one on, and answers the place after them, as all puts do: so no place is
+// counted by hand. It rules out, for instance: the lowest byte first; a byte past them.
+pub fn put_unsigned(d: &mut [u8], k: usize, count: usize, x: u64) -> usize
     requires { ⌜ k + count ≤ length (now d) ⌝ }
-    ensures { λ _. ⌜ now (d .exit) ≡ sets (now (d .entry)) k (bytes count x) ⌝ }
+    ensures { λ r. ⌜ Puts (now (d .entry)) k (bytes count x) r (now (d .exit)) ⌝ }
 {
-    let mut left = count;
+    let mut remaining = count;
     let mut rest = x;
-    while 0 < left {
-        left -= 1;
-        let at = place(k, count, left);
+    while 0 < remaining {
+        remaining -= 1;
+        let at = place(k, count, remaining);
         d[at] = (rest % 256) as u8;
         rest = rest / 256;
     }
+    k + count
 }
 
 // ---- signed numbers
@@ -133,9 +136,9 @@ pub fn number_at(s: &[u8], k: usize, size: Size) -> i64
 }
 
 // Puts a number at k. It rules out, for instance: the bytes of its magnitude; four bytes for two.
-fn put_number(d: &mut [u8], k: usize, x: i64, size: Size)
+fn put_number(d: &mut [u8], k: usize, x: i64, size: Size) -> usize
     requires { ⌜ (k + sizeOf size ≤ length (now d)) × SFits (widthOf size) x ⌝ }
-    ensures { λ _. ⌜ now (d .exit) ≡ sets (now (d .entry)) k (bytesBy size x) ⌝ }
+    ensures { λ r. ⌜ Puts (now (d .entry)) k (bytesBy size x) r (now (d .exit)) ⌝ }
 {
     match size {
         Size::Two => put_unsigned(d, k, 2, bits(x, Size::Two)),
@@ -158,12 +161,41 @@ pub fn read_numbers(value: &[u8], m: usize, d: &mut [i64], size: Size)
 
 // Puts the numbers of a field, one after the other, from k on. It rules out, for instance: the first number at every place; a gap
 // between numbers.
-pub fn put_numbers(d: &mut [u8], k: usize, f: &[i64], size: Size)
+pub fn put_numbers(d: &mut [u8], k: usize, f: &[i64], size: Size) -> usize
     requires { ⌜ (k + length (now f) * sizeOf size ≤ length (now d)) × EachFits (widthOf size) (now f) ⌝ }
-    ensures { λ _. ⌜ now (d .exit) ≡ sets (now (d .entry)) k (valueBy size (now (f .entry))) ⌝ }
+    ensures { λ r. ⌜ Puts (now (d .entry)) k (valueBy size (now (f .entry))) r (now (d .exit)) ⌝ }
 {
-    let each = bytes_of(size);
+    let mut after = k;
     for i in 0..f.len() {
-        put_number(d, k + i * each, f[i], size);
+        after = put_number(d, after, f[i], size);
+    }
+    after
+}
+
+// ---- the table of tags
+
+// How many bytes the value of a tag has in a record: so many, or so many a cell.
+pub enum TagSize {
+    Fixed(usize),
+    PerCell(usize),
+}
+
+// Tags are 1 to this one.
+pub const LAST_TAG: usize = 7;
+
+// The table, which writer and reader share; no other tag gets as far as its size. It rules out, for instance: a timestamp of nine
+// bytes; bottom heights of two bytes a cell.
+pub fn tag_size(tag: usize) -> TagSize
+    ensures { λ r. ⌜ r ≡ tagSizeOf (sizeIn tagTable tag) ⌝ }
+{
+    match tag {
+        1 => TagSize::Fixed(3),
+        2 => TagSize::Fixed(12),
+        3 => TagSize::Fixed(8),
+        4 => TagSize::PerCell(4),
+        5 => TagSize::PerCell(4),
+        6 => TagSize::PerCell(2),
+        7 => TagSize::PerCell(2),
+        _ => TagSize::PerCell(0),
     }
 }

@@ -2,12 +2,12 @@
 use mathlib.Core.Path.{_≡_, sym, ap, subst, _∙_}
 use Prim.Native.Nat.{_+_, _≤_}
 use lib.ListN.{length}
-use lib.Seq.{sets}
 use mir.Syntax.{w16, w32, w64}
 use mir.Val.{toZ, ofZ, SFits}
 use mir.Facts.{toZ-ofZ}
 use borrow.Author.Needs.{needs}
 use Rattle.model.specs.Record.{bytes}
+use Rattle.wire.specs.Stores.{Puts}
 use Rattle.wire.specs.Sizes.{sizeOf, widthOf, bytesBy}
 use Rattle.wire.proofs.put_number.Statement.{statement}
 use Rattle.wire.proofs.put_number.Tie as tie
@@ -34,9 +34,8 @@ returns c =
     let b = p .before in
     let e = b .before .before in
     let s = e .before .before .before in
-    p .put-unsigned .ensures
-    ∙ ap (λ x. sets (s .args .d .now) (s .args .k) (bytes 2 x)) (b .bits .ensures ∙ ap (ofZ w16) (same s))
-    ∙ sym (ap (λ z. sets (s .args .d .now) (s .args .k) (bytesBy z (s .args .x))) (e .enum-told .given .1))
+    let value = ap (bytes 2) (b .bits .ensures ∙ ap (ofZ w16) (same s)) ∙ sym (ap (λ z. bytesBy z (s .args .x)) (e .enum-told .given .1)) in
+    subst (λ l. Puts (s .args .d .now) (s .args .k) l (p .put-unsigned .result) (p .put-unsigned .last .0)) value (p .put-unsigned .ensures)
 
 returns-2 : tie.Need-returns-2
 returns-2 c =
@@ -44,9 +43,8 @@ returns-2 c =
     let b = p .before in
     let e = b .before .before in
     let s = e .before .before .before in
-    p .put-unsigned2 .ensures
-    ∙ ap (λ x. sets (s .args .d .now) (s .args .k) (bytes 4 x)) (b .bits2 .ensures ∙ ap (ofZ w32) (same s))
-    ∙ sym (ap (λ z. sets (s .args .d .now) (s .args .k) (bytesBy z (s .args .x))) (e .enum-told2 .given .1))
+    let value = ap (bytes 4) (b .bits2 .ensures ∙ ap (ofZ w32) (same s)) ∙ sym (ap (λ z. bytesBy z (s .args .x)) (e .enum-told2 .given .1)) in
+    subst (λ l. Puts (s .args .d .now) (s .args .k) l (p .put-unsigned2 .result) (p .put-unsigned2 .last .0)) value (p .put-unsigned2 .ensures)
 
 pub put-number-spec : {M : Type 1} → statement M
 put-number-spec =

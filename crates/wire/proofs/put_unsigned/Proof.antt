@@ -1,4 +1,4 @@
--- `wire::put_unsigned` meets its contract: the loop has put all but the first `left` bytes. So what stands before them has not been
+-- `wire::put_unsigned` meets its contract: the loop has put all but the first `remaining` bytes. So what stands before them has not been
 -- touched, and what is left of the number are its highest bytes. Assumes nothing.
 use mathlib.Core.Path.{sym, subst}
 use Prim.Native.Nat.{_-_, _/_, _%_}
@@ -11,10 +11,10 @@ use Rattle.wire.proofs.put_unsigned.Statement.{statement}
 use Rattle.wire.proofs.put_unsigned.Tie as tie
 
 abbrev Inv-loop : tie.InvT-loop
-Inv-loop d₀ k count x left₀ rest₀ d left rest = Putting d₀ k count x left rest d
+Inv-loop d₀ k count x remaining₀ rest₀ d remaining rest = Putting d₀ k count x remaining rest d
 
 abbrev μ-loop : tie.MeasureT-loop
-μ-loop d₀ k count x left₀ rest₀ d left rest = left
+μ-loop d₀ k count x remaining₀ rest₀ d remaining rest = remaining
 
 cast-d : tie.Need-cast-d Inv-loop μ-loop
 cast-d c = record { fits = mod-lt (c .before .before .loop .rest) (lit< tt) }
@@ -24,7 +24,7 @@ loop-again c =
     let i = c .before in
     let l = i .before in
     let a = l .before .before .args in
-    subst (λ p. Putting (a .d .now) (a .k) (a .count) (a .x) (l .loop .left - 1) (l .loop .rest / 256) (set (l .loop .d) p (l .loop .rest % 256))) (sym (c .place .ensures))
+    subst (λ p. Putting (a .d .now) (a .k) (a .count) (a .x) (l .loop .remaining - 1) (l .loop .rest / 256) (set (l .loop .d) p (l .loop .rest % 256))) (sym (c .place .ensures))
     (putting-more (l .loop .inv) (i .loop-test .taken))
 
 same-length : tie.Need-same-length Inv-loop μ-loop
@@ -46,5 +46,6 @@ put-unsigned-spec =
     (λ c. omega (arith, c .place .ensures, c .before .before .loop .inv .most, c .before .before .loop .inv .long))
     (λ c. omega arith)
     loop-again
+    (λ c. omega (arith, c .before .before .before .pre))
     same-length
     returns)
