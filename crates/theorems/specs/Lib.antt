@@ -25,6 +25,7 @@ pub mod Histories
 -- the record
 pub mod Bytes
 pub mod Walks
+pub mod Tags
 pub mod Damage
 pub mod RoundTrip
 pub mod Rewrite

@@ -22,7 +22,7 @@ use Rattle.model.specs.declared.WriteAnswer.the-variants.{Written}
 use Rattle.theorems.specs.Truth.{and-iff, eq-iff, same-by, differ}
 use Rattle.theorems.specs.Bytes.{AllBytes, back-bytes, put-numbers}
 use Rattle.theorems.specs.Walks.{Read, AllRead, unwalk}
-use Rattle.theorems.specs.Damage.{follow}
+use Rattle.theorems.specs.Tags.{follow}
 use Rattle.theorems.specs.RoundTrip.{fields-iff, length-encode, written, read-part}
 
 -- ---- fields with rising tags are what the writer writes of what they mean

@@ -2,20 +2,24 @@
 use mathlib.Core.Path.{_≡_, refl, sym, ap, subst, _∙_}
 use mathlib.Core.Bool.{Bool, true, false, cond, _||_}
 use mathlib.Core.List.{List, [], _∷_, _++_}
+use mathlib.Core.Option.{Option, none, some}
 use Prim.Native.Nat.{ℕ, suc, _+_, _-_, _≤_, _<_, min}
-use native.Mathlib.Nat.{le-antisymm, le-refl}
+use native.Mathlib.Nat.{le-refl}
 use native.Mathlib.Omega.{arith}
-use lib.Dec.{eqb, ltb}
+use lib.Dec.{T, eqb, ltb}
 use lib.ListN.{length, take, drop, getD, set, replicate, length-take, length-drop, length-replicate, getD-replicate, length-set}
 use lib.Seq.{getD-set-same, getD-set-other}
 use borrow.Author.Tests.{not-true, lt-ltb, le-ltb, lt-leb, eq-eqb, eqb-true, eqb-false}
-use Rattle.model.specs.Refusals.{must}
-use Rattle.model.specs.Record.{Part, has, valueOf, tagAt, sizeAt, partAt, rightSize, tagTest, missingTest, damaged, whole, walk, walked}
-use Rattle.model.specs.declared.Refusal.the-variants.{Record}
-use Rattle.theorems.specs.Tests.{T-true, differ}
-use Rattle.theorems.specs.Walks.{Sound, sound-of, walk-step, walk-end, atEnd}
-use Rattle.walking.specs.Places.{Stands, Seen, partsBy, partsIn, Placed, IsValue}
-use Rattle.walking.proofs.TagLaws.{known-most, all-seen}
+use Rattle.model.specs.Record.{Part, has, valueOf, tagAt, sizeAt, partAt, knownTag, rightSize, tagTest, missingTest, damaged, whole, walk, walked}
+use Rattle.model.specs.Promises.{answerOf}
+use Rattle.model.specs.declared.Refusal.{Refusal}
+use Rattle.model.specs.declared.Answer.{Answer}
+use Rattle.model.specs.declared.Answer.the-variants.{Accepted, Refused}
+use Rattle.theorems.specs.Truth.{T-true, differ}
+use Rattle.theorems.specs.Walks.{Sound, sound-iff, walk-step, walk-end, atEnd}
+use Rattle.theorems.specs.Tags.{known-iff}
+use Rattle.walking.specs.Places.{places, Stands, Seen, partsBy, partsIn, Placed, Found, IsValue}
+use Rattle.walking.proofs.TagLaws.{all-seen}
 
 -- ---- one field more
 
@@ -52,12 +56,12 @@ module _ (t : ℕ) where
 
 -- ---- the places of the fields found so far
 
-seen-none : (rec : List ℕ) → Seen rec [] (replicate 8 (length rec))
+seen-none : (rec : List ℕ) → Seen rec [] (replicate places (length rec))
 seen-none rec =
     let n = length rec in
-    let e : (t : ℕ) → t < 8 → getD (replicate 8 n) t 0 ≡ n = λ t h. getD-replicate 8 t n 0 h in
+    let e : (t : ℕ) → t < places → getD (replicate places n) t 0 ≡ n = λ t h. getD-replicate places t n 0 h in
     record {
-      long = length-replicate 8 n;
+      long = length-replicate places n;
       found = λ t h. sym (ap (λ k. ltb k n) (e t h) ∙ le-ltb n n (le-refl n));
       stands = λ t h l. absurd (never n (subst (λ k. k < n) (e t h) l));
     }
@@ -65,7 +69,7 @@ seen-none rec =
     never : (n : ℕ) → n < n → ⊥
     never n l = omega arith
 
-module _ {rec at : List ℕ} {k : ℕ} {parts : List Part} (s : Seen rec parts at) (f : Sound rec k parts) (room : tagAt rec k < 8) where
+module _ {rec at : List ℕ} {k : ℕ} {parts : List Part} (s : Seen rec parts at) (f : Sound rec k parts) (room : tagAt rec k < places) where
   abbrev tag : ℕ
   tag = tagAt rec k
 
@@ -87,7 +91,7 @@ module _ {rec at : List ℕ} {k : ℕ} {parts : List Part} (s : Seen rec parts a
   elsewhere : (t : ℕ) → eqb tag t ≡ false → getD (set at tag k) t 0 ≡ getD at t 0
   elsewhere t e = getD-set-other at tag t k 0 (λ q. eqb-false tag t e (sym q))
 
-  found-by : (t : ℕ) (b : Bool) → eqb tag t ≡ b → t < 8 → has t more ≡ ltb (getD (set at tag k) t 0) (length rec)
+  found-by : (t : ℕ) (b : Bool) → eqb tag t ≡ b → t < places → has t more ≡ ltb (getD (set at tag k) t 0) (length rec)
   found-by t true e h =
       let q : tag ≡ t = eqb-true tag t e in
       has-more t parts (partAt rec k) ∙ ap (λ b. has t parts || b) e ∙ or-true (has t parts)
@@ -99,7 +103,7 @@ module _ {rec at : List ℕ} {k : ℕ} {parts : List Part} (s : Seen rec parts a
   found-by t false e h =
       has-more t parts (partAt rec k) ∙ ap (λ b. has t parts || b) e ∙ or-false (has t parts) ∙ s .found t h ∙ sym (ap (λ k. ltb k (length rec)) (elsewhere t e))
 
-  stands-by : (t : ℕ) (b : Bool) → eqb tag t ≡ b → t < 8 → getD (set at tag k) t 0 < length rec → Stands rec more t (getD (set at tag k) t 0)
+  stands-by : (t : ℕ) (b : Bool) → eqb tag t ≡ b → t < places → getD (set at tag k) t 0 < length rec → Stands rec more t (getD (set at tag k) t 0)
   stands-by t true e h l =
       let q : tag ≡ t = eqb-true tag t e in
       subst (λ t. Stands rec more t (getD (set at tag k) t 0)) q
@@ -118,56 +122,77 @@ module _ {rec at : List ℕ} {k : ℕ} {parts : List Part} (s : Seen rec parts a
 
 pub record Walking (rec at : List ℕ) (k : ℕ) : Type 0 where
   pub parts : List Part
-  pub left : ℕ
-  pub onward : walked rec ≡ walk rec left k parts
-  pub enough : length rec ≤ k + left
+  pub remaining : ℕ
+  pub onward : walked rec ≡ walk rec remaining k parts
+  pub enough : length rec ≤ k + remaining
   pub inside : k ≤ length rec
   pub seen : Seen rec parts at
 
-pub walking-none : (rec : List ℕ) → Walking rec (replicate 8 (length rec)) 0
+pub walking-none : (rec : List ℕ) → Walking rec (replicate places (length rec)) 0
 unfolding walked
-walking-none rec = record { parts = []; left = length rec; onward = refl; enough = omega arith; inside = omega arith; seen = seen-none rec }
+walking-none rec = record { parts = []; remaining = length rec; onward = refl; enough = omega arith; inside = omega arith; seen = seen-none rec }
 
 module _ {rec at : List ℕ} {k : ℕ} (w : Walking rec at k) where
   module _ (l : k < length rec) where
     -- a field is left to walk
-    one-more : w .left ≡ suc (w .left - 1)
+    one-more : w .remaining ≡ suc (w .remaining - 1)
     one-more = let e = w .enough in omega arith
 
-    pub walking-sound : tagTest rec k (w .parts) ≡ must true (Record k) → Sound rec k (w .parts)
-    walking-sound e = sound-of rec k (w .parts) e
+    pub walking-accepted : {a : Answer} → a ≡ answerOf (tagTest rec k (w .parts)) → a ≡ Accepted → tagTest rec k (w .parts) ≡ none
+    walking-accepted e f = by (tagTest rec k (w .parts)) (sym e ∙ f)
+      where
+        by : (o : Option Refusal) → answerOf o ≡ Accepted → o ≡ none
+        by none h = refl
+        by (some x) h = differ (cc h)
 
-    pub walking-more : tagTest rec k (w .parts) ≡ must true (Record k) → Walking rec (set at (tagAt rec k) k) (k + 3 + sizeAt rec k)
+    -- the tag has a place
+    pub tag-room : T (knownTag (tagAt rec k)) → tagAt rec k < places
+    tag-room t = let p = known-iff (tagAt rec k) .0 t in omega (arith, p .1)
+
+    pub walking-more : tagTest rec k (w .parts) ≡ none → Walking rec (set at (tagAt rec k) k) (k + 3 + sizeAt rec k)
     walking-more e =
-        let f = walking-sound e in
-        let m = w .left - 1 in
+        let f = sound-iff rec k (w .parts) .0 e in
+        let m = w .remaining - 1 in
         let n = w .enough in
         record {
           parts = w .parts ++ (partAt rec k ∷ []);
-          left = m;
+          remaining = m;
           onward = w .onward ∙ ap (λ m. walk rec m k (w .parts)) one-more ∙ walk-step rec m k (w .parts) (lt-leb (length rec) k l) e;
           enough = omega arith;
           inside = f .room;
-          seen = seen-more (w .seen) f (let h = known-most (tagAt rec k) (f .tag) in omega arith);
+          seen = seen-more (w .seen) f (tag-room (f .tag));
         }
 
-    pub walking-bad : tagTest rec k (w .parts) ≡ must false (Record k) → walked rec ≡ damaged (Record k)
+    bad : {r : Refusal} → tagTest rec k (w .parts) ≡ some r → walked rec ≡ damaged r
     unfolding walk
-    walking-bad e = w .onward ∙ ap (λ m. walk rec m k (w .parts)) one-more ∙ rw (lt-leb (length rec) k l, e)
+    bad e = w .onward ∙ ap (λ m. walk rec m k (w .parts)) one-more ∙ rw (lt-leb (length rec) k l, e)
+
+    -- a refusal at the tag is what the walk tells
+    pub walking-refused : {a : Answer} {r : Refusal} → a ≡ answerOf (tagTest rec k (w .parts)) → a ≡ Refused r → Found rec a at
+    walking-refused {a} {r} e f = subst (λ a. Found rec a at) (sym e) (by (tagTest rec k (w .parts)) refl (sym e ∙ f))
+      where
+        by : (o : Option Refusal) → tagTest rec k (w .parts) ≡ o → answerOf o ≡ Refused r → Found rec (answerOf o) at
+        by none q h = differ (cc h)
+        by (some x) q h = bad q
 
   module _ (h : length rec ≤ k) where
     ended : walked rec ≡ atEnd rec (w .parts)
-    ended = w .onward ∙ walk-end rec (w .left) k (w .parts) h
+    ended = w .onward ∙ walk-end rec (w .remaining) k (w .parts) h
 
-    pub walking-done : missingTest rec (w .parts) ≡ must true (Record (length rec)) → Placed rec at
+    done : missingTest rec (w .parts) ≡ none → Placed rec at
     unfolding partsIn
-    walking-done e =
+    done e =
         let q : walked rec ≡ whole (w .parts) = ended ∙ rw e in
         let i : w .parts ≡ partsIn rec = sym (ap partsBy q) in
         record { walks = q ∙ ap whole i; stands = λ t a b. subst (λ ps. Stands rec ps t (getD at t 0)) i (w .seen .stands t (omega arith) (all-seen (w .seen) e t a b)) }
 
-    pub walking-missing : missingTest rec (w .parts) ≡ must false (Record (length rec)) → walked rec ≡ damaged (Record k)
-    walking-missing e = ended ∙ rw e (ap (λ n. damaged (Record n)) (le-antisymm h (w .inside)))
+    -- what the test at the end answers is what the walk tells
+    pub walking-ended : {a : Answer} → a ≡ answerOf (missingTest rec (w .parts)) → Found rec a at
+    walking-ended e = subst (λ a. Found rec a at) (sym e) (by (missingTest rec (w .parts)) refl)
+      where
+        by : (o : Option Refusal) → missingTest rec (w .parts) ≡ o → Found rec (answerOf o) at
+        by none q = done q
+        by (some r) q = ended ∙ rw q
 
 -- ---- a tag's value
 

@@ -1,5 +1,5 @@
--- Where the fields of a record stand: a place for each tag, 1 to 7, which is the offset of the tag, or the record's length where the
--- tag has not been seen.
+-- Where the fields of a record stand: a place for each tag, which is the offset of the tag, or the record's length where the tag has not
+-- been seen.
 use mathlib.Core.Path.{_≡_}
 use mathlib.Core.Bool.{true}
 use mathlib.Core.List.{List, []}
@@ -7,8 +7,13 @@ use Prim.Native.Nat.{ℕ, _+_, _≤_, _<_}
 use lib.Dec.{ltb}
 use lib.ListN.{length, getD}
 use Rattle.model.specs.Record.{Part, has, valueOf, sizeAt, partAt, rightSize, Walked, damaged, whole, walked}
-use Rattle.model.specs.declared.TestAnswer.{TestAnswer}
-use Rattle.model.specs.declared.TestAnswer.the-variants.{Passed, Refused}
+use Rattle.model.specs.declared.Answer.{Answer}
+use Rattle.model.specs.declared.Answer.the-variants.{Accepted, Refused}
+use Rattle.wire.specs.Tags.{lastTag}
+
+-- how many: room for ten tags, and place 0 stays unused
+abbrev pub places : ℕ
+places = 11
 
 -- the field of tag t, which is among those found, has its tag at offset k and lies within the record
 pub record Stands (rec : List ℕ) (parts : List Part) (t k : ℕ) : Type 0 where
@@ -18,9 +23,9 @@ pub record Stands (rec : List ℕ) (parts : List Part) (t k : ℕ) : Type 0 wher
 
 -- the places of the fields found so far
 pub record Seen (rec : List ℕ) (parts : List Part) (at : List ℕ) : Type 0 where
-  pub long : length at ≡ 8
-  pub found : (t : ℕ) → t < 8 → has t parts ≡ ltb (getD at t 0) (length rec)
-  pub stands : (t : ℕ) → t < 8 → getD at t 0 < length rec → Stands rec parts t (getD at t 0)
+  pub long : length at ≡ places
+  pub found : (t : ℕ) → t < places → has t parts ≡ ltb (getD at t 0) (length rec)
+  pub stands : (t : ℕ) → t < places → getD at t 0 < length rec → Stands rec parts t (getD at t 0)
 
 -- the fields of a record that passes test 7
 abbrev pub partsBy : Walked → List Part
@@ -33,7 +38,7 @@ partsIn rec = partsBy (walked rec)
 -- the places of all of them
 pub record Placed (rec at : List ℕ) : Type 0 where
   pub walks : walked rec ≡ whole (partsIn rec)
-  pub stands : (t : ℕ) → 1 ≤ t → t ≤ 7 → Stands rec (partsIn rec) t (getD at t 0)
+  pub stands : (t : ℕ) → 1 ≤ t → t ≤ lastTag → Stands rec (partsIn rec) t (getD at t 0)
 
 -- a tag's value; those of tags 1, 2 and 3 have the right length
 pub record IsValue (rec : List ℕ) (tag : ℕ) (value : List ℕ) : Type 0 where
@@ -41,6 +46,6 @@ pub record IsValue (rec : List ℕ) (tag : ℕ) (value : List ℕ) : Type 0 wher
   pub sized : rightSize tag (length value) ≡ true
 
 -- what test 7 tells, and the places that it leaves
-abbrev pub Found : List ℕ → TestAnswer → List ℕ → Type 0
-Found rec Passed at = Placed rec at
+abbrev pub Found : List ℕ → Answer → List ℕ → Type 0
+Found rec Accepted at = Placed rec at
 Found rec (Refused r) at = walked rec ≡ damaged r

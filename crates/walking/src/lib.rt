@@ -3,12 +3,13 @@ ghost use mathlib.Core.Path.{_≡_};
 ghost use mathlib.Core.List.{List};
 ghost use Prim.Native.Nat.{_+_, _≤_, _<_};
 ghost use lib.ListN.{length, replicate};
-ghost use Rattle.model.specs.Refusals.{must};
 ghost use Rattle.model.specs.Record.{Part, sizeAt, partAt, rightSize, tagTest, missingTest};
-ghost use Rattle.model.specs.declared.Refusal.the-variants.{Record};
-ghost use Rattle.walking.specs.Places.{Seen, Placed, Found, IsValue};
+ghost use Rattle.model.specs.Promises.{answerOf};
+ghost use Rattle.wire.specs.Tags.{lastTag};
+ghost use Rattle.walking.specs.Places.{places, Seen, Placed, Found, IsValue};
+use model::Answer;
 use model::Refusal;
-use model::TestAnswer;
+use wire::TagSize;
 
 // ---- a field
 
@@ -30,94 +31,96 @@ fn value_at(rec: &[u8], k: usize) -> &[u8]
     &rec[from..end]
 }
 
-// Whether a tag's value may have that length: tags 1, 2 and 3 have one length.
+// Whether a tag's value may have that length: by the table, and whatever the grid.
 fn right_size(tag: usize, size: usize) -> bool
     ensures { λ r. ⌜ r ≡ rightSize tag size ⌝ }
 {
-    if tag == 1 {
-        return size == 3;
+    match wire::tag_size(tag) {
+        TagSize::Fixed(k) => size == k,
+        TagSize::PerCell(_) => true,
     }
-    if tag == 2 {
-        return size == 12;
-    }
-    if tag == 3 {
-        return size == 8;
-    }
-    true
 }
 
 // ---- the walk
 
-// Whether the field whose tag is at k is sound, with the tags before it at the places `at`: not so where 1 or 2 bytes are left; the
-// tag is unknown; it was seen before; the value runs past the end; tag 1, 2 or 3 has another length.
-fn is_sound(rec: &[u8], k: usize, at: &[usize; 8]) -> bool
+// The place of each tag, by its number: the offset of the tag, or the record's length where it has not been seen. There is room for
+// ten tags; place 0 stays unused.
+pub const PLACES: usize = 11;
+
+pub type Places = [usize; PLACES];
+
+// Test 7 at the tag at k, with the tags before it at the places `at`: 1 or 2 bytes left; an unknown tag; one that was seen before; a
+// value past the end; a length that the table does not allow.
+fn test_tag(rec: &[u8], k: usize, at: &Places) -> Answer
     requires { ⌜ k < length (now rec) ⌝ }
     ensures { λ r. ⌜
         ((parts : List Part) → Seen (now (rec .entry)) parts (now (at .entry))
-        → tagTest (now (rec .entry)) k parts ≡ must r (Record k))
+        → r ≡ answerOf (tagTest (now (rec .entry)) k parts))
         ⌝ }
 {
-    let left = rec.len() - k;
-    if left < 3 {
-        return false;
+    let damaged = Answer::Refused(Refusal::Record { offset: k });
+    let remaining = rec.len() - k;
+    if remaining < 3 {
+        return damaged;
     }
     let tag = wire::index(rec[k]);
     if tag < 1 {
-        return false;
+        return damaged;
     }
-    if 7 < tag {
-        return false;
+    if wire::LAST_TAG < tag {
+        return damaged;
     }
     if at[tag] < rec.len() {
-        return false;
+        return damaged;
     }
     let size = size_at(rec, k);
-    if left - 3 < size {
-        return false;
+    if remaining - 3 < size {
+        return damaged;
     }
-    right_size(tag, size)
+    if !right_size(tag, size) {
+        return damaged;
+    }
+    Answer::Accepted
 }
 
-// Whether every tag was seen.
-fn is_complete(rec: &[u8], at: &[usize; 8]) -> bool
+// Test 7 at the record's end: a tag that was not seen is missing.
+fn test_end(rec: &[u8], at: &Places) -> Answer
     ensures { λ r. ⌜
         ((parts : List Part) → Seen (now (rec .entry)) parts (now (at .entry))
-        → missingTest (now (rec .entry)) parts ≡ must r (Record (length (now (rec .entry)))))
+        → r ≡ answerOf (missingTest (now (rec .entry)) parts))
         ⌝ }
 {
-    for tag in 1..8 {
+    for tag in 1..=wire::LAST_TAG {
         if rec.len() <= at[tag] {
-            return false;
+            return Answer::Refused(Refusal::Record { offset: rec.len() });
         }
     }
-    true
+    Answer::Accepted
 }
 
 // Test 7 of a record, and the place of each tag. It rules out, for instance: a tag that stands twice taken; the offset of the tag
 // before; a missing tag told at offset 0.
-pub fn walk(rec: &[u8], at: &mut [usize; 8]) -> TestAnswer
-    requires { ⌜ now at ≡ replicate 8 (length (now rec)) ⌝ }
+pub fn walk(rec: &[u8], at: &mut Places) -> Answer
+    requires { ⌜ now at ≡ replicate places (length (now rec)) ⌝ }
     ensures { λ r. ⌜ Found (now (rec .entry)) r (now (at .exit)) ⌝ }
 {
     let mut k = 0;
     while k < rec.len() {
-        if !is_sound(rec, k, at) {
-            return TestAnswer::Refused(Refusal::Record { offset: k });
-        }
+        let tested = test_tag(rec, k, at);
+        let Answer::Accepted = tested else {
+            return tested;
+        };
         let tag = wire::index(rec[k]);
         at[tag] = k;
         k = k + 3 + size_at(rec, k);
     }
-    if is_complete(rec, at) {
-        return TestAnswer::Passed;
-    }
-    TestAnswer::Refused(Refusal::Record { offset: k })
+    test_end(rec, at)
 }
 
 // The value of a tag, in a record that passes test 7. It rules out, for instance: the value of another tag; a value that starts at its
 // length; one byte too many.
-pub fn value_of<'a>(rec: &'a [u8], at: &[usize; 8], tag: usize) -> &'a [u8]
-    requires { ⌜ Placed (now rec) (now at) × (1 ≤ tag) × (tag ≤ 7) ⌝ }
+pub fn value_of<'a>(rec: &'a [u8], at: &Places, tag: usize) -> &'a [u8]
+    requires { ⌜ Placed (now rec) (now at) × (1 ≤ tag) × (tag ≤ lastTag) ⌝ }
     ensures { λ r. ⌜ IsValue (now (rec .entry)) tag (now r) ⌝ }
 {
     value_at(rec, at[tag])

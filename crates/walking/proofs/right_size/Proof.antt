@@ -1,19 +1,23 @@
 -- `walking::right_size` meets its contract. Assumes nothing.
-use borrow.Author.Tests.{eq-eqb, ne-eqb}
+use mathlib.Core.Path.{sym, _∙_}
+use borrow.Author.Needs.{needs}
+use Rattle.model.specs.Record.{tagTable, sizeIn}
+use Rattle.wire.specs.Tags.{fixed-allows, cells-allow}
 use Rattle.walking.proofs.right_size.Statement.{statement}
 use Rattle.walking.proofs.right_size.Tie as tie
 
 returns : tie.Need-returns
-returns c = rw (eq-eqb _ _ (c .if1 .taken))
+returns c =
+    let k = c .before in
+    let t = k .before .before in
+    let a = t .before .args in
+    fixed-allows (sizeIn tagTable (a .tag)) (a .size) (sym (k .k .given .1) ∙ t .tag-size .ensures)
 
 returns-2 : tie.Need-returns-2
-returns-2 c = rw (ne-eqb _ _ (c .before .if1 .left), eq-eqb _ _ (c .if2 .taken))
-
-returns-3 : tie.Need-returns-3
-returns-3 c = rw (ne-eqb _ _ (c .before .before .if1 .left), ne-eqb _ _ (c .before .if2 .left), eq-eqb _ _ (c .if3 .taken))
-
-returns-4 : tie.Need-returns-4
-returns-4 c = rw (ne-eqb _ _ (c .before .before .if1 .left), ne-eqb _ _ (c .before .if2 .left), ne-eqb _ _ (c .if3 .left))
+returns-2 c =
+    let t = c .before .before in
+    let a = t .before .args in
+    cells-allow (sizeIn tagTable (a .tag)) (a .size) (sym (c .enum-told .given .1) ∙ t .tag-size .ensures)
 
 pub right-size-spec : {M : Type 1} → statement M
-right-size-spec = tie.close (tie.spec returns returns-2 returns-3 returns-4)
+right-size-spec = tie.close (tie.spec (λ c κs. search needs) (λ c. search needs) (λ c. search needs) returns returns-2)
