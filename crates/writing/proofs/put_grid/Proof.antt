@@ -1,8 +1,9 @@
 -- `writing::put_grid` meets its contract. Assumes nothing.
-use mathlib.Core.Path.{ap}
+use mathlib.Core.Path.{refl}
 use native.Mathlib.Omega.{arith}
-use lib.ListN.{set, length-set}
+use lib.ListN.{length-set}
 use borrow.Author.Needs.{needs}
+use Rattle.writing.specs.WriteLaws.{field-put, three-put}
 use Rattle.writing.proofs.put_grid.Statement.{statement}
 use Rattle.writing.proofs.put_grid.Tie as tie
 
@@ -10,7 +11,7 @@ returns : tie.Need-returns
 returns c =
     let h = c .before .before .before .before in
     let p = h .before .before .before .args .p in
-    ap (λ l. set (set (set l 3 (p .w)) 4 (p .n)) 5 (p .kind)) (h .put-head .ensures)
+    field-put 1 refl (h .put-head .ensures) (three-put (h .put-head .last .0) (h .put-head .result) (p .w) (p .n) (p .kind))
 
 pub put-grid-spec : {M : Type 1} → statement M
 put-grid-spec =
@@ -20,7 +21,10 @@ put-grid-spec =
     (λ c. search needs)
     (λ c. search needs)
     (λ c. search needs)
-    (λ c. simp length-set (omega arith))
+    (λ c. search needs)
+    (λ c. simp length-set (search needs))
+    (λ c. search needs)
+    (λ c. simp length-set (search needs))
     (λ c. search needs)
     (λ c. search needs)
     returns)

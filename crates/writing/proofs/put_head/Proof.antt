@@ -19,7 +19,8 @@ returns : tie.Need-returns
 returns c =
     let p = c .before .before in
     let a = p .before .before .before .args in
-    p .put-unsigned .ensures ∙ ap (λ j. sets (set (a .d .now) (a .k) (a .tag)) j (bytes 2 (a .size))) (add-one (a .k))
+    let q = p .put-unsigned .ensures in
+    record { ends = omega (arith, q .ends); holds = q .holds ∙ ap (λ j. sets (set (a .d .now) (a .k) (a .tag)) j (bytes 2 (a .size))) (add-one (a .k)) }
 
 pub put-head-spec : {M : Type 1} → statement M
 put-head-spec = tie.close (tie.spec (λ c. search needs) (λ c. search needs) (λ c κs. simp length-set (omega arith)) same-length returns)

@@ -1,13 +1,11 @@
 -- `writing::put_scalars` meets its contract. Assumes nothing.
-use mathlib.Core.Path.{_≡_, refl, ap, _∙_}
+use mathlib.Core.Path.{_≡_, refl, subst}
 use mathlib.Core.List.{[], _∷_}
-use lib.Seq.{sets}
 use mir.Syntax.{w64}
 use borrow.Author.Needs.{needs}
 use Rattle.integers.specs.Bounds.{held, held-is}
-use Rattle.model.specs.Record.{bytes4, eachBy}
-use Rattle.writing.specs.Parts.{fieldOf}
-use Rattle.writing.specs.WriteLaws.{scalars-put}
+use Rattle.wire.specs.Stores.{Puts, puts-then}
+use Rattle.writing.specs.Parts.{constantsOf}
 use Rattle.writing.proofs.put_scalars.Statement.{statement}
 use Rattle.writing.proofs.put_scalars.Tie as tie
 
@@ -23,10 +21,8 @@ returns c =
     let t = c .before .before in
     let f = t .before .before .before .before in
     let g = f .before .before .before .before .before .before in
-    let a = g .before .before .before .args in
-    scalars-put (a .p) (a .timestamp) (a .d .now) (g .put-grid .ensures)
-    (f .put-field .ensures ∙ ap (λ l. sets (g .put-grid .last .0) 6 (fieldOf 2 (eachBy bytes4 l))) (constants (f .before .before)))
-    (t .put-timestamp .ensures)
+    let put = subst (λ l. Puts (g .put-grid .last .0) (g .put-grid .result) (constantsOf l) (f .put-field .result) (f .put-field .last .0)) (constants (f .before .before)) (f .put-field .ensures) in
+    puts-then (g .put-grid .ensures) (puts-then put (t .put-timestamp .ensures))
 
 pub put-scalars-spec : {M : Type 1} → statement M
 put-scalars-spec = tie.close (tie.spec (λ c κs. search needs) (λ c. search needs) (λ c κs. search needs) (λ c κs. search needs) (λ c. search needs) returns)

@@ -1,7 +1,6 @@
 -- `writing::put_timestamp` meets its contract. Assumes nothing.
 use mathlib.Core.Path.{refl}
 use borrow.Author.Needs.{needs}
-use Rattle.model.specs.Record.{bytes}
 use Rattle.writing.specs.WriteLaws.{field-put}
 use Rattle.writing.proofs.put_timestamp.Statement.{statement}
 use Rattle.writing.proofs.put_timestamp.Tie as tie
@@ -10,8 +9,7 @@ returns : tie.Need-returns
 returns c =
     let u = c .before .before in
     let h = u .before .before .before .before in
-    let a = h .before .before .before .args in
-    field-put (a .d .now) (a .k) 3 8 (bytes 8 (a .timestamp)) refl (h .put-head .ensures) (u .put-unsigned .ensures)
+    field-put 3 refl (h .put-head .ensures) (u .put-unsigned .ensures)
 
 pub put-timestamp-spec : {M : Type 1} → statement M
-put-timestamp-spec = tie.close (tie.spec (λ c κs. search needs) (λ c. search needs) (λ c κs. search needs) (λ c. search needs) returns)
+put-timestamp-spec = tie.close (tie.spec (λ c κs. search needs) (λ c κs. search needs) (λ c. search needs) returns)
