@@ -1,6 +1,7 @@
 // Whole numbers: rounding as proved code; in specs/ the laws of ℤ that the kit lacks, polynomial identities by computation,
 // bounds by computation for what must fit 64 bits, and the laws of rounding.
 ghost use mathlib.Core.Path.{_≡_};
+ghost use Prim.Native.Nat;
 ghost use Prim.Native.Nat.{_+_, _*_, _/_, _≤_};
 ghost use lib.IntN.{natAbs};
 ghost use Rattle.model.specs.Numbers;
@@ -13,6 +14,13 @@ pub fn magnitude(a: i64) -> u64
     ensures { λ r. ⌜ r ≡ natAbs a ⌝ }
 {
     if a < 0 { (-1 - a) as u64 + 1 } else { a as u64 }
+}
+
+// The smaller of two counts. It rules out, for instance: the larger one; the first whatever the second is.
+pub fn min(a: usize, b: usize) -> usize
+    ensures { λ r. ⌜ r ≡ Nat.min a b ⌝ }
+{
+    if a < b { a } else { b }
 }
 
 // The nearest whole number to t/d, halves up: one division gives quotient and remainder.

@@ -1,7 +1,7 @@
 // The step program: a record read into lent arrays, one step, and what is printed of it; the program's own arrays; its input and
 // output.
 ghost use mathlib.Core.Path.{_≡_};
-ghost use Prim.Native.Nat.{_≤_, min};
+ghost use Prim.Native.Nat.{_≤_};
 ghost use lib.ListN.{length, take};
 ghost use Rattle.model.specs.State.{WithinLimits, lent, before, after};
 ghost use Rattle.model.specs.Program.{stateLines, programOutput, Printed, ProgramPromise};
@@ -55,13 +55,6 @@ fn step_state(
     }
 }
 
-// The smaller of two counts.
-fn less(a: usize, b: usize) -> usize
-    ensures { λ r. ⌜ r ≡ min a b ⌝ }
-{
-    if a < b { a } else { b }
-}
-
 // The same of the state in the first w·n places of lent fields.
 fn step_parts(
     p: Parameters,
@@ -81,7 +74,7 @@ fn step_parts(
         ⌝ }
 {
     let m = p.w * p.n;
-    let k = less(m, inflow.len());
+    let k = integers::min(m, inflow.len());
     step_state(
         p,
         &mut h[..m],
