@@ -26,13 +26,18 @@ module _ {A : Type 0} where
   pub drop-filled : (m : ℕ) (l d : List A) → length l ≡ m → drop m (filled m l d) ≡ drop m d
   drop-filled m l d e = drop-at l (drop m d) m e
 
-pub length-byCell : (w n : ℕ) (f : ℕ → ℕ → ℤ) → length (byCell w n f) ≡ w * n
-unfolding byCell
-length-byCell w n f = length-tabulate (w * n) (λ k. f (k % w) (k / w))
+  -- a field of any elements, filled cell by cell
+  pub length-byCell : (w n : ℕ) (f : ℕ → ℕ → A) → length (byCell w n f) ≡ w * n
+  unfolding byCell
+  length-byCell w n f = length-tabulate (w * n) (λ k. f (k % w) (k / w))
 
+  pub any-byCell : (w n : ℕ) (f : ℕ → ℕ → A) (k : ℕ) (z : A) → k < w * n → getD (byCell w n f) k z ≡ f (k % w) (k / w)
+  unfolding byCell
+  any-byCell w n f k z l = getD-tabulate (w * n) (λ k. f (k % w) (k / w)) k z l
+
+-- of numbers
 pub getD-byCell : (w n : ℕ) (f : ℕ → ℕ → ℤ) (k : ℕ) → k < w * n → getD (byCell w n f) k (pos 0) ≡ f (k % w) (k / w)
-unfolding byCell
-getD-byCell w n f k l = getD-tabulate (w * n) (λ k. f (k % w) (k / w)) k (pos 0) l
+getD-byCell w n f k l = any-byCell w n f k (pos 0) l
 
 pub at-byCell : (w n : ℕ) (f : ℕ → ℕ → ℤ) (i j : ℕ) → i < w → j < n → at w (byCell w n f) i j ≡ f i j
 at-byCell w n f i j p q =

@@ -6,12 +6,11 @@ use Prim.Native.Nat.{ℕ, _+_, _-_, _*_, _≤_, _<_, zero-le}
 use native.Mathlib.Nat.{le-antisymm, zero-add, zero-mul, mul-comm, mul-le-mul-right}
 use native.Mathlib.Numerals.{add-one}
 use native.Mathlib.Omega.{arith}
-use lib.IntN.{ℤ, pos}
 use lib.ListN.{length, take, drop, getD, set, length-set}
 use lib.Seq.{length-take-le, take-append-seam, drop-at, getD-drop, paste, paste-zero, paste-suc, drop-paste, take-length}
 use Rattle.model.specs.Grid.{byCell, filled}
 use Rattle.grid.specs.Cells.{cell-lt, row-end, by-index}
-use Rattle.grid.specs.Fields.{length-byCell, getD-byCell}
+use Rattle.grid.specs.Fields.{length-byCell, any-byCell}
 use Rattle.grid.specs.Parts.{part, replaced}
 
 module _ {A : Type 0} where
@@ -50,48 +49,48 @@ module _ {A : Type 0} where
 
 -- ---- cell by cell, with no division: a loop over rows j, and in it one over columns i
 
-module _ (w n : ℕ) (g : ℕ → ℕ → ℤ) where
-  abbrev pub field : List ℤ
+module _ {A : Type 0} (w n : ℕ) (g : ℕ → ℕ → A) where
+  abbrev pub field : List A
   field = byCell w n g
 
-  cell-value : {i j : ℕ} → i < w → j < n → getD field (j * w + i) (pos 0) ≡ g i j
-  cell-value {i} {j} p q = getD-byCell w n g (j * w + i) (cell-lt p q) ∙ by-index g j p
+  cell-value : {i j : ℕ} (z : A) → i < w → j < n → getD field (j * w + i) z ≡ g i j
+  cell-value {i} {j} z p q = any-byCell w n g (j * w + i) z (cell-lt p q) ∙ by-index g j p
 
   cell-in : {i j : ℕ} → i < w → j < n → j * w + i < length field
   cell-in {i} {j} p q = subst (λ (x : ℕ). j * w + i < x) (sym (length-byCell w n g)) (cell-lt p q)
 
   -- the inner loop, which finds d₀ and has written i cells of row j: it goes on from whatever list e the rows before were written over
-  pub record RowWriting (a j : ℕ) (d₀ : List ℤ) (i : ℕ) (d : List ℤ) : Type 0 where
+  pub record RowWriting (a j : ℕ) (d₀ : List A) (i : ℕ) (d : List A) : Type 0 where
     pub so-far : i ≤ w
     pub long : length d ≡ length d₀
-    pub over : (e : List ℤ) → a + w * n ≤ length e → Writing a field e (j * w) d₀ → Writing a field e (j * w + i) d
+    pub over : (e : List A) → a + w * n ≤ length e → Writing a field e (j * w) d₀ → Writing a field e (j * w + i) d
 
-  pub row-none : {a : ℕ} (j : ℕ) {d₀ : List ℤ} → RowWriting a j d₀ 0 d₀
+  pub row-none : {a : ℕ} (j : ℕ) {d₀ : List A} → RowWriting a j d₀ 0 d₀
   row-none j = record { so-far = zero-le; long = refl; over = λ e r h. writing-at h (omega arith) }
 
-  pub row-more : {a i j : ℕ} {d₀ d : List ℤ} {v : ℤ} → RowWriting a j d₀ i d → i < w → j < n → v ≡ g i j → RowWriting a j d₀ (i + 1) (set d (a + (j * w + i)) v)
+  pub row-more : {a i j : ℕ} {d₀ d : List A} {v : A} → RowWriting a j d₀ i d → i < w → j < n → v ≡ g i j → RowWriting a j d₀ (i + 1) (set d (a + (j * w + i)) v)
   row-more {a} {i} {j} {d₀} {d} {v} h p q e =
       record {
         so-far = omega arith;
         long = length-set d (a + (j * w + i)) v ∙ h .long;
-        over = λ l r o. writing-at (writing-more (pos 0) (h .over l r o) (cell-in p q) (rw (length-byCell w n g) r) (e ∙ sym (cell-value p q))) (omega arith);
+        over = λ l r o. writing-at (writing-more v (h .over l r o) (cell-in p q) (rw (length-byCell w n g) r) (e ∙ sym (cell-value v p q))) (omega arith);
       }
 
   -- the same where a field is filled from its front
-  pub row-filled : {i j : ℕ} {d₀ d : List ℤ} {v : ℤ} → RowWriting 0 j d₀ i d → i < w → j < n → v ≡ g i j → RowWriting 0 j d₀ (i + 1) (set d (j * w + i) v)
+  pub row-filled : {i j : ℕ} {d₀ d : List A} {v : A} → RowWriting 0 j d₀ i d → i < w → j < n → v ≡ g i j → RowWriting 0 j d₀ (i + 1) (set d (j * w + i) v)
   row-filled {i} {j} {d₀} {d} {v} h p q e = subst (λ (x : ℕ). RowWriting 0 j d₀ (i + 1) (set d x v)) (zero-add (j * w + i)) (row-more h p q e)
 
   -- all columns have been written
-  pub row-whole : {a i j : ℕ} {d₀ d : List ℤ} → RowWriting a j d₀ i d → w ≤ i → RowWriting a j d₀ w d
+  pub row-whole : {a i j : ℕ} {d₀ d : List A} → RowWriting a j d₀ i d → w ≤ i → RowWriting a j d₀ w d
   row-whole {a} {i} {j} {d₀} {d} h l = subst (λ (i : ℕ). RowWriting a j d₀ i d) (le-antisymm (h .so-far) l) h
 
-  pub row-done : {a i : ℕ} (j : ℕ) {e d₀ d : List ℤ} → RowWriting a j d₀ i d → w ≤ i → a + w * n ≤ length e → Writing a field e (j * w) d₀ → Writing a field e ((j + 1) * w) d
+  pub row-done : {a i : ℕ} (j : ℕ) {e d₀ d : List A} → RowWriting a j d₀ i d → w ≤ i → a + w * n ≤ length e → Writing a field e (j * w) d₀ → Writing a field e ((j + 1) * w) d
   row-done j {e = e} h l r o = writing-at (h .over e r o) (row-end j (le-antisymm (h .so-far) l))
 
-  pub rows-none : {a : ℕ} {e : List ℤ} → Writing a field e (0 * w) e
+  pub rows-none : {a : ℕ} {e : List A} → Writing a field e (0 * w) e
   rows-none = writing-at writing-none (sym (zero-mul w))
 
-  pub rows-filled : {j : ℕ} {e d : List ℤ} → Writing 0 field e (j * w) d → n ≤ j → d ≡ filled (w * n) field e
+  pub rows-filled : {j : ℕ} {e d : List A} → Writing 0 field e (j * w) d → n ≤ j → d ≡ filled (w * n) field e
   rows-filled {j} h l = filling-done h (length-byCell w n g) (rw (mul-comm w n) (mul-le-mul-right w l))
 
 -- ---- what a loop that writes leaves to read

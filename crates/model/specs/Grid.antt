@@ -22,8 +22,8 @@ abbrev pub tabulate : {A : Type 0} → ℕ → (ℕ → A) → List A
 tabulate zero f = []
 tabulate (suc m) f = f 0 ∷ tabulate m (λ k. f (suc k))
 
--- a field of the grid, from its number at each cell
-unfoldable pub byCell : ℕ → ℕ → (ℕ → ℕ → ℤ) → List ℤ
+-- a field of the grid, from what it has at each cell
+unfoldable pub byCell : {A : Type 0} → ℕ → ℕ → (ℕ → ℕ → A) → List A
 byCell w n f = tabulate (w * n) (λ k. f (k % w) (k / w))
 
 -- a destination d whose first m places are filled with the list l: the places past it keep their values
