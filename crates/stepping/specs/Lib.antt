@@ -2,3 +2,4 @@
 pub mod Answers
 -- a run under way
 pub mod Running
+pub mod Beside

@@ -7,11 +7,13 @@ ghost use Prim.Native.Nat.{_*_, _≤_};
 ghost use lib.IntN.{ℤ, pos};
 ghost use lib.ListN.{length, replicate};
 ghost use Rattle.model.specs.Grid.{filled};
-ghost use Rattle.model.specs.State.{Side, stateOf, lent, before, after};
+ghost use Rattle.model.specs.State.{Side, WithinLimits, stateOf, lent, before, after};
+ghost use Rattle.model.specs.Tests.{firstFound};
 ghost use Rattle.model.specs.Step.{runFrom, runTest, leavesAll, workLeft};
 ghost use Rattle.model.specs.Promises.{answerOf, StepPromise, RunPromise};
 ghost use Rattle.advancing.specs.Outcomes.{StepReady, Rest};
 ghost use Rattle.stepping.specs.Answers.{asStep};
+ghost use Rattle.stepping.specs.Beside.{besideTests};
 use advancing::Outcome;
 use model::Answer;
 use model::Field;
@@ -120,6 +122,37 @@ fn run_steps(
     RunAnswer::Finished { steps }
 }
 
+// What a run comes to, by the answer of its tests.
+fn run_tested(
+    tested: Answer,
+    p: Parameters,
+    h: &mut [i64],
+    b: &[i64],
+    u: &mut [i64],
+    v: &mut [i64],
+    inflow: &[i64],
+    steps: u64,
+    work: &mut [i64],
+) -> RunAnswer
+    requires { ⌜ tested ≡ answerOf (runTest (lent p h b u v) (now inflow) steps (length (now work))) ⌝ }
+    ensures { λ r. ⌜
+        (let s = before p h b u v in
+        RunPromise s (now (inflow .entry)) steps (now (work .entry)) r (after p h b u v) (now (work .exit)))
+        ⌝ }
+{
+    match tested {
+        Answer::Accepted => {
+            let answer = run_steps(p, h, b, u, v, inflow, steps, work);
+            clear_used(p, work);
+            answer
+        }
+        Answer::Refused(refusal) => {
+            clear_after(refusal, p, work);
+            RunAnswer::Refused(refusal)
+        }
+    }
+}
+
 // A run of so many steps with the same inflow: h, u and v become those of the state after the steps done. Refusals: 1, 2, 3, 4, 5,
 // and 6 beside the number of steps done. It rules out, for instance: steps told that were never taken; a stop before step one.
 pub fn run(
@@ -137,17 +170,8 @@ pub fn run(
         RunPromise s (now (inflow .entry)) steps (now (work .entry)) r (after p h b u v) (now (work .exit)))
         ⌝ }
 {
-    match test_run(p, h, b, u, v, inflow, steps, work.len()) {
-        Answer::Accepted => {
-            let answer = run_steps(p, h, b, u, v, inflow, steps, work);
-            clear_used(p, work);
-            answer
-        }
-        Answer::Refused(refusal) => {
-            clear_after(refusal, p, work);
-            RunAnswer::Refused(refusal)
-        }
-    }
+    let tested = test_run(p, h, b, u, v, inflow, steps, work.len());
+    run_tested(tested, p, h, b, u, v, inflow, steps, work)
 }
 
 // ---- the step
@@ -185,4 +209,40 @@ pub fn step(
         ⌝ }
 {
     as_step(run(p, h, b, u, v, inflow, 1, work))
+}
+
+// ---- a step of a state that is known to be within the limits
+
+// What is left to test of a step then: the inflow and the work space.
+fn test_beside(p: Parameters, inflow: &[i64], room: usize) -> Answer
+    requires { ⌜ Side (p .w) × Side (p .n) ⌝ }
+    ensures { λ r. ⌜
+        r ≡ answerOf (firstFound (besideTests (p .w * p .n) (now (inflow .entry)) room))
+        ⌝ }
+{
+    let m = p.w * p.n;
+    let lengths = tests::then_length(Answer::Accepted, m, inflow.len());
+    let work = tests::then_work(lengths, m, room);
+    tests::then_field(work, p, inflow, Field::Inflow)
+}
+
+// The same step, where the state is within the limits, as a record that was read is: none of its fields is tested again. It rules out, for
+// instance: an inflow above its bound taken; a work space that is too short.
+pub fn step_within(
+    p: Parameters,
+    h: &mut [i64],
+    b: &[i64],
+    u: &mut [i64],
+    v: &mut [i64],
+    inflow: &[i64],
+    work: &mut [i64],
+) -> StepAnswer
+    requires { ⌜ WithinLimits (lent p h b u v) ⌝ }
+    ensures { λ r. ⌜
+        (let s = before p h b u v in
+        StepPromise s (now (inflow .entry)) (now (work .entry)) r (after p h b u v) (now (work .exit)))
+        ⌝ }
+{
+    let tested = test_beside(p, inflow, work.len());
+    as_step(run_tested(tested, p, h, b, u, v, inflow, 1, work))
 }
