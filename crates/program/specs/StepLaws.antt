@@ -4,22 +4,19 @@ use mathlib.Core.List.{List}
 use Prim.Native.Nat.{ℕ, _≤_, _<_}
 use lib.IntN.{ℤ}
 use lib.ListN.{length}
-use Rattle.model.specs.State.{State, cells, WithinLimits}
+use Rattle.model.specs.Numbers.{depthLimits}
+use Rattle.model.specs.State.{State, cells, FieldWithin, WithinLimits}
 use Rattle.model.specs.Answers.{number}
 use Rattle.model.specs.Totals.{totalDepth}
 use Rattle.model.specs.Grid.{tabulate}
-use Rattle.model.specs.Promises.{TotalDepthPromise, StepPromise}
+use Rattle.model.specs.Promises.{StepPromise}
 use Rattle.model.specs.Program.{Printed, refusedLine, totalLine, cellLine, lines, stateLines, stepLines}
 use Rattle.model.specs.declared.Field.{Field}
 use Rattle.model.specs.declared.Refusal.{Refusal}
-use Rattle.model.specs.declared.TotalAnswer.{TotalAnswer}
-use Rattle.model.specs.declared.TotalAnswer.the-variants.{Total, Refused}
 use Rattle.model.specs.declared.StepAnswer.{StepAnswer}
 use Rattle.model.specs.declared.StepAnswer.the-variants as StepAnswer
 use Rattle.grid.specs.Cells.{cells-most}
-use Rattle.theorems.specs.Tests.{differ}
 use Rattle.theorems.specs.Stepping.{step-leaves}
-use Rattle.theorems.specs.Histories.{totals}
 use Rattle.printing.specs.Sink.{sink, puts, follows, printed}
 use Rattle.program.specs.Stepped.{Stepped}
 
@@ -30,12 +27,11 @@ pub cells-ready : (s : State) → WithinLimits s → (0 < s .w) × (length (s .h
 cells-ready s l =
     (l .columns .some, subst (λ m. m ≤ 4096) (sym (l .depths .long)) (cells-most (l .columns) (l .rows)), l .us .long ∙ sym (l .depths .long), l .vs .long ∙ sym (l .depths .long))
 
--- its total is a sum, and never refused
-pub total-is : (s : State) {a : TotalAnswer} {x : ℤ} → WithinLimits s → TotalDepthPromise s a → a ≡ Total x → x ≡ totalDepth s
-total-is s {a} {x} l p e = cc (sym e ∙ totals .depth s a l p)
-
-pub never-refused : (s : State) {a : TotalAnswer} {r : Refusal} {A : Type 0} → WithinLimits s → TotalDepthPromise s a → a ≡ Refused r → A
-never-refused s {a} l p e = differ (cc (sym e ∙ totals .depth s a l p))
+-- its depths may be summed
+pub depths-ready : (s : State) → WithinLimits s → FieldWithin depthLimits (length (s .h)) (s .h) × (length (s .h) ≤ 4096)
+depths-ready s l =
+    let e = sym (l .depths .long) in
+    (subst (λ (m : ℕ). FieldWithin depthLimits m (s .h)) e (l .depths), subst (λ (m : ℕ). m ≤ 4096) e (cells-most (l .columns) (l .rows)))
 
 -- the line of its total and the lines of its cells
 pub state-printed : (s : State) (out : List ℕ) {k r : ℕ} {d out′ : List ℕ} {m : ℕ} → m ≡ cells s

@@ -9,21 +9,14 @@ ghost use Rattle.program.specs.Stepped.{Ready, Stepped, SteppedParts};
 use model::Parameters;
 use model::ReadAnswer;
 use model::StepAnswer;
-use model::TotalAnswer;
 
 // Prints a state: its total depth, then each cell.
 fn print_state(p: Parameters, h: &[i64], b: &[i64], u: &[i64], v: &[i64], out: &mut [u8]) -> usize
     requires { ⌜ WithinLimits (lent p h b u v) ⌝ }
     ensures { λ r. ⌜ Printed (stateLines (before p h b u v)) (now (out .entry)) r (now (out .exit)) ⌝ }
 {
-    match totals::total_depth(p, h, b, u, v) {
-        TotalAnswer::Total(sum) => {
-            let at = printing::put_total(out, sum);
-            printing::put_cells(out, at, p.w, h, u, v)
-        }
-        // which a state within the limits never is
-        TotalAnswer::Refused(refusal) => printing::put_refused(out, telling::number_of(refusal)),
-    }
+    let at = printing::put_total(out, totals::sum_depths(h));
+    printing::put_cells(out, at, p.w, h, u, v)
 }
 
 // Steps a state within the limits, and prints what comes of it.
@@ -44,7 +37,7 @@ fn step_state(
         (now (out .entry)) r (now (out .exit)))
         ⌝ }
 {
-    match stepping::step(p, h, b, u, v, inflow, work) {
+    match stepping::step_within(p, h, b, u, v, inflow, work) {
         StepAnswer::Done => print_state(p, h, b, u, v, out),
         StepAnswer::Refused(refusal) => printing::put_refused(out, telling::number_of(refusal)),
         StepAnswer::OutOfBounds {

@@ -8,25 +8,25 @@ use Rattle.program.proofs.step_state.Tie as tie
 print-state-requires : tie.Need-print-state-requires
 print-state-requires c κs =
     let p = c .before .before .before .before .before .before .before .before .before .before in
-    after-within (p .step .ensures) (p .before .before .before .before .before .before .pre)
+    after-within (p .step-within .ensures) (p .before .before .before .before .before .before .pre)
 
 returns : tie.Need-returns
 returns c =
     let q = c .before .before in
     let e = q .before .before .before .before .before in
-    step-done (e .before .before .before .before .before .before .step .ensures) (e .enum-told .given .1) (q .print-state .ensures)
+    step-done (e .before .before .before .before .before .before .step-within .ensures) (e .enum-told .given .1) (q .print-state .ensures)
 
 returns-2 : tie.Need-returns-2
 returns-2 c =
     let q = c .before .before in
     let k = q .before .before .before .before in
-    step-refused (k .before .before .before .before .before .before .step .ensures) (k .refusal .given .1) (q .before .number-of .ensures) (q .put-refused .ensures)
+    step-refused (k .before .before .before .before .before .before .step-within .ensures) (k .refusal .given .1) (q .before .number-of .ensures) (q .put-refused .ensures)
 
 returns-3 : tie.Need-returns-3
 returns-3 c =
     let q = c .before .before in
     let e = q .before .before in
-    step-outside (e .before .before .before .before .before .before .step .ensures) (e .enum-told2 .given .1) (q .put-refused2 .ensures)
+    step-outside (e .before .before .before .before .before .before .step-within .ensures) (e .enum-told2 .given .1) (q .put-refused2 .ensures)
 
 pub step-state-spec : {M : Type 1} → statement M
 step-state-spec =
