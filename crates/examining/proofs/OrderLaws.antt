@@ -1,140 +1,103 @@
 -- Tests 1, 2, 8, 3, 4, 5 of a record that passes test 7, as the code makes them. Assumes nothing.
-use mathlib.Core.Path.{_≡_, sym, ap, ap₂, _∙_}
-use mathlib.Core.Bool.{true, false}
-use mathlib.Core.List.{List, [], _∷_}
-use mathlib.Core.Option.{Option}
-use Prim.Native.Nat.{ℕ, _*_, _≤_, _<_}
-use lib.ListN.{length}
-use borrow.Author.Tests.{le-leb, lt-leb}
-use Rattle.model.specs.Numbers.{depthLimits, bottomLimits, velocityLimits}
-use Rattle.grid.specs.Cells.{cells-most}
-use Rattle.model.specs.State.{State, stateOf, cells, boundaryOf}
-use Rattle.model.specs.Refusals.{_then_, depthOf, bottomOf, uOf, vOf, fieldsOf, gridKnown, gridTest, constantsWithin, constantsTest, valueTest, edgeTest, contentTest, roomTest}
-use Rattle.model.specs.Record.{bytesRight, bytesTest, recordTest, damaged, walked, timestampIn, judged, readBy, decode, refused}
-use Rattle.model.specs.Promises.{testAnswer}
+use mathlib.Core.Path.{_≡_, refl, sym, ap, _∙_}
+use mathlib.Core.Bool.{Bool, true, false}
+use mathlib.Core.List.{List, [], _∷_, _++_}
+use mathlib.Core.Option.{Option, none, some}
+use Prim.Native.Nat.{ℕ, _*_}
+use lib.Dec.{T}
+use lib.IntN.{ℤ}
+use Rattle.model.specs.State.{State, stateOf, parametersOf, cells}
+use Rattle.model.specs.Tests.{Test, must, _then_, firstFound}
+use Rattle.model.specs.Refusals.{Taken, taken, fieldsOf, gridKnown, gridTest, edgeTests, contentTests, roomTests}
+use Rattle.model.specs.Fields.{limitsOf}
+use Rattle.model.specs.Record.{tagTable, Part, bytesTests, recordTests, recordTest, Walked, damaged, whole, walked, stateIn, timestampIn, judged, readBy, decode, refused}
+use Rattle.model.specs.Promises.{answerOf}
+use Rattle.model.specs.Claims.{BytesOf}
 use Rattle.model.specs.declared.Parameters.{Parameters}
-use Rattle.model.specs.declared.Field.the-variants.{Depth, Bottom, VelocityU, VelocityV}
+use Rattle.model.specs.declared.Field.{Field}
+use Rattle.model.specs.declared.Field.the-variants.{VelocityU, VelocityV}
 use Rattle.model.specs.declared.Refusal.{Refusal}
-use Rattle.model.specs.declared.Refusal.the-variants.{Grid, Lengths, Constants, Destination}
-use Rattle.model.specs.declared.TestAnswer.{TestAnswer}
-use Rattle.model.specs.declared.TestAnswer.the-variants.{Passed, Refused}
-use Rattle.model.specs.declared.BoundaryByte.{BoundaryByte}
-use Rattle.faults.specs.declared.Fault.the-variants.{West, South}
-use Rattle.faults.specs.Faults.{cellTest}
-use Rattle.state.proofs.TestLaws.{edges-are}
-use Rattle.theorems.specs.Limits.{known-iff}
-use Rattle.theorems.specs.Tests.{true-T}
-use Rattle.theorems.specs.Tested.{passed-none, refused-some}
-use Rattle.wire.specs.declared.Size.the-variants.{Two, Four}
-use Rattle.wire.specs.Sizes.{numbersBy}
-use Rattle.walking.specs.Places.{partsIn, Placed, IsValue}
-use Rattle.examining.specs.Tests.{stateRead, Sized, Examined}
-use Rattle.examining.proofs.ValueLaws.{h-is, b-is, u-is, v-is, ValuesLong, values-long}
+use Rattle.model.specs.declared.Refusal.the-variants.{Grid}
+use Rattle.model.specs.declared.Answer.{Answer}
+use Rattle.model.specs.declared.Answer.the-variants.{Accepted, Refused}
+use Rattle.theorems.specs.Truth.{true-T, differ}
+use Rattle.theorems.specs.TestLaws.{passes-append, found-append}
+use Rattle.theorems.specs.RoundTrip.{bytes-iff}
+use Rattle.tests.specs.declared.Fault.{Fault}
+use Rattle.tests.specs.declared.Fault.the-variants.{West, South}
+use Rattle.tests.specs.Faults.{bare, cellTest, edges-are}
+use Rattle.tests.specs.Links.{after, Chain, passed, accepted-none, refused-some}
+use Rattle.walking.specs.Places.{partsIn, Placed, Found}
+use Rattle.examining.specs.Tests.{stateRead, Meant, Examined}
 
 -- ---- the fields as the code takes them: w·n numbers by the parameters read
 
-module _ {rec at : List ℕ} {p : Parameters} (z : Sized rec at p) where
+module _ {rec at : List ℕ} {p : Parameters} (z : Meant rec at p) where
   abbrev s : State
   s = stateRead rec
 
-  abbrev m : ℕ
-  m = p .w * p .n
-
-  pub cells-are : m ≡ cells s
+  pub cells-are : p .w * p .n ≡ cells s
   cells-are = ap (λ (p : Parameters). p .w * p .n) (z .parameters)
 
-  long : ValuesLong rec
-  long = values-long rec (z .lengths)
-
-  module _ {value : List ℕ} where
-    pub h-long : IsValue rec 4 value → length value ≡ m * 4
-    h-long v = ap length (v .is) ∙ long .h ∙ ap (λ m. m * 4) (sym cells-are)
-
-    pub b-long : IsValue rec 5 value → length value ≡ m * 4
-    b-long v = ap length (v .is) ∙ long .b ∙ ap (λ m. m * 4) (sym cells-are)
-
-    pub u-long : IsValue rec 6 value → length value ≡ m * 2
-    u-long v = ap length (v .is) ∙ long .u ∙ ap (λ m. m * 2) (sym cells-are)
-
-    pub v-long : IsValue rec 7 value → length value ≡ m * 2
-    v-long v = ap length (v .is) ∙ long .v ∙ ap (λ m. m * 2) (sym cells-are)
-
-    pub h-numbers : IsValue rec 4 value → numbersBy Four m value ≡ s .h
-    h-numbers v = ap₂ (numbersBy Four) cells-are (v .is) ∙ sym (h-is rec)
-
-    pub b-numbers : IsValue rec 5 value → numbersBy Four m value ≡ s .b
-    b-numbers v = ap₂ (numbersBy Four) cells-are (v .is) ∙ sym (b-is rec)
-
-    pub u-numbers : IsValue rec 6 value → numbersBy Two m value ≡ s .u
-    u-numbers v = ap₂ (numbersBy Two) cells-are (v .is) ∙ sym (u-is rec)
-
-    pub v-numbers : IsValue rec 7 value → numbersBy Two m value ≡ s .v
-    v-numbers v = ap₂ (numbersBy Two) cells-are (v .is) ∙ sym (v-is rec)
-
-    -- as test 4 takes them
-    pub h-taken : IsValue rec 4 value → record { field = Depth; count = m; limits = depthLimits; numbers = numbersBy Four m value } ≡ depthOf s
-    h-taken v = λ i. record { field = Depth; count = cells-are i; limits = depthLimits; numbers = h-numbers v i }
-
-    pub b-taken : IsValue rec 5 value → record { field = Bottom; count = m; limits = bottomLimits; numbers = numbersBy Four m value } ≡ bottomOf s
-    b-taken v = λ i. record { field = Bottom; count = cells-are i; limits = bottomLimits; numbers = b-numbers v i }
-
-    pub u-taken : IsValue rec 6 value → record { field = VelocityU; count = m; limits = velocityLimits; numbers = numbersBy Two m value } ≡ uOf s
-    u-taken v = λ i. record { field = VelocityU; count = cells-are i; limits = velocityLimits; numbers = u-numbers v i }
-
-    pub v-taken : IsValue rec 7 value → record { field = VelocityV; count = m; limits = velocityLimits; numbers = numbersBy Two m value } ≡ vOf s
-    v-taken v = λ i. record { field = VelocityV; count = cells-are i; limits = velocityLimits; numbers = v-numbers v i }
+  -- as test 4 takes one
+  pub own-taken : (field : Field) {l f : List ℤ} → l ≡ f → taken (bare p) field l ≡ taken s field f
+  own-taken field e = λ i. record { field = field; count = cells-are i; limits = limitsOf field; numbers = e i }
 
   -- u's edges, then v's
-  pub edges-read : {e : BoundaryByte} → e ≡ boundaryOf (p .kind)
-      → cellTest (p .w) (p .n) (s .u) VelocityU (West e) then cellTest (p .w) (p .n) (s .v) VelocityV (South e) ≡ edgeTest s
-  edges-read {e} q = edges-are p (s .h) (s .b) (s .u) (s .v) e q ∙ ap (λ p. edgeTest (stateOf p (s .h) (s .b) (s .u) (s .v))) (z .parameters)
+  pub own-edges : cellTest (p .w) (p .n) (s .u) VelocityU (West p) ∷ cellTest (p .w) (p .n) (s .v) VelocityV (South p) ∷ [] ≡ edgeTests s
+  own-edges = edges-are p (s .h) (s .b) (s .u) (s .v) ∙ ap (λ p. edgeTests (stateOf p (s .h) (s .b) (s .u) (s .v))) (z .parameters)
 
--- ---- what is answered, by the first test that fails
+-- a link whose numbers are known to be others
+pub numbers-as : (a : Answer) {r : Answer} (w n : ℕ) (field : Field) (t : Fault) {l f : List ℤ} → l ≡ f → r ≡ after a (cellTest w n l field t ∷ []) → r ≡ after a (cellTest w n f field t ∷ [])
+numbers-as a w n field t e h = h ∙ ap (λ l. after a (cellTest w n l field t ∷ [])) e
 
-module _ (rec : List ℕ) (room : ℕ) where
-  abbrev read : State
-  read = stateRead rec
+-- where test 2 has passed, after one test
+pub bytes-passed : (m : ℕ) (parts : List Part) {e a : Answer} {t : Test Refusal} {k : List (Test Refusal)} → Chain e a (t ∷ (bytesTests m parts tagTable ++ k)) → a ≡ Accepted → BytesOf m parts
+bytes-passed m parts {k = k} c h = bytes-iff m parts .0 (passes-append (bytesTests m parts tagTable) k .0 (passed c h .1) .0)
 
-  abbrev test : Option Refusal
-  test = recordTest read (partsIn rec) (room ∷ [])
+-- ---- destinations that are tested alike where the grid is known
 
-  pub unknown-grid : gridKnown read ≡ false → Refused Grid ≡ testAnswer test
-  unfolding recordTest gridTest
-  unknown-grid e = rw e
+module _ (s : State) (parts : List Part) where
+  abbrev bytes : List (Test Refusal)
+  bytes = bytesTests (cells s) parts tagTable
 
-  module _ (grid : gridKnown read ≡ true) where
-    pub most-cells : cells read ≤ 4096
-    most-cells = let k = known-iff read .0 (true-T grid) in cells-most (k .columns) (k .rows)
+  abbrev content : List (Test Refusal)
+  content = contentTests s (fieldsOf s)
 
-    pub wrong-bytes : bytesRight read (partsIn rec) ≡ false → Refused Lengths ≡ testAnswer test
-    unfolding recordTest gridTest bytesTest
-    wrong-bytes e = rw (grid, e)
+  -- the tests after test 1
+  after-grid : (l : List ℕ) → firstFound (bytes ++ (roomTests (cells s) l ++ content)) ≡ firstFound bytes then (firstFound (roomTests (cells s) l) then firstFound content)
+  after-grid l = found-append bytes (roomTests (cells s) l ++ content) ∙ ap (λ o. firstFound bytes then o) (found-append (roomTests (cells s) l) content)
 
-    module _ (bytes : bytesRight read (partsIn rec) ≡ true) where
-      pub no-room : room < cells read → Refused Destination ≡ testAnswer test
-      unfolding recordTest gridTest bytesTest roomTest
-      no-room l = rw (grid, bytes, lt-leb (cells read) room l)
+  alike : (r t : List ℕ) → (T (gridKnown (parametersOf s)) → firstFound (roomTests (cells s) r) ≡ firstFound (roomTests (cells s) t)) → recordTest s parts r ≡ recordTest s parts t
+  unfolding recordTest
+  alike r t e = by (gridKnown (parametersOf s)) refl
+    where
+      by : (b : Bool) → gridKnown (parametersOf s) ≡ b
+          → must b Grid then firstFound (bytes ++ (roomTests (cells s) r ++ content)) ≡ must b Grid then firstFound (bytes ++ (roomTests (cells s) t ++ content))
+      by true q = after-grid r ∙ ap (λ o. firstFound bytes then (o then firstFound content)) (e (true-T q)) ∙ sym (after-grid t)
+      by false q = refl
 
-      module _ (enough : cells read ≤ room) where
-        pub outside-constant : constantsWithin read ≡ false → Refused Constants ≡ testAnswer test
-        unfolding recordTest gridTest bytesTest roomTest contentTest constantsTest
-        outside-constant e = rw (grid, bytes, le-leb (cells read) room enough, e)
-
-        pub then-content : constantsWithin read ≡ true → testAnswer (valueTest (fieldsOf read) then edgeTest read) ≡ testAnswer test
-        unfolding recordTest gridTest bytesTest roomTest contentTest constantsTest
-        then-content e = rw (grid, bytes, le-leb (cells read) room enough, e)
+pub rooms-alike : (rec r t : List ℕ) → ((s : State) → T (gridKnown (parametersOf s)) → firstFound (roomTests (cells s) r) ≡ firstFound (roomTests (cells s) t)) → decode rec r ≡ decode rec t
+unfolding decode
+rooms-alike rec r t e = by (walked rec)
+  where
+    by : (w : Walked) → readBy r w ≡ readBy t w
+    by (damaged x) = refl
+    by (whole parts) = let s = stateIn parts in ap (λ o. judged o s (timestampIn parts)) (alike s parts r t (e s))
 
 -- ---- all tests, 7 first
 
 module _ (rec rooms : List ℕ) where
-  pub examined-damaged : {r : Refusal} → walked rec ≡ damaged r → decode rec rooms ≡ refused r
+  -- a refusal of test 7 stays
+  pub examined-damaged : (at : List ℕ) (a : Answer) {r : Refusal} → Found rec a at → a ≡ Refused r → Examined rec rooms a at
   unfolding decode
-  examined-damaged e = ap (readBy rooms) e
+  examined-damaged at Accepted f e = differ (cc e)
+  examined-damaged at (Refused r) f e = ap (readBy rooms) f
 
   pub decoded : {at : List ℕ} → Placed rec at → decode rec rooms ≡ judged (recordTest (stateRead rec) (partsIn rec) rooms) (stateRead rec) (timestampIn (partsIn rec))
   unfolding decode stateRead
   decoded p = ap (readBy rooms) (p .walks)
 
-  pub examined : {at : List ℕ} (r : TestAnswer) → Placed rec at → r ≡ testAnswer (recordTest (stateRead rec) (partsIn rec) rooms) → Examined rec rooms r at
-  examined Passed p e = record { placed = p; passes = passed-none (recordTest (stateRead rec) (partsIn rec) rooms) e }
+  pub examined : {at : List ℕ} (r : Answer) → Placed rec at → r ≡ answerOf (recordTest (stateRead rec) (partsIn rec) rooms) → Examined rec rooms r at
+  examined Accepted p e = record { placed = p; passes = accepted-none (recordTest (stateRead rec) (partsIn rec) rooms) e }
   examined (Refused r) p e = decoded p ∙ ap (λ o. judged o (stateRead rec) (timestampIn (partsIn rec))) (refused-some (recordTest (stateRead rec) (partsIn rec) rooms) r e)

@@ -1,15 +1,14 @@
 -- What the values of a record that passes test 7 mean. Assumes nothing.
-use mathlib.Core.Path.{_≡_, refl, _∙_}
-use mathlib.Core.Bool.{_&&_}
+use mathlib.Core.Path.{_≡_, refl, sym, ap, ap₂, _∙_}
 use mathlib.Core.List.{List}
 use Prim.Native.Nat.{ℕ, _*_}
 use native.Mathlib.Nat.{mul-comm}
-use lib.Dec.{T, eqb}
+use lib.IntN.{ℤ}
 use lib.ListN.{length}
 use borrow.Author.Tests.{eqb-true}
 use Rattle.model.specs.State.{State, cells}
-use Rattle.model.specs.Record.{valueOf, stateIn, bytesRight}
-use Rattle.theorems.specs.Tests.{and-iff, eq-iff}
+use Rattle.model.specs.Record.{valueOf, stateIn}
+use Rattle.wire.specs.declared.Size.{Size}
 use Rattle.wire.specs.declared.Size.the-variants.{Two, Four}
 use Rattle.wire.specs.Sizes.{numbersBy}
 use Rattle.walking.specs.Places.{partsIn, IsValue}
@@ -49,26 +48,13 @@ module _ (rec : List ℕ) where
   unfolding stateRead stateIn
   v-is = refl
 
--- test 2 has passed: each value has the bytes of w·n numbers
-pub record ValuesLong (rec : List ℕ) : Type 0 where
-  pub h : length (valueOf 4 (partsIn rec)) ≡ cells (stateRead rec) * 4
-  pub b : length (valueOf 5 (partsIn rec)) ≡ cells (stateRead rec) * 4
-  pub u : length (valueOf 6 (partsIn rec)) ≡ cells (stateRead rec) * 2
-  pub v : length (valueOf 7 (partsIn rec)) ≡ cells (stateRead rec) * 2
+-- ---- a tag's value, as `value_of` hands it over
 
-pub values-long : (rec : List ℕ) → T (bytesRight (stateRead rec) (partsIn rec)) → ValuesLong rec
-unfolding bytesRight
-values-long rec t =
-    let m = cells (stateRead rec) in
-    let a = eqb (length (valueOf 4 (partsIn rec))) (4 * m) in
-    let b = eqb (length (valueOf 5 (partsIn rec))) (4 * m) in
-    let c = eqb (length (valueOf 6 (partsIn rec))) (2 * m) in
-    let p = and-iff (a && b && c) (eqb (length (valueOf 7 (partsIn rec))) (2 * m)) .0 t in
-    let q = and-iff (a && b) c .0 (p .0) in
-    let r = and-iff a b .0 (q .0) in
-    record {
-      h = eq-iff (length (valueOf 4 (partsIn rec))) (4 * m) .0 (r .0) ∙ mul-comm 4 m;
-      b = eq-iff (length (valueOf 5 (partsIn rec))) (4 * m) .0 (r .1) ∙ mul-comm 4 m;
-      u = eq-iff (length (valueOf 6 (partsIn rec))) (2 * m) .0 (q .1) ∙ mul-comm 2 m;
-      v = eq-iff (length (valueOf 7 (partsIn rec))) (2 * m) .0 (p .1) ∙ mul-comm 2 m;
-    }
+module _ {rec value : List ℕ} {t : ℕ} (v : IsValue rec t value) where
+  -- test 2 has passed: it has k bytes for each of m cells
+  pub value-long : (k m : ℕ) → length (valueOf t (partsIn rec)) ≡ k * m → length value ≡ m * k
+  value-long k m e = ap length (v .is) ∙ e ∙ mul-comm k m
+
+  -- its numbers are those of a field of the state
+  pub value-numbers : (z : Size) {m : ℕ} {f : List ℤ} → m ≡ cells (stateRead rec) → f ≡ numbersBy z (cells (stateRead rec)) (valueOf t (partsIn rec)) → numbersBy z m value ≡ f
+  value-numbers z e h = ap₂ (numbersBy z) e (v .is) ∙ sym h

@@ -3,23 +3,21 @@ use mathlib.Core.Path.{_≡_}
 use mathlib.Core.List.{List}
 use mathlib.Core.Option.{none}
 use Prim.Native.Nat.{ℕ}
-use lib.Dec.{T}
 use Rattle.model.specs.State.{State, parametersOf}
-use Rattle.model.specs.Record.{stateIn, bytesRight, recordTest, refused, decode}
+use Rattle.model.specs.Record.{stateIn, recordTest, refused, decode}
 use Rattle.model.specs.declared.Parameters.{Parameters}
-use Rattle.model.specs.declared.TestAnswer.{TestAnswer}
-use Rattle.model.specs.declared.TestAnswer.the-variants.{Passed, Refused}
+use Rattle.model.specs.declared.Answer.{Answer}
+use Rattle.model.specs.declared.Answer.the-variants as Answer
 use Rattle.walking.specs.Places.{partsIn, Placed}
 
 -- the state that the fields of a record mean
 unfoldable pub stateRead : List ℕ → State
 stateRead rec = stateIn (partsIn rec)
 
--- tests 7 and 2 have passed, and p is what tags 1 and 2 say
-pub record Sized (rec at : List ℕ) (p : Parameters) : Type 0 where
+-- test 7 has passed, and p is what tags 1 and 2 say
+pub record Meant (rec at : List ℕ) (p : Parameters) : Type 0 where
   pub placed : Placed rec at
   pub parameters : p ≡ parametersOf (stateRead rec)
-  pub lengths : T (bytesRight (stateRead rec) (partsIn rec))
 
 -- all tests have passed, for destinations of so many places
 pub record Accepted (rec at rooms : List ℕ) : Type 0 where
@@ -27,6 +25,6 @@ pub record Accepted (rec at rooms : List ℕ) : Type 0 where
   pub passes : recordTest (stateRead rec) (partsIn rec) rooms ≡ none
 
 -- what they find, with the places of the tags
-abbrev pub Examined : List ℕ → List ℕ → TestAnswer → List ℕ → Type 0
-Examined rec rooms Passed at = Accepted rec at rooms
-Examined rec rooms (Refused r) at = decode rec rooms ≡ refused r
+abbrev pub Examined : List ℕ → List ℕ → Answer → List ℕ → Type 0
+Examined rec rooms Answer.Accepted at = Accepted rec at rooms
+Examined rec rooms (Answer.Refused r) at = decode rec rooms ≡ refused r

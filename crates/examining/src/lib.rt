@@ -1,32 +1,38 @@
 // The tests of a record, 7, 1, 2, 8, 3, 4, 5, on its bytes: no field is copied to test it, each number is decoded where it stands.
-// Reader and comparison share them.
+// After 7 they are links of a chain, as in `tests`. Reader and comparison share them.
 ghost use mathlib.Core.Path.{_≡_};
 ghost use mathlib.Core.List.{[], _∷_};
 ghost use Prim.Native.Nat.{_*_, _≤_};
-ghost use lib.Dec.{eqb};
 ghost use lib.ListN.{length, replicate};
 ghost use Rattle.model.specs.Grid.{firstFrom};
-ghost use Rattle.model.specs.State.{State, parametersOf, cells};
-ghost use Rattle.model.specs.Refusals.{_then_, fieldsOf, valueTest, edgeTest};
-ghost use Rattle.model.specs.Record.{valueOf, timestampIn, bytesRight, recordTest};
-ghost use Rattle.model.specs.Promises.{testAnswer};
-ghost use Rattle.faults.specs.Faults.{limitsOf, badIn, foundBy, cellTest};
-ghost use Rattle.state.specs.InOrder.{foundIn};
+ghost use Rattle.model.specs.State.{parametersOf};
+ghost use Rattle.model.specs.Refusals.{taken, fieldsOf, valueTest, valueTests, edgeTests};
+ghost use Rattle.model.specs.Record.{tagTable, sizeIn, valueOf, timestampIn, bytesTest, bytesTests, recordTest};
+ghost use Rattle.model.specs.Promises.{answerOf};
+ghost use Rattle.model.specs.Claims.{BytesOf};
+ghost use Rattle.model.specs.declared.Answer.the-variants.{Accepted};
+ghost use Rattle.model.specs.declared.Refusal.the-variants.{Value};
+ghost use Rattle.integers.specs.Ranges.{between};
+ghost use Rattle.tests.specs.Faults.{bare, badIn, foundBy, cellTest};
+ghost use Rattle.tests.specs.Links.{after};
 ghost use Rattle.wire.specs.Sizes.{sizeOf, numbersBy};
-ghost use Rattle.walking.specs.Places.{partsIn, Placed};
-ghost use Rattle.examining.specs.Tests.{stateRead, Sized, Examined};
-use faults::Fault;
-use faults::Found;
+ghost use Rattle.wire.specs.Tags.{lastTag};
+ghost use Rattle.walking.specs.Places.{places, partsIn, Placed};
+ghost use Rattle.examining.specs.Tests.{stateRead, Meant, Examined};
+use integers::Range;
+use model::Answer;
 use model::Field;
 use model::Parameters;
-use model::Refusal;
-use model::TestAnswer;
+use tests::Fault;
+use tests::Found;
+use walking::Places;
 use wire::Size;
+use wire::TagSize;
 
 // ---- tags 1, 2 and 3
 
 // What tags 1 and 2 say. It rules out, for instance: rows read for columns; c read for G.
-pub fn parameters_in(rec: &[u8], at: &[usize; 8]) -> Parameters
+pub fn parameters_in(rec: &[u8], at: &Places) -> Parameters
     requires { ⌜ Placed (now rec) (now at) ⌝ }
     ensures { λ r. ⌜ r ≡ parametersOf (stateRead (now (rec .entry))) ⌝ }
 {
@@ -43,7 +49,7 @@ pub fn parameters_in(rec: &[u8], at: &[usize; 8]) -> Parameters
 }
 
 // What tag 3 says: the timestamp (01: stamp). It rules out, for instance: its last four bytes alone; the lowest byte first.
-pub fn timestamp_in(rec: &[u8], at: &[usize; 8]) -> u64
+pub fn timestamp_in(rec: &[u8], at: &Places) -> u64
     requires { ⌜ Placed (now rec) (now at) ⌝ }
     ensures { λ r. ⌜ r ≡ timestampIn (partsIn (now (rec .entry))) ⌝ }
 {
@@ -52,30 +58,31 @@ pub fn timestamp_in(rec: &[u8], at: &[usize; 8]) -> u64
 
 // ---- test 2
 
-// Whether a tag's value has so many bytes.
-fn has_bytes(rec: &[u8], at: &[usize; 8], tag: usize, count: usize) -> bool
-    requires { ⌜ Placed (now rec) (now at) × (1 ≤ tag) × (tag ≤ 7) ⌝ }
-    ensures { λ r. ⌜ r ≡ eqb (length (valueOf tag (partsIn (now (rec .entry))))) count ⌝ }
+// Test 2 of one tag: its value has the table's bytes of m cells. Where the table has a fixed length, test 7 has asked for it.
+fn then_bytes(earlier: Answer, rec: &[u8], at: &Places, tag: usize, m: usize) -> Answer
+    requires { ⌜ Placed (now rec) (now at) × (1 ≤ tag) × (tag ≤ lastTag) × (m ≤ 4096) ⌝ }
+    ensures { λ r. ⌜
+        (let value = valueOf tag (partsIn (now (rec .entry))) in
+        r ≡ after earlier (bytesTest m value (sizeIn tagTable tag)))
+        ⌝ }
 {
     let value = walking::value_of(rec, at, tag);
-    value.len() == count
+    match wire::tag_size(tag) {
+        TagSize::Fixed(_) => earlier,
+        TagSize::PerCell(k) => tests::then_length(earlier, k * m, value.len()),
+    }
 }
 
-// Test 2: tags 4 to 7 have the bytes of m numbers.
-fn bytes_right(rec: &[u8], at: &[usize; 8], m: usize) -> bool
+// Test 2 of all tags, by rising tag, wherever they stand.
+fn then_values(earlier: Answer, rec: &[u8], at: &Places, m: usize) -> Answer
     requires { ⌜ Placed (now rec) (now at) × (m ≤ 4096) ⌝ }
-    ensures { λ r. ⌜ ((s : State) → cells s ≡ m → r ≡ bytesRight s (partsIn (now (rec .entry)))) ⌝ }
+    ensures { λ r. ⌜ r ≡ after earlier (bytesTests m (partsIn (now (rec .entry))) tagTable) ⌝ }
 {
-    if !has_bytes(rec, at, 4, 4 * m) {
-        return false;
+    let mut answer = earlier;
+    for tag in 1..=wire::LAST_TAG {
+        answer = then_bytes(answer, rec, at, tag, m);
     }
-    if !has_bytes(rec, at, 5, 4 * m) {
-        return false;
-    }
-    if !has_bytes(rec, at, 6, 2 * m) {
-        return false;
-    }
-    has_bytes(rec, at, 7, 2 * m)
+    answer
 }
 
 // ---- tests 4 and 5
@@ -88,14 +95,14 @@ fn first_bad_in(w: usize, n: usize, value: &[u8], size: Size, t: Fault) -> Found
         ⌝ }
 {
     let each = wire::bytes_of(size);
-    let columns = faults::columns_of(t, w);
-    let rows = faults::rows_of(t, n);
+    let columns = tests::columns_of(t, w);
+    let rows = tests::rows_of(t, n);
     let mut found = Found::Nowhere;
     'scan: for j in 0..rows {
         for i in 0..columns {
             let k = j * w + i;
             let x = wire::number_at(value, k * each, size);
-            if faults::is_bad(t, x, i, j) {
+            if tests::is_bad(t, x, i, j) {
                 found = Found::At(k);
                 break 'scan;
             }
@@ -104,141 +111,118 @@ fn first_bad_in(w: usize, n: usize, value: &[u8], size: Size, t: Fault) -> Found
     found
 }
 
-// The refusal found so far, or else that of the first cell with the fault.
+// The test of a field's cells, in its bytes.
 fn then_cells_in(
-    earlier: TestAnswer,
-    w: usize,
-    n: usize,
+    earlier: Answer,
+    p: Parameters,
     value: &[u8],
     size: Size,
     field: Field,
     t: Fault,
-) -> TestAnswer
-    requires { ⌜ length (now value) ≡ w * n * sizeOf size ⌝ }
+) -> Answer
+    requires { ⌜ (earlier ≡ Accepted → length (now value) ≡ p .w * p .n * sizeOf size) ⌝ }
     ensures { λ r. ⌜
-        r ≡ testAnswer
-        (foundIn earlier then cellTest w n (numbersBy size (w * n) (now (value .entry))) field t)
+        (let numbers = numbersBy size (p .w * p .n) (now (value .entry)) in
+        r ≡ after earlier (cellTest (p .w) (p .n) numbers field t ∷ []))
         ⌝ }
 {
-    let TestAnswer::Passed = earlier else {
+    let Answer::Accepted = earlier else {
         return earlier;
     };
-    match first_bad_in(w, n, value, size, t) {
-        Found::At(k) => TestAnswer::Refused(faults::refusal_of(t, field, k)),
-        Found::Nowhere => TestAnswer::Passed,
-    }
+    tests::found_answer(first_bad_in(p.w, p.n, value, size, t), field, t)
 }
 
-// Test 4 of one field: its numbers and their bounds.
-fn then_field_in(
-    earlier: TestAnswer,
-    w: usize,
-    n: usize,
+// Test 4 of one field, by these limits.
+fn then_within_in(
+    earlier: Answer,
+    p: Parameters,
     value: &[u8],
     size: Size,
     field: Field,
-) -> TestAnswer
-    requires { ⌜ length (now value) ≡ w * n * sizeOf size ⌝ }
+    limits: Range,
+) -> Answer
+    requires { ⌜ (earlier ≡ Accepted → length (now value) ≡ p .w * p .n * sizeOf size) ⌝ }
     ensures { λ r. ⌜
-        r ≡ testAnswer
-        (foundIn earlier then valueTest
-        (record {
-          field = field;
-          count = w * n;
-          limits = limitsOf field;
-          numbers = numbersBy size (w * n) (now (value .entry));
-        } ∷ []))
+        (let numbers = numbersBy size (p .w * p .n) (now (value .entry)) in
+        r ≡ after earlier
+        (valueTest Value
+        (record { field = field; count = p .w * p .n; limits = between limits; numbers = numbers }) ∷ []))
         ⌝ }
 {
-    then_cells_in(
-        earlier,
-        w,
-        n,
-        value,
-        size,
-        field,
-        Fault::Outside(faults::limits(field)),
-    )
+    then_cells_in(earlier, p, value, size, field, Fault::Outside(limits))
+}
+
+// Test 4 of one field, by 01's limits.
+fn then_field_in(earlier: Answer, p: Parameters, value: &[u8], size: Size, field: Field) -> Answer
+    requires { ⌜ (earlier ≡ Accepted → length (now value) ≡ p .w * p .n * sizeOf size) ⌝ }
+    ensures { λ r. ⌜
+        (let numbers = numbersBy size (p .w * p .n) (now (value .entry)) in
+        r ≡ after earlier (valueTest Value (taken (bare p) field numbers) ∷ []))
+        ⌝ }
+{
+    then_within_in(earlier, p, value, size, field, tests::limits(field))
 }
 
 // Test 4, in 01's order of the fields, wherever their tags stand.
-fn test_fields_in(rec: &[u8], at: &[usize; 8], p: Parameters) -> TestAnswer
-    requires { ⌜ Sized (now rec) (now at) p ⌝ }
-    ensures { λ r. ⌜ r ≡ testAnswer (valueTest (fieldsOf (stateRead (now (rec .entry))))) ⌝ }
+fn then_fields_in(earlier: Answer, rec: &[u8], at: &Places, p: Parameters) -> Answer
+    requires { ⌜
+        Meant (now rec) (now at) p
+        × (earlier ≡ Accepted → BytesOf (p .w * p .n) (partsIn (now rec)))
+        ⌝ }
+    ensures { λ r. ⌜ r ≡ after earlier (valueTests Value (fieldsOf (stateRead (now (rec .entry))))) ⌝ }
 {
     let h = walking::value_of(rec, at, 4);
-    let first = then_field_in(TestAnswer::Passed, p.w, p.n, h, Size::Four, Field::Depth);
     let b = walking::value_of(rec, at, 5);
-    let second = then_field_in(first, p.w, p.n, b, Size::Four, Field::Bottom);
     let u = walking::value_of(rec, at, 6);
-    let third = then_field_in(second, p.w, p.n, u, Size::Two, Field::VelocityU);
     let v = walking::value_of(rec, at, 7);
-    then_field_in(third, p.w, p.n, v, Size::Two, Field::VelocityV)
+    let depth = then_field_in(earlier, p, h, Size::Four, Field::Depth);
+    let bottom = then_field_in(depth, p, b, Size::Four, Field::Bottom);
+    let west = then_field_in(bottom, p, u, Size::Two, Field::VelocityU);
+    then_field_in(west, p, v, Size::Two, Field::VelocityV)
 }
 
 // Test 5: u before v.
-fn then_edges_in(earlier: TestAnswer, rec: &[u8], at: &[usize; 8], p: Parameters) -> TestAnswer
-    requires { ⌜ Sized (now rec) (now at) p ⌝ }
-    ensures { λ r. ⌜ r ≡ testAnswer (foundIn earlier then edgeTest (stateRead (now (rec .entry)))) ⌝ }
+fn then_edges_in(earlier: Answer, rec: &[u8], at: &Places, p: Parameters) -> Answer
+    requires { ⌜
+        Meant (now rec) (now at) p
+        × (earlier ≡ Accepted → BytesOf (p .w * p .n) (partsIn (now rec)))
+        ⌝ }
+    ensures { λ r. ⌜ r ≡ after earlier (edgeTests (stateRead (now (rec .entry)))) ⌝ }
 {
-    let e = grid::boundary_of(p.kind);
     let u = walking::value_of(rec, at, 6);
-    let first = then_cells_in(
-        earlier,
-        p.w,
-        p.n,
-        u,
-        Size::Two,
-        Field::VelocityU,
-        Fault::West(e),
-    );
     let v = walking::value_of(rec, at, 7);
-    then_cells_in(
-        first,
-        p.w,
-        p.n,
-        v,
-        Size::Two,
-        Field::VelocityV,
-        Fault::South(e),
-    )
+    let west = then_cells_in(earlier, p, u, Size::Two, Field::VelocityU, Fault::West(p));
+    then_cells_in(west, p, v, Size::Two, Field::VelocityV, Fault::South(p))
 }
 
 // ---- all of them
 
-// Tests 1, 2, 8, 3, 4, 5 of a record that passes test 7; `room` is the length of the shortest destination. The product w·n is formed
-// only once test 1 has passed.
-fn test_record(rec: &[u8], at: &[usize; 8], room: usize) -> TestAnswer
+// Tests 1, 2, 8, 3, 4, 5 of a record that passes test 7; `room` is the length of the shortest destination.
+fn test_record(rec: &[u8], at: &Places, room: usize) -> Answer
     requires { ⌜ Placed (now rec) (now at) ⌝ }
     ensures { λ r. ⌜
-        r ≡ testAnswer (recordTest (stateRead (now (rec .entry))) (partsIn (now (rec .entry))) (room ∷ []))
+        r ≡ answerOf (recordTest (stateRead (now (rec .entry))) (partsIn (now (rec .entry))) (room ∷ []))
         ⌝ }
 {
     let p = parameters_in(rec, at);
-    if !state::grid_known(p) {
-        return TestAnswer::Refused(Refusal::Grid);
-    }
-    if !bytes_right(rec, at, p.w * p.n) {
-        return TestAnswer::Refused(Refusal::Lengths);
-    }
-    if room < p.w * p.n {
-        return TestAnswer::Refused(Refusal::Destination);
-    }
-    if !state::constants_within(p) {
-        return TestAnswer::Refused(Refusal::Constants);
-    }
-    then_edges_in(test_fields_in(rec, at, p), rec, at, p)
+    let m = tests::cells_of(p);
+    let grid = tests::then_grid(Answer::Accepted, p);
+    let bytes = then_values(grid, rec, at, m);
+    let rooms = tests::then_room(bytes, m, room);
+    let constants = tests::then_constants(rooms, p);
+    let values = then_fields_in(constants, rec, at, p);
+    then_edges_in(values, rec, at, p)
 }
 
 // All tests of a record, 7 first; `at` then has the places of its tags. It rules out, for instance: 8 told before 2; 3 told before 8;
 // 4 by the place of the tag.
-pub fn examine(rec: &[u8], at: &mut [usize; 8], room: usize) -> TestAnswer
-    requires { ⌜ now at ≡ replicate 8 (length (now rec)) ⌝ }
+pub fn examine(rec: &[u8], at: &mut Places, room: usize) -> Answer
+    requires { ⌜ now at ≡ replicate places (length (now rec)) ⌝ }
     ensures { λ r. ⌜ Examined (now (rec .entry)) (room ∷ []) r (now (at .exit)) ⌝ }
 {
     let walked = walking::walk(rec, at);
-    match walked {
-        TestAnswer::Passed => test_record(rec, at, room),
-        TestAnswer::Refused(refusal) => TestAnswer::Refused(refusal),
-    }
+    let Answer::Accepted = walked else {
+        return walked;
+    };
+    test_record(rec, at, room)
 }

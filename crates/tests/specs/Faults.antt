@@ -1,7 +1,7 @@
--- What can be wrong with a cell, and the test of a field's cells.
-use mathlib.Core.Path.{_≡_}
+-- What can be wrong with a cell, and the test of a field's cells. Assumes nothing.
+use mathlib.Core.Path.{_≡_, refl}
 use mathlib.Core.Bool.{Bool, false, not, _&&_}
-use mathlib.Core.List.{List, []}
+use mathlib.Core.List.{List, [], _∷_}
 use mathlib.Core.Option.{Option, none, some}
 use Prim.Native.Nat.{ℕ, _*_, _/_, _%_, _≤_, _<_}
 use lib.IntN.{ℤ, pos}
@@ -9,10 +9,12 @@ use lib.ListN.{getD}
 use Rattle.model.specs.Numbers.{within, eqℤ}
 use Rattle.model.specs.State.{State, stateOf, closedWest, closedSouth}
 use Rattle.model.specs.Tests.{Test, seeks}
+use Rattle.model.specs.Refusals.{edgeTests}
 use Rattle.model.specs.declared.Parameters.{Parameters}
 use Rattle.model.specs.declared.Answer.{Answer}
 use Rattle.model.specs.declared.Answer.the-variants as Answer
 use Rattle.model.specs.declared.Field.{Field}
+use Rattle.model.specs.declared.Field.the-variants.{VelocityU, VelocityV}
 use Rattle.model.specs.declared.Refusal.{Refusal}
 use Rattle.model.specs.declared.Refusal.the-variants.{Value, ClosedEdge}
 use Rattle.integers.specs.Ranges.{between}
@@ -65,3 +67,9 @@ cellTest w n f field t = seeks (badIn t w f) (w * n) (refusalBy t field)
 abbrev pub answerBy : (ℕ → Refusal) → Found → Answer
 answerBy r Nowhere = Answer.Accepted
 answerBy r (At k) = Answer.Refused (r k)
+
+-- test 5, u before v: whether an edge is closed goes by the parameters alone
+pub edges-are : (p : Parameters) (h b u v : List ℤ)
+    → cellTest (p .w) (p .n) u VelocityU (West p) ∷ cellTest (p .w) (p .n) v VelocityV (South p) ∷ [] ≡ edgeTests (stateOf p h b u v)
+unfolding closedWest closedSouth
+edges-are p h b u v = refl

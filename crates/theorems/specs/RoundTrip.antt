@@ -84,7 +84,7 @@ back2 f h p = ap (λ m. numbers signed2 2 m (eachBy bytes2 f)) (sym (p .long)) �
 
 -- ---- the tests of a record
 
-bytes-iff : (m : ℕ) (parts : List Part) → EachPasses (bytesTests m parts tagTable) ↔ BytesOf m parts
+pub bytes-iff : (m : ℕ) (parts : List Part) → EachPasses (bytesTests m parts tagTable) ↔ BytesOf m parts
 bytes-iff m parts =
     let i : (t k : ℕ) → _ = λ t k. eq-iff (length (valueOf t parts)) (k * m) in (
       λ p. (i 4 4 .0 (p .0), i 5 4 .0 (p .1 .0), i 6 2 .0 (p .1 .1 .0), i 7 2 .0 (p .1 .1 .1 .0)),

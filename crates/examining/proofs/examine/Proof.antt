@@ -13,16 +13,15 @@ placed c = let w = c .before .before in subst (λ r. Found (w .before .before .b
 
 returns : tie.Need-returns
 returns c =
+    let w = c .before .before in
+    let a = w .before .before .before .args in
+    examined-damaged (a .rec .now) (a .room ∷ []) (w .walk .last .1 .0) (w .walk .result) (w .walk .ensures) (c .enum-told2 .given .1)
+
+returns-2 : tie.Need-returns-2
+returns-2 c =
     let e = c .before .before in
     let a = e .before .before .before .before .before .args in
     examined (a .rec .now) (a .room ∷ []) (c .test-record .result) (placed e) (c .test-record .ensures)
 
-returns-2 : tie.Need-returns-2
-returns-2 c =
-    let w = c .before .before .before in
-    let a = w .before .before .before .args in
-    examined-damaged (a .rec .now) (a .room ∷ []) (subst (λ r. Found (a .rec .now) r (w .walk .last .1 .0)) (c .before .walked .given .1) (w .walk .ensures))
-
 pub examine-spec : {M : Type 1} → statement M
-examine-spec =
-    tie.close (tie.spec (λ c κs. search needs) (λ c. search needs) (λ c κs. placed (c .before)) (λ c. search needs) returns returns-2)
+examine-spec = tie.close (tie.spec (λ c κs. search needs) (λ c. search needs) (λ c. search needs) returns (λ c κs. placed (c .before)) returns-2)

@@ -10,9 +10,9 @@ use mir.Syntax.{w64}
 use Rattle.integers.specs.Bounds.{held-is}
 use Rattle.grid.specs.Cells.{cell-lt, by-index}
 use Rattle.grid.specs.Scanning.{Scanned, scanned-none, scanned-at, scanned-more, scanned-bad}
-use Rattle.faults.specs.Faults.{badAt, badIn, foundBy}
-use Rattle.faults.proofs.ScanLaws.{row-scanned, rows-scanned}
-use Rattle.faults.specs.declared.Found.the-variants.{Nowhere}
+use Rattle.tests.specs.Faults.{badAt, badIn, foundBy}
+use Rattle.tests.proofs.ScanLaws.{row-scanned, rows-scanned}
+use Rattle.tests.specs.declared.Found.the-variants.{Nowhere}
 use Rattle.wire.specs.Sizes.{sizeOf, signedBy, numbersBy}
 use Rattle.wire.specs.Bytes.{number-within, number-is, place-least}
 use Rattle.examining.proofs.first_bad_in.Statement.{statement}

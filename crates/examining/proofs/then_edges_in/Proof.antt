@@ -1,36 +1,51 @@
--- `examining::then_edges_in` meets its contract. The two scans, of u along west edges and of v along south edges, are those of the
--- state that the bytes mean (`u-numbers`, `v-numbers`), and one after the other they are test 5 (`edges-read`). Assumes nothing.
-use mathlib.Core.Path.{ap, _∙_}
+-- `examining::then_edges_in` meets its contract: the two scans, of u along west edges and of v along south edges, are those of the state
+-- that the bytes mean. Assumes nothing.
+use mathlib.Core.Path.{_≡_, ap, _∙_}
+use mathlib.Core.List.{[], _∷_}
+use Prim.Native.Nat.{ℕ, _*_}
 use borrow.Author.Needs.{needs}
-use Rattle.model.specs.Refusals.{_then_}
-use Rattle.model.specs.Promises.{testAnswer}
+use Rattle.model.specs.State.{State}
 use Rattle.model.specs.declared.Field.the-variants.{VelocityU, VelocityV}
-use Rattle.faults.specs.declared.Fault.the-variants.{West, South}
-use Rattle.faults.specs.Faults.{cellTest}
-use Rattle.state.specs.InOrder.{foundIn}
-use Rattle.state.proofs.TestLaws.{after}
-use Rattle.theorems.specs.Tested.{then-assoc}
+use Rattle.tests.specs.declared.Fault.the-variants.{West, South}
+use Rattle.tests.specs.Faults.{cellTest}
+use Rattle.tests.specs.Links.{after, Chain, start, more, begun}
+use Rattle.wire.specs.declared.Size.the-variants.{Two}
 use Rattle.examining.specs.Tests.{stateRead}
-use Rattle.examining.proofs.OrderLaws.{u-long, v-long, u-numbers, v-numbers, edges-read}
+use Rattle.examining.proofs.ValueLaws.{u-is, v-is, value-long, value-numbers}
+use Rattle.examining.proofs.OrderLaws.{cells-are, own-edges, numbers-as}
 use Rattle.examining.proofs.then_edges_in.Statement.{statement}
 use Rattle.examining.proofs.then_edges_in.Tie as tie
 
+abbrev start-of : tie.After-value-of2 → tie.Start
+start-of c = c .before .before .before
+
+abbrev state : tie.After-value-of2 → State
+state c = stateRead (start-of c .args .rec .now)
+
+abbrev cells-of : tie.After-value-of2 → ℕ
+cells-of c = let p = start-of c .args .p in p .w * p .n
+
+-- u's edges, the first link
+west : (c : tie.After-then-cells-in)
+    → let q = c .before in let a = start-of q .args in Chain (a .earlier) (c .then-cells-in .result) (cellTest (a .p .w) (a .p .n) (state q .u) VelocityU (West (a .p)) ∷ [])
+west c =
+    let q = c .before in
+    let b = start-of q in
+    let a = b .args in
+    let numbers = value-numbers (q .before .value-of .ensures) Two (cells-are (b .pre .0)) (u-is (a .rec .now)) in
+    start (a .earlier) _ (numbers-as (a .earlier) (a .p .w) (a .p .n) VelocityU (West (a .p)) numbers (c .then-cells-in .ensures))
+
 returns : tie.Need-returns
 returns c =
-    let q2 = c .before in
-    let f = q2 .before in
-    let q1 = f .before in
-    let e = q1 .before in
-    let a = e .before .before .args in
-    let z = e .before .before .pre in
-    let o = foundIn (a .earlier) in
-    let west = cellTest (a .p .w) (a .p .n) (stateRead (a .rec .now) .u) VelocityU (West (e .boundary-of .result)) in
-    let south = cellTest (a .p .w) (a .p .n) (stateRead (a .rec .now) .v) VelocityV (South (e .boundary-of .result)) in
-    after (o then west) south
-    (f .then-cells-in .ensures ∙ ap (λ l. testAnswer (o then cellTest (a .p .w) (a .p .n) l VelocityU (West (e .boundary-of .result)))) (u-numbers z (q1 .value-of .ensures)))
-    (c .then-cells-in2 .ensures
-    ∙ ap (λ l. testAnswer (foundIn (f .then-cells-in .result) then cellTest (a .p .w) (a .p .n) l VelocityV (South (e .boundary-of .result)))) (v-numbers z (q2 .value-of2 .ensures)))
-    ∙ ap testAnswer (then-assoc o west south ∙ ap (λ q. o then q) (edges-read z (e .boundary-of .ensures)))
+    let w = c .before in
+    let q = w .before in
+    let b = start-of q in
+    let a = b .args in
+    let numbers = value-numbers (q .value-of2 .ensures) Two (cells-are (b .pre .0)) (v-is (a .rec .now)) in
+    more (cellTest (a .p .w) (a .p .n) (state q .v) VelocityV (South (a .p)) ∷ []) (west w)
+    (numbers-as (w .then-cells-in .result) (a .p .w) (a .p .n) VelocityV (South (a .p)) numbers (c .then-cells-in2 .ensures))
+    .is
+    ∙ ap (after (a .earlier)) (own-edges (b .pre .0))
 
 pub then-edges-in-spec : {M : Type 1} → statement M
 then-edges-in-spec =
@@ -38,7 +53,6 @@ then-edges-in-spec =
     (tie.spec
     (λ c κs. search needs)
     (λ c κs. search needs)
-    (λ c κs. u-long (c .before .before .before .pre) (c .value-of .ensures))
-    (λ c κs. search needs)
-    (λ c κs. v-long (c .before .before .before .before .before .pre) (c .value-of2 .ensures))
+    (λ c κs h. value-long (c .before .value-of .ensures) 2 (cells-of c) (start-of c .pre .1 h .2))
+    (λ c κs h. let q = c .before in value-long (q .value-of2 .ensures) 2 (cells-of q) (start-of q .pre .1 (begun (west c) h) .3))
     returns)

@@ -1,21 +1,12 @@
 -- `tests::then_edges` meets its contract: whether an edge is closed goes by the parameters alone. Assumes nothing.
-use mathlib.Core.Path.{_≡_, refl, ap, _∙_}
-use mathlib.Core.List.{List, [], _∷_}
-use lib.IntN.{ℤ}
-use Rattle.model.specs.State.{stateOf, closedWest, closedSouth}
-use Rattle.model.specs.Refusals.{edgeTests}
-use Rattle.model.specs.declared.Parameters.{Parameters}
+use mathlib.Core.Path.{ap, _∙_}
+use mathlib.Core.List.{[], _∷_}
 use Rattle.model.specs.declared.Field.the-variants.{VelocityU, VelocityV}
 use Rattle.tests.specs.declared.Fault.the-variants.{West, South}
-use Rattle.tests.specs.Faults.{cellTest}
+use Rattle.tests.specs.Faults.{cellTest, edges-are}
 use Rattle.tests.specs.Links.{after, Chain, start, more, begun}
 use Rattle.tests.proofs.then_edges.Statement.{statement}
 use Rattle.tests.proofs.then_edges.Tie as tie
-
-edges-are : (p : Parameters) (h b u v : List ℤ)
-    → cellTest (p .w) (p .n) u VelocityU (West p) ∷ cellTest (p .w) (p .n) v VelocityV (South p) ∷ [] ≡ edgeTests (stateOf p h b u v)
-unfolding closedWest closedSouth
-edges-are p h b u v = refl
 
 -- u's edges, the first link
 west : (c : tie.After-then-cells) → let a = c .before .args in Chain (a .earlier) (c .then-cells .result) (cellTest (a .p .w) (a .p .n) (a .u .now) VelocityU (West (a .p)) ∷ [])
