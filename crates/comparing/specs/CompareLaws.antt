@@ -1,22 +1,21 @@
 -- What the comparison of two records answers, by what is found in each. Assumes nothing.
 use mathlib.Core.Path.{_≡_, refl, sym, ap, ap₂, _∙_}
-use mathlib.Core.Bool.{Bool, true, false, cond}
+use mathlib.Core.Bool.{Bool, cond}
 use mathlib.Core.List.{List, []}
 use Prim.Native.Nat.{ℕ, _≤_, _<_}
 use borrow.Author.Tests.{lt-ltb, le-ltb, le-leb}
 use Rattle.grid.specs.Cells.{cells-most}
-use Rattle.model.specs.State.{State, cells}
-use Rattle.model.specs.Refusals.{gridKnown, gridTest, roomTest}
-use Rattle.model.specs.Record.{Part, Walked, damaged, whole, walked, stateIn, timestampIn, recordTest, judged, accepted, refused, readBy, decode, sameState, compared, compareBy, compareAnswer}
+use Rattle.model.specs.State.{parametersOf, cells}
+use Rattle.model.specs.Record.{timestampIn, judged, accepted, refused, decode, sameState, compared, compareBy, compareAnswer}
 use Rattle.model.specs.Answers.{toldCompare}
 use Rattle.model.specs.Promises.{ComparePromise}
 use Rattle.model.specs.declared.Refusal.{Refusal}
 use Rattle.model.specs.declared.CompareAnswer.{CompareAnswer}
 use Rattle.model.specs.declared.CompareAnswer.the-variants.{Same, FirstNewer, SecondNewer, Conflict, FirstRefused, SecondRefused}
-use Rattle.theorems.specs.Tests.{true-T}
 use Rattle.theorems.specs.Limits.{known-iff}
 use Rattle.walking.specs.Places.{partsIn}
 use Rattle.examining.specs.Tests.{stateRead, Accepted}
+use Rattle.examining.proofs.OrderLaws.{decoded, rooms-alike}
 use Rattle.comparing.specs.Read.{rooms, BothRead, comparedRead}
 
 -- ---- two accepted records, by the tests in order
@@ -45,25 +44,13 @@ module _ {first second : List ℕ} {a b : ℕ} (t : Timestamps first second a b)
 
 -- ---- no destination is lent: a known grid has at most 4096 cells, and an unknown one is refused before the room is tested
 
-room-by : (s : State) (parts : List Part) (known : Bool) → gridKnown s ≡ known → recordTest s parts rooms ≡ recordTest s parts []
-unfolding recordTest gridTest roomTest
-room-by s parts true e = let k = known-iff s .0 (true-T e) in rw (e, le-leb (cells s) 4096 (cells-most (k .columns) (k .rows)))
-room-by s parts false e = rw e
-
-read-by : (w : Walked) → readBy rooms w ≡ readBy [] w
-read-by (damaged r) = refl
-read-by (whole parts) = ap (λ o. judged o (stateIn parts) (timestampIn parts)) (room-by (stateIn parts) parts (gridKnown (stateIn parts)) refl)
-
 no-room-needed : (rec : List ℕ) → decode rec rooms ≡ decode rec []
-unfolding decode
-no-room-needed rec = read-by (walked rec)
+no-room-needed rec = rooms-alike rec rooms [] (λ s t. let k = known-iff (parametersOf s) .0 t in rw (le-leb (cells s) 4096 (cells-most (k .columns) (k .rows))))
 
 -- ---- what is found in a record
 
 found-in : {rec at : List ℕ} → Accepted rec at rooms → decode rec [] ≡ accepted (stateRead rec) (timestampIn (partsIn rec))
-unfolding decode stateRead
-found-in {rec} a =
-    sym (no-room-needed rec) ∙ ap (readBy rooms) (a .placed .walks) ∙ ap (λ o. judged o (stateRead rec) (timestampIn (partsIn rec))) (a .passes)
+found-in {rec} a = sym (no-room-needed rec) ∙ decoded rec rooms (a .placed) ∙ ap (λ o. judged o (stateRead rec) (timestampIn (partsIn rec))) (a .passes)
 
 refused-in : (rec : List ℕ) {r : Refusal} → decode rec rooms ≡ refused r → decode rec [] ≡ refused r
 refused-in rec e = sym (no-room-needed rec) ∙ e

@@ -3,7 +3,6 @@ use mathlib.Core.Path.{_≡_, refl, sym, ap, subst, _∙_}
 use mathlib.Core.Bool.{Bool, true, false}
 use mathlib.Core.List.{List}
 use Prim.Native.Nat.{ℕ, _+_, _*_, _≤_, _<_}
-use native.Mathlib.Nat.{mul-comm}
 use native.Mathlib.Omega.{arith}
 use lib.Dec.{T, eqb, eqb→eq, eqb-refl}
 use lib.ListN.{length, take, drop, getD, length-drop}
@@ -14,14 +13,15 @@ use borrow.Author.Tests.{eqb-true}
 use Rattle.model.specs.Numbers.{sameBy}
 use Rattle.model.specs.State.{cells}
 use Rattle.model.specs.Record.{Part, valueOf, sizeAt, rightSize, partsOf, signed2, signed4, numbers, stateIn, sameState}
-use Rattle.theorems.specs.Tests.{T-true, true-T, same-by, by-same}
+use Rattle.theorems.specs.Truth.{T-true, true-T, same-by, by-same}
 use Rattle.theorems.specs.Bytes.{AllBytes, bytes-take, bytes-drop, put-numbers}
-use Rattle.theorems.specs.Rewrite.{three, all-bytes, tests}
+use Rattle.theorems.specs.Tags.{each-tag}
+use Rattle.theorems.specs.RoundTrip.{fields-iff}
+use Rattle.theorems.specs.Rewrite.{three, all-bytes}
 use Rattle.theorems.specs.Comparing.{same-state, same-self}
+use Rattle.wire.specs.Tags.{lastTag}
 use Rattle.walking.specs.Places.{partsIn}
-use Rattle.walking.proofs.TagLaws.{each-tag}
 use Rattle.examining.specs.Tests.{stateRead, Accepted}
-use Rattle.examining.proofs.ValueLaws.{values-long}
 use Rattle.comparing.specs.Read.{rooms, BothRead}
 
 -- ---- two lists, by a test of their numbers
@@ -47,7 +47,7 @@ module _ {rec at : List ℕ} (bytes : (k : ℕ) → getD rec k 0 < 256) (a : Acc
   abbrev parts : List Part
   parts = partsIn rec
 
-  plain-value : (t : ℕ) → 1 ≤ t → t ≤ 7 → Plain t (valueOf t parts)
+  plain-value : (t : ℕ) → 1 ≤ t → t ≤ lastTag → Plain t (valueOf t parts)
   plain-value t l h =
       let k = getD at t 0 in
       let n = sizeAt rec k in
@@ -60,24 +60,26 @@ module _ {rec at : List ℕ} (bytes : (k : ℕ) → getD rec k 0 < 256) (a : Acc
       })
 
   -- 0 stands for any timestamp, since 3 is left out
-  as-written : (t : ℕ) → 1 ≤ t → t ≤ 7 → (t ≡ 3 → ⊥) → valueOf t parts ≡ valueOf t (partsOf (stateRead rec) 0)
+  abbrev Told : ℕ → Type 0
+  Told t = Plain t (valueOf t parts) → (t ≡ 3 → ⊥) → valueOf t parts ≡ valueOf t (partsOf (stateRead rec) 0)
+
+  as-written : (t : ℕ) → 1 ≤ t → t ≤ lastTag → (t ≡ 3 → ⊥) → valueOf t parts ≡ valueOf t (partsOf (stateRead rec) 0)
   unfolding stateRead stateIn partsOf
   as-written t l h =
       let m = cells (stateIn parts) in
-      let long = values-long rec (tests parts rooms (a .passes) .lengths) in
-      each-tag (λ t. Plain t (valueOf t parts) → (t ≡ 3 → ⊥) → valueOf t parts ≡ valueOf t (partsOf (stateRead rec) 0))
-      (λ v o. sym (three (valueOf 1 parts) (eqb-true _ 3 (v .sized))))
-      (λ v o. sym (put-numbers 4 w32 refl 3 (valueOf 2 parts) (eqb-true _ 12 (v .sized)) (v .plain)))
-      (λ v o. absurd (o refl))
-      (λ v o. sym (put-numbers 4 w32 refl m (valueOf 4 parts) (long .h ∙ mul-comm m 4) (v .plain)))
-      (λ v o. sym (put-numbers 4 w32 refl m (valueOf 5 parts) (long .b ∙ mul-comm m 4) (v .plain)))
-      (λ v o. sym (put-numbers 2 w16 refl m (valueOf 6 parts) (long .u ∙ mul-comm m 2) (v .plain)))
-      (λ v o. sym (put-numbers 2 w16 refl m (valueOf 7 parts) (long .v ∙ mul-comm m 2) (v .plain)))
-      t l h (plain-value t l h)
+      let long = fields-iff parts rooms .0 (a .passes) .0 in
+      let grid : Told 1 = λ v o. sym (three (valueOf 1 parts) (eqb-true _ 3 (v .sized))) in
+      let constants : Told 2 = λ v o. sym (put-numbers 4 w32 refl 3 (valueOf 2 parts) (eqb-true _ 12 (v .sized)) (v .plain)) in
+      let timestamp : Told 3 = λ v o. absurd (o refl) in
+      let depths : Told 4 = λ v o. sym (put-numbers 4 w32 refl m (valueOf 4 parts) (long .0) (v .plain)) in
+      let bottoms : Told 5 = λ v o. sym (put-numbers 4 w32 refl m (valueOf 5 parts) (long .1) (v .plain)) in
+      let us : Told 6 = λ v o. sym (put-numbers 2 w16 refl m (valueOf 6 parts) (long .2) (v .plain)) in
+      let vs : Told 7 = λ v o. sym (put-numbers 2 w16 refl m (valueOf 7 parts) (long .3) (v .plain)) in
+      each-tag Told (grid, (constants, (timestamp, (depths, (bottoms, (us, (vs, tt))))))) t l h (plain-value t l h)
 
 -- so a tag whose value differs tells two states apart
 pub other-read : {first p second q : List ℕ} → ((k : ℕ) → getD first k 0 < 256) → ((k : ℕ) → getD second k 0 < 256) → BothRead first p second q
-    → (t : ℕ) → 1 ≤ t → t ≤ 7 → (t ≡ 3 → ⊥) → sameBy eqb (valueOf t (partsIn first)) (valueOf t (partsIn second)) ≡ false
+    → (t : ℕ) → 1 ≤ t → t ≤ lastTag → (t ≡ 3 → ⊥) → sameBy eqb (valueOf t (partsIn first)) (valueOf t (partsIn second)) ≡ false
     → false ≡ sameState (stateRead first) (stateRead second)
 other-read {first} {p} {second} {q} f s r t l h o e =
     not-so (sameState (stateRead first) (stateRead second)) (λ x.
@@ -103,7 +105,7 @@ module _ {first second : List ℕ} where
   }
 
   -- all of them have
-  state-same : {m : ℕ} → SameTo first second m → 8 ≤ m → stateRead first ≡ stateRead second
+  state-same : {m : ℕ} → SameTo first second m → lastTag < m → stateRead first ≡ stateRead second
   unfolding stateRead stateIn
   state-same s h =
       let e1 = s .each 1 (omega arith) (omega arith) (λ e. omega arith) in
@@ -125,5 +127,5 @@ module _ {first second : List ℕ} where
         v = numbers signed2 2 (getD (e1 i) 0 0 * getD (e1 i) 1 0) (e7 i);
       }
 
-  pub same-read : {m : ℕ} → SameTo first second m → 8 ≤ m → true ≡ sameState (stateRead first) (stateRead second)
+  pub same-read : {m : ℕ} → SameTo first second m → lastTag < m → true ≡ sameState (stateRead first) (stateRead second)
   same-read s h = sym (ap (sameState (stateRead first)) (sym (state-same s h)) ∙ T-true _ (same-self (stateRead first)))

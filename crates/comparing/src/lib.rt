@@ -5,11 +5,13 @@ ghost use lib.Dec.{eqb};
 ghost use Rattle.model.specs.Numbers.{sameBy};
 ghost use Rattle.model.specs.Record.{valueOf, sameState};
 ghost use Rattle.model.specs.Promises.{ComparePromise};
+ghost use Rattle.wire.specs.Tags.{lastTag};
 ghost use Rattle.walking.specs.Places.{partsIn, Placed};
 ghost use Rattle.examining.specs.Tests.{stateRead};
 ghost use Rattle.comparing.specs.Read.{BothRead, comparedRead};
+use model::Answer;
 use model::CompareAnswer;
-use model::TestAnswer;
+use walking::Places;
 
 // Whether two slices have the same bytes.
 fn same_bytes(a: &[u8], b: &[u8]) -> bool
@@ -27,8 +29,8 @@ fn same_bytes(a: &[u8], b: &[u8]) -> bool
 }
 
 // Whether a tag has the same value in two records.
-fn same_value(first: &[u8], p: &[usize; 8], second: &[u8], q: &[usize; 8], tag: usize) -> bool
-    requires { ⌜ Placed (now first) (now p) × Placed (now second) (now q) × (1 ≤ tag) × (tag ≤ 7) ⌝ }
+fn same_value(first: &[u8], p: &Places, second: &[u8], q: &Places, tag: usize) -> bool
+    requires { ⌜ Placed (now first) (now p) × Placed (now second) (now q) × (1 ≤ tag) × (tag ≤ lastTag) ⌝ }
     ensures { λ r. ⌜
         r ≡ sameBy eqb (valueOf tag (partsIn (now (first .entry))))
         (valueOf tag (partsIn (now (second .entry))))
@@ -42,11 +44,11 @@ fn same_value(first: &[u8], p: &[usize; 8], second: &[u8], q: &[usize; 8], tag: 
 
 // Whether two accepted records have the same state: tags 1, 2 and 4 to 7 mean the same exactly where they have the same bytes, since
 // their lengths are right. p and q are the places of their tags.
-fn same_state(first: &[u8], p: &[usize; 8], second: &[u8], q: &[usize; 8]) -> bool
+fn same_state(first: &[u8], p: &Places, second: &[u8], q: &Places) -> bool
     requires { ⌜ BothRead (now first) (now p) (now second) (now q) ⌝ }
     ensures { λ r. ⌜ r ≡ sameState (stateRead (now (first .entry))) (stateRead (now (second .entry))) ⌝ }
 {
-    for tag in 1..8 {
+    for tag in 1..=wire::LAST_TAG {
         // the timestamp is no part of the state
         if tag != 3 {
             if !same_value(first, p, second, q, tag) {
@@ -58,7 +60,7 @@ fn same_state(first: &[u8], p: &[usize; 8], second: &[u8], q: &[usize; 8]) -> bo
 }
 
 // Two accepted records: the newer timestamp tells; under one timestamp the states do.
-fn compare_read(first: &[u8], p: &[usize; 8], second: &[u8], q: &[usize; 8]) -> CompareAnswer
+fn compare_read(first: &[u8], p: &Places, second: &[u8], q: &Places) -> CompareAnswer
     requires { ⌜ BothRead (now first) (now p) (now second) (now q) ⌝ }
     ensures { λ r. ⌜ r ≡ comparedRead (now (first .entry)) (now (second .entry)) ⌝ }
 {
@@ -82,14 +84,14 @@ fn compare_read(first: &[u8], p: &[usize; 8], second: &[u8], q: &[usize; 8]) -> 
 pub fn compare(first: &[u8], second: &[u8]) -> CompareAnswer
     ensures { λ r. ⌜ ComparePromise (now (first .entry)) (now (second .entry)) r ⌝ }
 {
-    let mut p = [first.len(); 8];
-    let mut q = [second.len(); 8];
+    let mut p = [first.len(); walking::PLACES];
+    let mut q = [second.len(); walking::PLACES];
     // room for the largest grid: nothing is filled here
     match examining::examine(first, &mut p, 4096) {
-        TestAnswer::Passed => match examining::examine(second, &mut q, 4096) {
-            TestAnswer::Passed => compare_read(first, &p, second, &q),
-            TestAnswer::Refused(refusal) => CompareAnswer::SecondRefused(refusal),
+        Answer::Accepted => match examining::examine(second, &mut q, 4096) {
+            Answer::Accepted => compare_read(first, &p, second, &q),
+            Answer::Refused(refusal) => CompareAnswer::SecondRefused(refusal),
         },
-        TestAnswer::Refused(refusal) => CompareAnswer::FirstRefused(refusal),
+        Answer::Refused(refusal) => CompareAnswer::FirstRefused(refusal),
     }
 }

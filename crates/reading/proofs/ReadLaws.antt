@@ -2,70 +2,80 @@
 use mathlib.Core.Path.{_≡_, refl, sym, ap, ap₂, subst, _∙_}
 use mathlib.Core.Bool.{Bool, true, false, _&&_}
 use mathlib.Core.List.{List, [], _∷_}
-use Prim.Native.Nat.{ℕ, _≤_}
+use mathlib.Core.Option.{Option}
+use Prim.Native.Nat.{ℕ, _≤_, min}
+use native.Mathlib.Omega.{arith}
 use lib.Dec.{leb}
 use lib.IntN.{ℤ}
 use lib.ListN.{length}
+use borrow.Author.Tests.{leb-true, leb-false, le-leb, lt-leb}
 use Rattle.model.specs.Grid.{filled}
 use Rattle.grid.specs.Cells
 use Rattle.model.specs.State.{State, parametersOf, cells}
 use Rattle.model.specs.Answers.{toldRead}
-use Rattle.model.specs.Refusals.{_then_, must, fieldsOf, gridTest, contentTest, roomTest}
-use Rattle.model.specs.Record.{Walked, damaged, whole, walked, stateIn, timestampIn, bytesTest, recordTest, Decoded, accepted, refused, judged, readBy, decode}
+use Rattle.model.specs.Tests.{must, _then_, firstFound}
+use Rattle.model.specs.Refusals.{roomTests}
+use Rattle.model.specs.Record.{timestampIn, Decoded, accepted, refused, judged, decode}
 use Rattle.model.specs.Promises.{readAnswer, readInto, readOf, ReadPromise}
+use Rattle.model.specs.Claims.{BytesOf}
 use Rattle.model.specs.declared.Parameters.{Parameters}
 use Rattle.model.specs.declared.Refusal.{Refusal}
 use Rattle.model.specs.declared.Refusal.the-variants.{Destination}
 use Rattle.model.specs.declared.ReadAnswer.the-variants.{Read, Refused}
-use Rattle.theorems.specs.Rewrite.{tests, decoded-within}
+use Rattle.theorems.specs.RoundTrip.{Fit, fields-iff}
+use Rattle.theorems.specs.Rewrite.{decoded-within}
 use Rattle.walking.specs.Places.{partsIn}
-use Rattle.examining.specs.Tests.{stateRead, Sized, Accepted}
-use Rattle.examining.proofs.OrderLaws.{decoded}
-use Rattle.reading.specs.Rooms.{Room, Least}
+use Rattle.examining.specs.Tests.{stateRead, Accepted}
+use Rattle.examining.proofs.OrderLaws.{decoded, rooms-alike}
+use Rattle.reading.specs.Rooms.{Room}
 
 -- ---- the shortest destination stands for all four
 
-four : (a b c d : Bool) → (a && b) && (c && d) && true ≡ (a && (b && (c && (d && true))))
-four true true true true = refl
-four true true true false = refl
-four true true false d = refl
-four true false c d = refl
-four false b c d = refl
-
-rooms-least : {a b c d x y r : ℕ} → Least a b x → Least c d y → Least x y r → (m : ℕ) → roomTest m (r ∷ []) ≡ roomTest m (a ∷ b ∷ c ∷ d ∷ [])
-unfolding roomTest
-rooms-least {a} {b} {c} {d} p q r m = ap (λ t. must t Destination) (ap (λ t. t && true) (r .room m ∙ ap₂ _&&_ (p .room m) (q .room m)) ∙ four (leb m a) (leb m b) (leb m c) (leb m d))
-
--- tests that differ in their rooms alone, and find the same of these, are the same
-rooms-alike : (rec r t : List ℕ) → ((m : ℕ) → roomTest m r ≡ roomTest m t) → decode rec r ≡ decode rec t
-unfolding decode recordTest
-rooms-alike rec r t e = by (walked rec)
+room-both : (m a b : ℕ) → leb m (min a b) ≡ (leb m a && leb m b)
+room-both m a b = by (leb m a) refl (leb m b) refl
   where
-    by : (w : Walked) → readBy r w ≡ readBy t w
-    by (damaged x) = refl
-    by (whole parts) =
-        let s = stateIn parts in
-        ap (λ o. judged (gridTest s then bytesTest s parts then o then contentTest s (fieldsOf s)) s (timestampIn parts)) (e (cells s))
+    by : (x : Bool) → leb m a ≡ x → (y : Bool) → leb m b ≡ y → leb m (min a b) ≡ (x && y)
+    by true p true q = let h = leb-true m a p in let k = leb-true m b q in le-leb m (min a b) (omega arith)
+    by true p false q = let k = leb-false m b q in lt-leb m (min a b) (omega arith)
+    by false p y q = let h = leb-false m a p in lt-leb m (min a b) (omega arith)
+
+ask-both : (x y : Bool) (r : Refusal) (o : Option Refusal) → must (x && y) r then o ≡ must x r then (must y r then o)
+ask-both true y r o = refl
+ask-both false y r o = refl
+
+room-two : (m a b : ℕ) (l : List ℕ) → firstFound (roomTests m (min a b ∷ l)) ≡ firstFound (roomTests m (a ∷ b ∷ l))
+room-two m a b l = ap (λ t. must t Destination then firstFound (roomTests m l)) (room-both m a b) ∙ ask-both (leb m a) (leb m b) Destination (firstFound (roomTests m l))
+
+rooms-least : (m a b c d : ℕ) → firstFound (roomTests m (min (min a b) (min c d) ∷ [])) ≡ firstFound (roomTests m (a ∷ b ∷ c ∷ d ∷ []))
+rooms-least m a b c d =
+    room-two m (min a b) (min c d) []
+    ∙ room-two m a b (min c d ∷ [])
+    ∙ ap (λ o. must (leb m a) Destination then (must (leb m b) Destination then o)) (room-two m c d [])
 
 -- ---- a record that passes every test
 
 module _ {rec at : List ℕ} where
-  pub sized : {rooms : List ℕ} → Accepted rec at rooms → Sized rec at (parametersOf (stateRead rec))
+  fits : {rooms : List ℕ} → Accepted rec at rooms → Fit (stateRead rec) (partsIn rec) rooms
   unfolding stateRead
-  sized {rooms} a = record { placed = a .placed; parameters = refl; lengths = tests (partsIn rec) rooms (a .passes) .lengths }
+  fits {rooms} a = fields-iff (partsIn rec) rooms .0 (a .passes)
+
+  pub bytes-of : {rooms : List ℕ} → Accepted rec at rooms → BytesOf (cells (stateRead rec)) (partsIn rec)
+  bytes-of a = fits a .0
 
   pub cells-most : {rooms : List ℕ} → Accepted rec at rooms → cells (stateRead rec) ≤ 4096
-  unfolding stateRead
-  cells-most {rooms} a = let l = tests (partsIn rec) rooms (a .passes) .inside in Cells.cells-most (l .columns) (l .rows)
+  cells-most a = let l = fits a .2 in Cells.cells-most (l .columns) (l .rows)
 
   read-as : {rooms : List ℕ} → Accepted rec at rooms → decode rec rooms ≡ accepted (stateRead rec) (timestampIn (partsIn rec))
   read-as {rooms} a = decoded rec rooms (a .placed) ∙ ap (λ o. judged o (stateRead rec) (timestampIn (partsIn rec))) (a .passes)
 
 -- from what `examine` finds, with the shortest destination, to the promise
-module _ (rec : List ℕ) (h b u v : List ℤ) {x y r : ℕ} (p : Least (length h) (length b) x) (q : Least (length u) (length v) y) (l : Least x y r) where
+module _ (rec : List ℕ) (h b u v : List ℤ) {r : ℕ} (l : r ≡ min (min (length h) (length b)) (min (length u) (length v))) where
   alike : readOf rec h b u v ≡ decode rec (r ∷ [])
   unfolding readOf
-  alike = sym (rooms-alike rec (r ∷ []) (length h ∷ length b ∷ length u ∷ length v ∷ []) (rooms-least p q l))
+  alike =
+      let rooms = length h ∷ length b ∷ length u ∷ length v ∷ [] in
+      sym (ap (λ r. decode rec (r ∷ [])) l
+      ∙ rooms-alike rec (min (min (length h) (length b)) (min (length u) (length v)) ∷ []) rooms (λ s k. rooms-least (cells s) (length h) (length b) (length u) (length v)))
 
   promised : (o : Decoded) {h′ b′ u′ v′ : List ℤ} → readOf rec h b u v ≡ o
       → h′ ≡ readInto (λ s. s .h) o h → b′ ≡ readInto (λ s. s .b) o b → u′ ≡ readInto (λ s. s .u) o u → v′ ≡ readInto (λ s. s .v) o v

@@ -1,18 +1,21 @@
 // The record reader: all tests of a record, and only then the four fields.
 ghost use mathlib.Core.Path.{_≡_};
 ghost use Rattle.model.specs.Grid.{filled};
-ghost use Rattle.model.specs.State.{parametersOf, cells};
+ghost use Rattle.model.specs.State.{cells};
 ghost use Rattle.model.specs.Promises.{ReadPromise};
-ghost use Rattle.examining.specs.Tests.{stateRead, Sized};
-ghost use Rattle.reading.specs.Rooms.{Room, Least};
+ghost use Rattle.model.specs.Claims.{BytesOf};
+ghost use Rattle.walking.specs.Places.{partsIn, Placed};
+ghost use Rattle.examining.specs.Tests.{stateRead};
+ghost use Rattle.reading.specs.Rooms.{Room};
+use model::Answer;
 use model::ReadAnswer;
-use model::TestAnswer;
+use walking::Places;
 use wire::Size;
 
 // Fills the first m places of each field.
 fn fill(
     rec: &[u8],
-    at: &[usize; 8],
+    at: &Places,
     m: usize,
     h: &mut [i64],
     b: &mut [i64],
@@ -20,10 +23,10 @@ fn fill(
     v: &mut [i64],
 )
     requires { ⌜
-        (let s = stateRead (now rec) in
-        Sized (now rec) (now at) (parametersOf s)
-        × (cells s ≡ m)
-        × Room m (now h) (now b) (now u) (now v))
+        Placed (now rec) (now at)
+        × (cells (stateRead (now rec)) ≡ m)
+        × BytesOf m (partsIn (now rec))
+        × Room m (now h) (now b) (now u) (now v)
         ⌝ }
     ensures { λ _. ⌜
         (let s = stateRead (now (rec .entry)) in
@@ -39,13 +42,6 @@ fn fill(
     wire::read_numbers(walking::value_of(rec, at, 7), m, v, Size::Two);
 }
 
-// The shorter of two lengths.
-fn less(a: usize, b: usize) -> usize
-    ensures { λ r. ⌜ Least a b r ⌝ }
-{
-    if a < b { a } else { b }
-}
-
 // The state of a record into the first w·n places of h, b, u and v, and its parameters and timestamp. Refusals: 7, 1, 2, 8, 3, 4, 5.
 // It rules out, for instance: fields filled before test 5; the sign of a velocity lost.
 pub fn read(rec: &[u8], h: &mut [i64], b: &mut [i64], u: &mut [i64], v: &mut [i64]) -> ReadAnswer
@@ -54,10 +50,14 @@ pub fn read(rec: &[u8], h: &mut [i64], b: &mut [i64], u: &mut [i64], v: &mut [i6
         (now (h .exit)) (now (b .exit)) (now (u .exit)) (now (v .exit))
         ⌝ }
 {
-    let mut at = [rec.len(); 8];
-    let room = less(less(h.len(), b.len()), less(u.len(), v.len()));
+    let mut at = [rec.len(); walking::PLACES];
+    // a record that fits the shortest destination fits all four
+    let room = integers::min(
+        integers::min(h.len(), b.len()),
+        integers::min(u.len(), v.len()),
+    );
     match examining::examine(rec, &mut at, room) {
-        TestAnswer::Passed => {
+        Answer::Accepted => {
             let p = examining::parameters_in(rec, &at);
             let timestamp = examining::timestamp_in(rec, &at);
             fill(rec, &at, p.w * p.n, h, b, u, v);
@@ -66,6 +66,6 @@ pub fn read(rec: &[u8], h: &mut [i64], b: &mut [i64], u: &mut [i64], v: &mut [i6
                 timestamp,
             }
         }
-        TestAnswer::Refused(refusal) => ReadAnswer::Refused(refusal),
+        Answer::Refused(refusal) => ReadAnswer::Refused(refusal),
     }
 }

@@ -1,8 +1,8 @@
 -- `comparing::compare` meets its contract. Assumes nothing.
 use mathlib.Core.Path.{subst}
 use borrow.Author.Needs.{needs}
-use Rattle.model.specs.declared.TestAnswer.{TestAnswer}
-use Rattle.model.specs.declared.TestAnswer.the-variants.{Passed}
+use Rattle.model.specs.declared.Answer.{Answer}
+use Rattle.model.specs.declared.Answer.the-variants.{Accepted}
 use Rattle.examining.specs.Tests.{Examined}
 use Rattle.comparing.specs.Read.{rooms, BothRead}
 use Rattle.comparing.specs.CompareLaws.{first-refused, second-refused, both-read}
@@ -10,13 +10,13 @@ use Rattle.comparing.proofs.compare.Statement.{statement}
 use Rattle.comparing.proofs.compare.Tie as tie
 
 -- what an answer of the tests says of the first record, and of the second
-abbrev OfFirst : tie.After-examine → TestAnswer → Type 0
+abbrev OfFirst : tie.After-examine → Answer → Type 0
 OfFirst x r = Examined (x .before .before .before .before .args .first .now) rooms r (x .examine .last .1 .0)
 
-abbrev OfSecond : tie.After-examine2 → TestAnswer → Type 0
+abbrev OfSecond : tie.After-examine2 → Answer → Type 0
 OfSecond y r = Examined (y .before .before .before .before .before .before .before .before .args .second .now) rooms r (y .examine2 .last .1 .0)
 
-first-read : (c : tie.After-enum-told) → OfFirst (c .before .before) Passed
+first-read : (c : tie.After-enum-told) → OfFirst (c .before .before) Accepted
 first-read c = let x = c .before .before in subst (OfFirst x) (c .enum-told .given .1) (x .examine .ensures)
 
 both : (c : tie.After-enum-told2)

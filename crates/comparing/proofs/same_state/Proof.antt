@@ -2,9 +2,10 @@
 -- value differs the states do, since each number has one form in bytes; where none does they are the same. Assumes nothing.
 use mathlib.Core.Path.{sym, _∙_}
 use mathlib.Core.Logic.{⊎-elim}
-use Prim.Native.Nat.{_-_}
+use Prim.Native.Nat.{_+_, _-_}
 use native.Mathlib.Omega.{arith}
 use borrow.Author.Tests.{not-true, not-false}
+use Rattle.wire.specs.Tags.{lastTag}
 use Rattle.comparing.specs.SameLaws.{SameTo, same-none, same-more, same-read, other-read}
 use Rattle.comparing.proofs.same_state.Statement.{statement}
 use Rattle.comparing.proofs.same_state.Tie as tie
@@ -13,7 +14,7 @@ abbrev Inv-loop : tie.InvT-loop
 Inv-loop first p second q tag₀ tag = SameTo first second tag
 
 abbrev μ-loop : tie.MeasureT-loop
-μ-loop first p second q tag₀ tag = 8 - tag
+μ-loop first p second q tag₀ tag = lastTag + 1 - tag
 
 same-value-requires : tie.Need-same-value-requires Inv-loop μ-loop
 same-value-requires c κs =

@@ -4,22 +4,28 @@ use mathlib.Core.List.{List}
 use Prim.Native.Nat.{ℕ, _*_, _≤_}
 use native.Mathlib.Nat.{le-of-eq}
 use lib.IntN.{ℤ}
+use lib.ListN.{length}
 use borrow.Author.Needs.{needs}
 use Rattle.model.specs.Grid.{filled}
+use Rattle.model.specs.State.{cells}
+use Rattle.model.specs.Record.{valueOf}
 use Rattle.wire.specs.declared.Size.{Size}
 use Rattle.wire.specs.declared.Size.the-variants.{Two, Four}
 use Rattle.wire.specs.Sizes.{numbersBy}
-use Rattle.examining.proofs.OrderLaws.{h-long, b-long, u-long, v-long, h-numbers, b-numbers, u-numbers, v-numbers}
+use Rattle.walking.specs.Places.{partsIn, IsValue}
+use Rattle.examining.specs.Tests.{stateRead}
+use Rattle.examining.proofs.ValueLaws.{h-is, b-is, u-is, v-is, value-long, value-numbers}
 use Rattle.reading.proofs.fill.Statement.{statement}
 use Rattle.reading.proofs.fill.Tie as tie
 
--- a value has the bytes of n numbers, where n is m
-enough : {l m n : ℕ} (z : ℕ) → m ≡ n → l ≡ m * z → n * z ≤ l
-enough z e p = le-of-eq (sym (p ∙ ap (λ m. m * z) e))
+-- a value has the bytes of m numbers
+enough : {rec value : List ℕ} {t : ℕ} → IsValue rec t value → (k m : ℕ) → length (valueOf t (partsIn rec)) ≡ k * m → m * k ≤ length value
+enough v k m e = le-of-eq (sym (value-long v k m e))
 
 -- and its numbers are the field's
-own : (z : Size) (value : List ℕ) (d : List ℤ) {m n : ℕ} {f d′ : List ℤ} → m ≡ n → numbersBy z m value ≡ f → d′ ≡ filled n (numbersBy z n value) d → d′ ≡ filled n f d
-own z value d {m} {n} {f} e p q = q ∙ ap (λ l. filled n l d) (ap (λ m. numbersBy z m value) (sym e) ∙ p)
+own : {rec value : List ℕ} {t : ℕ} → IsValue rec t value → (z : Size) (d : List ℤ) {m : ℕ} {f d′ : List ℤ} → cells (stateRead rec) ≡ m
+    → f ≡ numbersBy z (cells (stateRead rec)) (valueOf t (partsIn rec)) → d′ ≡ filled m (numbersBy z m value) d → d′ ≡ filled m f d
+own v z d {m} e p q = q ∙ ap (λ l. filled m l d) (value-numbers v z (sym e) p)
 
 returns : tie.Need-returns
 returns c =
@@ -28,12 +34,12 @@ returns c =
     let v2 = v3 .before .before .before .before in
     let v1 = v2 .before .before .before .before in
     let s = v1 .before .before in
-    let z = s .pre .0 in
+    let a = s .args in
     let e = s .pre .1 in (
-      own Four (v1 .value-of .result .now) (s .args .h .now) e (h-numbers z (v1 .value-of .ensures)) (v2 .before .before .read-numbers .ensures),
-      own Four (v2 .value-of2 .result .now) (s .args .b .now) e (b-numbers z (v2 .value-of2 .ensures)) (v3 .before .before .read-numbers2 .ensures),
-      own Two (v3 .value-of3 .result .now) (s .args .u .now) e (u-numbers z (v3 .value-of3 .ensures)) (v4 .before .before .read-numbers3 .ensures),
-      own Two (v4 .value-of4 .result .now) (s .args .v .now) e (v-numbers z (v4 .value-of4 .ensures)) (c .before .read-numbers4 .ensures),
+      own (v1 .value-of .ensures) Four (a .h .now) e (h-is (a .rec .now)) (v2 .before .before .read-numbers .ensures),
+      own (v2 .value-of2 .ensures) Four (a .b .now) e (b-is (a .rec .now)) (v3 .before .before .read-numbers2 .ensures),
+      own (v3 .value-of3 .ensures) Two (a .u .now) e (u-is (a .rec .now)) (v4 .before .before .read-numbers3 .ensures),
+      own (v4 .value-of4 .ensures) Two (a .v .now) e (v-is (a .rec .now)) (c .before .read-numbers4 .ensures),
     )
 
 abbrev at-4 : tie.After-read-numbers-arg → tie.Start
@@ -53,13 +59,13 @@ fill-spec =
     tie.close
     (tie.spec
     (λ c κs. search needs)
-    (λ c κs. let p = at-4 c .pre in (enough 4 (p .1) (h-long (p .0) (c .before .value-of .ensures)), p .2 .depth))
+    (λ c κs. let s = at-4 c in (enough (c .before .value-of .ensures) 4 (s .args .m) (s .pre .2 .0), s .pre .3 .depth))
     (λ c κs. search needs)
-    (λ c κs. let p = at-5 c .pre in (enough 4 (p .1) (b-long (p .0) (c .before .value-of2 .ensures)), p .2 .bottom))
+    (λ c κs. let s = at-5 c in (enough (c .before .value-of2 .ensures) 4 (s .args .m) (s .pre .2 .1), s .pre .3 .bottom))
     (λ c κs. search needs)
-    (λ c κs. let p = at-6 c .pre in (enough 2 (p .1) (u-long (p .0) (c .before .value-of3 .ensures)), p .2 .velocity-u))
+    (λ c κs. let s = at-6 c in (enough (c .before .value-of3 .ensures) 2 (s .args .m) (s .pre .2 .2), s .pre .3 .velocity-u))
     (λ c κs. search needs)
-    (λ c κs. let p = at-7 c .pre in (enough 2 (p .1) (v-long (p .0) (c .before .value-of4 .ensures)), p .2 .velocity-v))
+    (λ c κs. let s = at-7 c in (enough (c .before .value-of4 .ensures) 2 (s .args .m) (s .pre .2 .3), s .pre .3 .velocity-v))
     (λ c. search needs)
     (λ c. search needs)
     (λ c. search needs)
