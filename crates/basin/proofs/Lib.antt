@@ -1,3 +1,5 @@
+-- promises of lent states
+pub mod Lent
 -- calls by name, and the theorems of them
 pub mod Calls
 pub mod Applied

@@ -23,7 +23,7 @@ use Rattle.model.specs.declared.Refusal.the-variants.{Record}
 use Rattle.model.specs.declared.ReadAnswer.{ReadAnswer}
 use Rattle.model.specs.declared.ReadAnswer.the-variants.{Read, Refused}
 use Rattle.grid.specs.Fields.{take-filled, drop-filled}
-use Rattle.theorems.specs.Tests.{differ}
+use Rattle.theorems.specs.Truth.{differ}
 use Rattle.theorems.specs.RoundTrip.{read-part}
 use Rattle.theorems.specs.Rewrite.{decoded-within, read-within}
 use Rattle.theorems.specs.Output.{output-fits}

@@ -1,6 +1,8 @@
 -- `basin::basin_potential_vorticity` meets its contract. Assumes nothing.
 use borrow.Author.Needs.{needs}
+use mir.Facts.{toZ-ofZ}
 use Rattle.telling.specs.Told.{told-by}
+use Rattle.basin.proofs.Lent.{made, vorticity-of}
 use Rattle.basin.proofs.basin_potential_vorticity.Statement.{statement}
 use Rattle.basin.proofs.basin_potential_vorticity.Tie as tie
 
@@ -8,8 +10,11 @@ returns : tie.Need-returns
 returns c =
     let n = c .before in
     let k = n .before .before .before in
-    let f = k .before .before .parameters .ensures in
-    record { answer = k .potential-vorticity .result; promise = rw f at (k .potential-vorticity .ensures); told = told-by (n .answer-numbers .ensures) (c .tell .ensures) }
+    let m = k .before .before in
+    let given = m .before .fits in
+    let f = made (m .parameters .ensures) (toZ-ofZ (given .g)) (toZ-ofZ (given .c)) (toZ-ofZ (given .r)) in
+    let a = m .before .args in
+    record { answer = k .potential-vorticity .result; promise = vorticity-of f (a .h .now) (a .b .now) (a .u .now) (a .v .now) (k .potential-vorticity .ensures); told = told-by (n .answer-numbers .ensures) (c .tell .ensures) }
 
 pub basin-potential-vorticity-spec : {M : Type 1} → statement M
 basin-potential-vorticity-spec =

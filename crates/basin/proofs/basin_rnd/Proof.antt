@@ -10,7 +10,8 @@ use mir.Syntax.{w64}
 use Rattle.model.specs.Numbers.{_to_, within, rnd}
 use Rattle.integers.specs.Bounds.{held-is, abs-within}
 use Rattle.integers.specs.Rounding.{Roundable, mostDividend, mostDivisor}
-use Rattle.theorems.specs.Tests.{true-T, and-iff, within-iff}
+use Rattle.theorems.specs.Truth.{true-T, and-iff}
+use Rattle.theorems.specs.Limits.{within-iff}
 use Rattle.basin.specs.FromC.{roundable, Rounded}
 use Rattle.basin.proofs.basin_rnd.Statement.{statement}
 use Rattle.basin.proofs.basin_rnd.Tie as tie

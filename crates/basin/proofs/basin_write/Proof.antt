@@ -1,6 +1,8 @@
 -- `basin::basin_write` meets its contract. Assumes nothing.
 use borrow.Author.Needs.{needs}
+use mir.Facts.{toZ-ofZ}
 use Rattle.telling.specs.Told.{told-by}
+use Rattle.basin.proofs.Lent.{made, write-of}
 use Rattle.basin.proofs.basin_write.Statement.{statement}
 use Rattle.basin.proofs.basin_write.Tie as tie
 
@@ -8,8 +10,11 @@ returns : tie.Need-returns
 returns c =
     let n = c .before in
     let k = n .before .before .before .before in
-    let f = k .before .before .before .parameters .ensures in
-    record { answer = k .write .result; promise = rw f at (k .write .ensures); told = told-by (n .write-numbers .ensures) (c .tell .ensures) }
+    let m = k .before .before in
+    let given = m .before .before .fits in
+    let f = made (m .parameters .ensures) (toZ-ofZ (given .g)) (toZ-ofZ (given .c)) (toZ-ofZ (given .r)) in
+    let a = m .before .before .args in
+    record { answer = k .write .result; promise = write-of f (a .h .now) (a .b .now) (a .u .now) (a .v .now) (a .timestamp) (k .write .ensures); told = told-by (n .write-numbers .ensures) (c .tell .ensures) }
 
 pub basin-write-spec : {M : Type 1} → statement M
-basin-write-spec = tie.close (tie.spec (λ c κs. search needs) (λ c κs. search needs) (λ c κs. search needs) (λ c. search needs) returns)
+basin-write-spec = tie.close (tie.spec (λ c κs. search needs) (λ c κs. search needs) (λ c κs. search needs) (λ c κs. search needs) (λ c. search needs) returns)

@@ -3,7 +3,7 @@ use mathlib.Core.Path.{ap, _∙_}
 use borrow.Author.Needs.{needs}
 use mir.Facts.{toZ-ofZ}
 use Rattle.model.specs.Numbers.{within}
-use Rattle.faults.proofs.Truth.{and-holds, and-fails}
+use Rattle.tests.proofs.AndLaws.{and-holds, and-fails}
 use Rattle.basin.proofs.is_roundable.Statement.{statement}
 use Rattle.basin.proofs.is_roundable.Tie as tie
 

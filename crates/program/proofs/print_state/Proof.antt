@@ -13,3 +13,26 @@ use Rattle.program.proofs.print_state.Tie as tie
 
 abbrev state : tie.Start → State
 state c = let a = c .args in stateOf (a .p) (a .h .now) (a .b .now) (a .u .now) (a .v .now)
+
+returns : tie.Need-returns
+unfolding totalDepth
+returns c =
+    let p = c .before .before in
+    let t = p .before .before .before .before in
+    let d = t .before in
+    let b = d .before .before .before in
+    let s = state b in
+    let out = b .args .out .now in
+    state-printed s out (b .pre .depths .long)
+    (t .put-total .ensures ∙ ap (λ y. puts (totalLine y) (sink 0 out)) (held-is w64 (d .sum-depths .ok) (d .sum-depths .ensures)))
+    (p .put-cells .ensures)
+
+pub print-state-spec : {M : Type 1} → statement M
+print-state-spec =
+    tie.close
+    (tie.spec
+    (λ c κs. depths-ready (state (c .before .before)) (c .before .before .pre))
+    (λ c κs. search needs)
+    (λ c κs. cells-ready _ (c .before .before .before .before .before .before .before .pre))
+    (λ c. search needs)
+    returns)
