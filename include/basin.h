@@ -88,7 +88,7 @@ extern "C" {
  * basin_version() returns that of the library. A caller that finds two numbers
  * has a header and a library that do not belong together.
  */
-#define BASIN_VERSION 200
+#define BASIN_VERSION 300
 uint64_t basin_version(void);
 
 /*
