@@ -71,6 +71,9 @@ value-read t (p ∷ ps) r h = by (eqb (p .tag) t) refl (value-read t ps (r .1)) 
     by true e ih h = subst (λ x. Read (part x (p .value))) (eqb-true (p .tag) t e) (r .0)
     by false e ih h = ih h
 
+field : (t : ℕ) {x y : List ℕ} {l k : List Part} → x ≡ y → l ≡ k → part t x ∷ l ≡ part t y ∷ k
+field t e f = ap₂ _∷_ (ap (part t) e) f
+
 fields-back : (ps : List Part) → T (sameBy eqb (tagsOf ps) tags) → AllRead ps → BytesOf (cells (stateIn ps)) ps → partsOf (stateIn ps) (timestampIn ps) ≡ ps
 unfolding partsOf stateIn timestampIn
 fields-back ps t r b =
@@ -85,7 +88,7 @@ fields-back ps t r b =
     let z = put-numbers 4 w32 refl m (v 5) (b .1) (read 5 tt .plain) in
     let x = put-numbers 2 w16 refl m (v 6) (b .2) (read 6 tt .plain) in
     let y = put-numbers 2 w16 refl m (v 7) (b .3) (read 7 tt .plain) in
-    (λ i. part 1 (grid i) ∷ part 2 (constants i) ∷ part 3 (timestamp i) ∷ part 4 (h i) ∷ part 5 (z i) ∷ part 6 (x i) ∷ part 7 (y i) ∷ [])
+    field 1 grid (field 2 constants (field 3 timestamp (field 4 h (field 5 z (field 6 x (field 7 y refl))))))
     ∙ sym (by-tag 1 ps ps (subst (λ l. T (follow 1 l)) (sym e) tt) (λ t n. refl) ∙ ap (byTag ps) e)
 
 -- ---- what an accepted read says of the fields found
