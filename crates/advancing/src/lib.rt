@@ -12,10 +12,10 @@ ghost use Rattle.grid.specs.Parts.{part};
 ghost use Rattle.grid.specs.Banks.{Elsewhere};
 ghost use Rattle.passes.specs.Spaces.{baseIn, resultIn, PassReady};
 ghost use Rattle.advancing.specs.Outcomes.{boundsBy, afterScan, fieldTest, Stepped, StepReady, Rest};
-use tests::Fault;
-use tests::Found;
 use model::Field;
 use model::Parameters;
+use tests::Fault;
+use tests::Found;
 
 // ---- refusal 6
 

@@ -147,14 +147,7 @@ fn fill_tendencies(
 }
 
 // Tests 1 to 5 of a state and of q, the potential vorticity lent.
-fn test_vorticity(
-    p: Parameters,
-    h: &[i64],
-    b: &[i64],
-    u: &[i64],
-    v: &[i64],
-    q: &[i64],
-) -> Answer
+fn test_vorticity(p: Parameters, h: &[i64], b: &[i64], u: &[i64], v: &[i64], q: &[i64]) -> Answer
     ensures { λ r. ⌜
         (let s = before p h b u v in
         r ≡ answerOf (firstFound (stateTests s (taken s Vorticity (now (q .entry)) ∷ []) [] [])))

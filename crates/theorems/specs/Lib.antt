@@ -28,9 +28,9 @@ pub mod Walks
 pub mod Tags
 pub mod Damage
 pub mod RoundTrip
+pub mod ReadCauses
 pub mod Rewrite
 pub mod AnyOrder
-pub mod ReadCauses
 pub mod Program
 pub mod Output
 pub mod Comparing

@@ -67,7 +67,7 @@ refuses rec rooms r =
       λ p. (p .0, whole-iff rec (p .0) .1 (p .1), finds (recordTests (stateIn (p .0)) (p .0) rooms) r .1 (p .2)),
     )
 
-accepts : (rec rooms : List ℕ) (s : State) (t : Timestamp) → (decode rec rooms ≡ accepted s t) ↔ Readable rec rooms s t
+pub accepts : (rec rooms : List ℕ) (s : State) (t : Timestamp) → (decode rec rooms ≡ accepted s t) ↔ Readable rec rooms s t
 unfolding decode
 accepts rec rooms s t =
     accepted-by rooms (walked rec) s t
@@ -141,7 +141,7 @@ module _ (rec : List ℕ) (h b u v h′ b′ u′ v′ : List ℤ) where
         λ c. promised (refused r) (i .1 (c .0)) (c .1) (c .2) (c .3) (c .4),
       )
 
-  read-accepts : (p : Parameters) (t : Timestamp) → ReadPromise rec h b u v (Read p t) h′ b′ u′ v′
+  pub read-accepts : (p : Parameters) (t : Timestamp) → ReadPromise rec h b u v (Read p t) h′ b′ u′ v′
       ↔ ((s : State) × Readable rec (length h ∷ length b ∷ length u ∷ length v ∷ []) s t × (p ≡ parametersOf s)
       × (h′ ≡ filled (cells s) (s .h) h) × (b′ ≡ filled (cells s) (s .b) b) × (u′ ≡ filled (cells s) (s .u) u) × (v′ ≡ filled (cells s) (s .v) v))
   unfolding readOf

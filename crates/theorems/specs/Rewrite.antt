@@ -2,7 +2,6 @@
 use mathlib.Core.Path.{_≡_, refl, sym, ap, ap₂, subst, _∙_}
 use mathlib.Core.Bool.{Bool, true, false, cond, _||_}
 use mathlib.Core.List.{List, [], _∷_, map}
-use mathlib.Core.Option.{Option, none, some}
 use Prim.Native.Nat.{ℕ, suc, _+_, _*_, _≤_, _<_}
 use native.Mathlib.Omega.{arith}
 use lib.Dec.{T, eqb, eqb→eq}
@@ -12,18 +11,19 @@ use mir.Syntax.{w16, w32}
 use borrow.Author.Tests.{eqb-true, eq-eqb, ne-eqb}
 use Rattle.model.specs.Numbers.{any, sameBy}
 use Rattle.model.specs.State.{State, stateOf, parametersOf, cells, WithinLimits}
-use Rattle.model.specs.Record.{tagTable, Part, joined, partsOf, encode, recordLength, valueOf, Walked, damaged, whole, walked, risingBy, rising, stateIn, timestampIn, recordTest, Decoded, accepted, judged, readBy, decode}
-use Rattle.model.specs.Promises.{WritePromise, readAnswer, readInto, readOf, ReadPromise}
-use Rattle.model.specs.Claims.{EachRoom, BytesOf, ReadClaim, RewriteClaim}
+use Rattle.model.specs.Record.{tagTable, Part, joined, partsOf, encode, recordLength, valueOf, whole, walked, risingBy, rising, stateIn, timestampIn, accepted, decode}
+use Rattle.model.specs.Promises.{WritePromise, ReadPromise}
+use Rattle.model.specs.Claims.{EachRoom, BytesOf, Readable, ReadClaim, RewriteClaim}
 use Rattle.model.specs.declared.Parameters.{Parameters}
-use Rattle.model.specs.declared.Refusal.{Refusal}
 use Rattle.model.specs.declared.ReadAnswer.the-variants as Answer
 use Rattle.model.specs.declared.WriteAnswer.the-variants.{Written}
-use Rattle.theorems.specs.Truth.{and-iff, eq-iff, same-by, differ}
+use Rattle.theorems.specs.Truth.{and-iff, eq-iff, same-by}
 use Rattle.theorems.specs.Bytes.{AllBytes, back-bytes, put-numbers}
 use Rattle.theorems.specs.Walks.{Read, AllRead, unwalk}
 use Rattle.theorems.specs.Tags.{follow}
-use Rattle.theorems.specs.RoundTrip.{fields-iff, length-encode, written, read-part}
+use Rattle.theorems.specs.Damage.{whole-iff}
+use Rattle.theorems.specs.RoundTrip.{length-encode, written, read-part}
+use Rattle.theorems.specs.ReadCauses.{accepts, read-accepts}
 
 -- ---- fields with rising tags are what the writer writes of what they mean
 
@@ -91,92 +91,38 @@ fields-back ps t r b =
     field 1 grid (field 2 constants (field 3 timestamp (field 4 h (field 5 z (field 6 x (field 7 y refl))))))
     ∙ sym (by-tag 1 ps ps (subst (λ l. T (follow 1 l)) (sym e) tt) (λ t n. refl) ∙ ap (byTag ps) e)
 
--- ---- what an accepted read says of the fields found
+-- ---- what is read
 
--- what a read that answers p and u found
-record Found (x : Option Refusal) (s : State) (t : ℕ) (p : Parameters) (u : ℕ) : Type 0 where
-  passes : x ≡ none
-  parameters : p ≡ parametersOf s
-  timestamp : u ≡ t
-
-read-same : (p q : Parameters) (t u : ℕ) → Answer.Read p t ≡ Answer.Read q u → (q ≡ p) × (u ≡ t)
-read-same p q t u h = (cc, cc)
-
-refused≢ : {A : Type 0} {r : Refusal} {p : Parameters} {t : ℕ} → Answer.Refused r ≡ Answer.Read p t → A
-refused≢ h = differ (cc h)
-
-found : (x : Option Refusal) (s : State) (t : ℕ) (p : Parameters) (u : ℕ) → readAnswer (judged x s t) ≡ Answer.Read p u → Found x s t p u
-found none s t p u h = let e = read-same (parametersOf s) p t u h in record { passes = refl; parameters = e .0; timestamp = e .1 }
-found (some r) s t p u h = refused≢ h
-
--- what is decoded is within the limits, and has room
-judged-same : (x : Option Refusal) (s s′ : State) (t t′ : ℕ) → judged x s t ≡ accepted s′ t′ → (x ≡ none) × (s ≡ s′)
-judged-same none s s′ t t′ h = (refl, cc h)
-judged-same (some r) s s′ t t′ h = differ (cc h)
-
-decoded-by : (rooms : List ℕ) (w : Walked) (s : State) (t : ℕ) → readBy rooms w ≡ accepted s t → WithinLimits s × EachRoom (cells s) rooms
-decoded-by rooms (damaged r) s t h = differ (cc h)
-decoded-by rooms (whole parts) s t h =
-    let e = judged-same (recordTest (stateIn parts) parts rooms) (stateIn parts) s (timestampIn parts) t h in
-    let f = fields-iff parts rooms .0 (e .0) in
-    subst (λ (x : State). WithinLimits x × EachRoom (cells x) rooms) (e .1) (f .2, f .1)
-
+-- a state within the limits, that has room
 pub decoded-within : (rec rooms : List ℕ) (s : State) (t : ℕ) → decode rec rooms ≡ accepted s t → WithinLimits s × EachRoom (cells s) rooms
-unfolding decode
-decoded-within rec rooms s t h = decoded-by rooms (walked rec) s t h
+decoded-within rec rooms s t h = let r = accepts rec rooms s t .0 h in (r .inside, r .room)
 
--- what the reader found in a record that it accepts
-record Accepts (p : Parameters) (t : ℕ) (w : Walked) (x : Decoded) : Type 0 where
-  parts : List Part
-  walks : w ≡ whole parts
-  inside : WithinLimits (stateIn parts)
-  bytes : BytesOf (cells (stateIn parts)) parts
-  read : x ≡ accepted (stateIn parts) t
-  parameters : p ≡ parametersOf (stateIn parts)
-  timestamp : t ≡ timestampIn parts
-
-accepts : (rooms : List ℕ) (p : Parameters) (t : ℕ) (w : Walked) → readAnswer (readBy rooms w) ≡ Answer.Read p t → Accepts p t w (readBy rooms w)
-accepts rooms p t (damaged r) h = refused≢ h
-accepts rooms p t (whole parts) h =
-    let s = stateIn parts in
-    let f = found (recordTest s parts rooms) s (timestampIn parts) p t h in
-    let a = fields-iff parts rooms .0 (f .passes) in
-    record {
-      parts = parts;
-      walks = refl;
-      inside = a .2;
-      bytes = a .0;
-      read = ap₂ (λ x y. judged x s y) (f .passes) (sym (f .timestamp));
-      parameters = f .parameters;
-      timestamp = f .timestamp;
-    }
-
-accepts-of : (rec : List ℕ) (h b u v : List ℤ) (p : Parameters) (t : ℕ) → readAnswer (readOf rec h b u v) ≡ Answer.Read p t → Accepts p t (walked rec) (readOf rec h b u v)
-unfolding readOf decode
-accepts-of rec h b u v p t e = accepts (length h ∷ length b ∷ length u ∷ length v ∷ []) p t (walked rec) e
-
--- and what it left in the four fields
+-- which stands in the four fields
 module _ (rec : List ℕ) (h b u v h′ b′ u′ v′ : List ℤ) (p : Parameters) (t : ℕ) (rp : ReadPromise rec h b u v (Answer.Read p t) h′ b′ u′ v′) where
-  read-of : Accepts p t (walked rec) (readOf rec h b u v)
-  read-of = accepts-of rec h b u v p t (sym (rp .answers))
+  abbrev read : State
+  read = read-accepts rec h b u v h′ b′ u′ v′ p t .0 rp .0
+
+  found : Readable rec (length h ∷ length b ∷ length u ∷ length v ∷ []) read t
+  found = read-accepts rec h b u v h′ b′ u′ v′ p t .0 rp .1
 
   abbrev left : State
   left = stateOf p (take (p .w * p .n) h′) (take (p .w * p .n) b′) (take (p .w * p .n) u′) (take (p .w * p .n) v′)
 
-  left-is : left ≡ stateIn (read-of .parts)
+  left-is : left ≡ read
   left-is =
-      let s = stateIn (read-of .parts) in
-      let l = read-of .inside in
-      let ph = read-part (cells s) (s .h) h h′ (l .depths .long) (rp .fills-h ∙ ap (λ x. readInto (λ s. s .h) x h) (read-of .read)) in
-      let pb = read-part (cells s) (s .b) b b′ (l .bottoms .long) (rp .fills-b ∙ ap (λ x. readInto (λ s. s .b) x b) (read-of .read)) in
-      let pu = read-part (cells s) (s .u) u u′ (l .us .long) (rp .fills-u ∙ ap (λ x. readInto (λ s. s .u) x u) (read-of .read)) in
-      let pv = read-part (cells s) (s .v) v v′ (l .vs .long) (rp .fills-v ∙ ap (λ x. readInto (λ s. s .v) x v) (read-of .read)) in
-      ap (λ (p : Parameters). stateOf p (take (p .w * p .n) h′) (take (p .w * p .n) b′) (take (p .w * p .n) u′) (take (p .w * p .n) v′)) (read-of .parameters)
-      ∙ (λ i. stateOf (parametersOf s) (ph i) (pb i) (pu i) (pv i))
+      let f = read-accepts rec h b u v h′ b′ u′ v′ p t .0 rp in
+      let m = cells read in
+      let l = found .inside in
+      let ph = read-part m (read .h) h h′ (l .depths .long) (f .3) in
+      let pb = read-part m (read .b) b b′ (l .bottoms .long) (f .4) in
+      let pu = read-part m (read .u) u u′ (l .us .long) (f .5) in
+      let pv = read-part m (read .v) v v′ (l .vs .long) (f .6) in
+      ap (λ (p : Parameters). stateOf p (take (p .w * p .n) h′) (take (p .w * p .n) b′) (take (p .w * p .n) u′) (take (p .w * p .n) v′)) (f .2)
+      ∙ (λ i. stateOf (parametersOf read) (ph i) (pb i) (pu i) (pv i))
 
 pub read-within : ReadClaim
 read-within rec h b u v h′ b′ u′ v′ p t rp =
-    subst WithinLimits (sym (left-is rec h b u v h′ b′ u′ v′ p t rp)) (read-of rec h b u v h′ b′ u′ v′ p t rp .inside)
+    subst WithinLimits (sym (left-is rec h b u v h′ b′ u′ v′ p t rp)) (found rec h b u v h′ b′ u′ v′ p t rp .inside)
 
 -- ---- a record whose tags rise
 
@@ -195,16 +141,20 @@ whole-record rec plain parts e =
     start n = omega arith
 
 -- and what the writer makes of them
-encoded : (rec : List ℕ) → AllBytes rec → (parts : List Part) → walked rec ≡ whole parts → T (rising rec) → BytesOf (cells (stateIn parts)) parts → encode (stateIn parts) (timestampIn parts) ≡ rec
+encoded : (rec rooms : List ℕ) → AllBytes rec → T (rising rec) → (s : State) (t : ℕ) → Readable rec rooms s t → encode s t ≡ rec
 unfolding encode rising
-encoded rec plain parts e r b = let w = whole-record rec plain parts e in ap joined (fields-back parts (subst (λ w. T (risingBy w)) e r) (w .1) b) ∙ w .0
+encoded rec rooms plain r s t f =
+    let e = whole-iff rec (f .parts) .1 (f .whole) in
+    let w = whole-record rec plain (f .parts) e in
+    let b = subst (λ (s : State). BytesOf (cells s) (f .parts)) (sym (f .state)) (f .bytes) in
+    ap₂ (λ s t. joined (partsOf s t)) (sym (f .state)) (sym (f .timestamp)) ∙ ap joined (fields-back (f .parts) (subst (λ w. T (risingBy w)) e r) (w .1) b) ∙ w .0
 
 pub rewritten : RewriteClaim
 rewritten rec d d′ h b u v h′ b′ u′ v′ p t written′ plain r rp wp room =
-    let o = read-of rec h b u v h′ b′ u′ v′ p t rp in
-    let s = stateIn (o .parts) in
-    let l = o .inside in
-    let e : encode s t ≡ rec = ap (encode s) (o .timestamp) ∙ encoded rec (all-bytes rec plain) (o .parts) (o .walks) r (o .bytes) in
+    let s = read rec h b u v h′ b′ u′ v′ p t rp in
+    let f = found rec h b u v h′ b′ u′ v′ p t rp in
+    let l = f .inside in
+    let e = encoded rec (length h ∷ length b ∷ length u ∷ length v ∷ []) (all-bytes rec plain) r s t f in
     let n : length rec ≡ recordLength s = ap length (sym e) ∙ length-encode s l t in
     let w = written s l t d d′ written′ (subst (λ m. m ≤ length d) n room) (subst (λ x. WritePromise x t d written′ d′) (left-is rec h b u v h′ b′ u′ v′ p t rp) wp) in
     (w .0 ∙ ap Written (sym n), ap (λ m. take m d′) n ∙ w .1 ∙ e)

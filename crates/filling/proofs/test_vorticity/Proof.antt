@@ -67,5 +67,5 @@ test-vorticity-spec =
     then-field-requires
     (λ c κs h. let l = fields-long-after (state (c .before .before .before .before .before .before .before)) (values c) h in (l .u, l .v))
     (λ c.
-        let s = state (c .before .before .before .before .before .before .before .before) in
-        more (edgeTests s) (values (c .before)) (c .then-edges .ensures (s .h) (s .b)) .is))
+    let s = state (c .before .before .before .before .before .before .before .before) in
+    more (edgeTests s) (values (c .before)) (c .then-edges .ensures (s .h) (s .b)) .is))
