@@ -17,8 +17,7 @@ use Rattle.integers.specs.Ranges.{between}
 use Rattle.theorems.specs.Truth.{differ}
 use Rattle.theorems.specs.TestLaws.{found-append}
 use Rattle.tests.specs.declared.Found.the-variants.{At, Nowhere}
-use Rattle.tests.specs.declared.Fault.the-variants.{Outside as OutsideRange}
-use Rattle.tests.specs.Faults.{badIn, foundBy}
+use Rattle.tests.specs.Sought.{outsideIn, foundBy}
 use Rattle.advancing.specs.declared.Bounds.{Bounds}
 use Rattle.advancing.specs.declared.Bounds.the-variants.{Kept, Outside}
 use Rattle.advancing.specs.Outcomes.{boundsBy, fieldTest, afterScan}
@@ -33,9 +32,9 @@ found-nowhere : (field : Field) (o : Option ℕ) → Nowhere ≡ foundBy o → K
 found-nowhere field none e = refl
 found-nowhere field (some x) e = differ (cc e)
 
-module _ (field : Field) (w m : ℕ) (f : List ℤ) (l : Range) (e : between l ≡ limitsOf field) {earlier : Bounds} (kept : earlier ≡ Kept) where
+module _ (field : Field) (m : ℕ) (f : List ℤ) (l : Range) (e : between l ≡ limitsOf field) {earlier : Bounds} (kept : earlier ≡ Kept) where
   abbrev scan : Option ℕ
-  scan = firstFrom (badIn (OutsideRange l) w f) m 0
+  scan = firstFrom (outsideIn l f) m 0
 
   -- the code's scan with the field's range is the model's
   scan-is : boundsBy (foundAt (place field) scan then none) ≡ afterScan earlier (fieldTest field m f ∷ [])

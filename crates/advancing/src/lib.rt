@@ -14,7 +14,6 @@ ghost use Rattle.passes.specs.Spaces.{baseIn, resultIn, PassReady};
 ghost use Rattle.advancing.specs.Outcomes.{boundsBy, afterScan, fieldTest, Stepped, StepReady, Rest};
 use model::Field;
 use model::Parameters;
-use tests::Fault;
 use tests::Found;
 
 // ---- refusal 6
@@ -26,14 +25,16 @@ pub enum Bounds {
 }
 
 // A link of the scan: what was found so far, or else the first cell of a field that is outside its bounds.
-fn then_bounds(earlier: Bounds, w: usize, n: usize, f: &[i64], field: Field) -> Bounds
-    requires { ⌜ length (now f) ≡ w * n ⌝ }
-    ensures { λ r. ⌜ r ≡ afterScan earlier (fieldTest field (w * n) (now (f .entry)) ∷ []) ⌝ }
+fn then_bounds(earlier: Bounds, f: &[i64], field: Field) -> Bounds
+    ensures { λ r. ⌜
+        (let l = now (f .entry) in
+        r ≡ afterScan earlier (fieldTest field (length l) l ∷ []))
+        ⌝ }
 {
     let Bounds::Kept = earlier else {
         return earlier;
     };
-    match tests::first_bad(w, n, f, Fault::Outside(tests::limits(field))) {
+    match tests::first_outside(f, tests::limits(field)) {
         Found::At(cell) => Bounds::Outside { field, cell },
         Found::Nowhere => Bounds::Kept,
     }
@@ -46,11 +47,11 @@ fn first_outside(p: Parameters, work: &[i64]) -> Bounds
 {
     let m = p.w * p.n;
     let h = grid::part_of(work, 3 * m, m);
-    let first = then_bounds(Bounds::Kept, p.w, p.n, h, Field::Depth);
+    let first = then_bounds(Bounds::Kept, h, Field::Depth);
     let u = grid::part_of(work, 4 * m, m);
-    let second = then_bounds(first, p.w, p.n, u, Field::VelocityU);
+    let second = then_bounds(first, u, Field::VelocityU);
     let v = grid::part_of(work, 5 * m, m);
-    then_bounds(second, p.w, p.n, v, Field::VelocityV)
+    then_bounds(second, v, Field::VelocityV)
 }
 
 // ---- states into the work space and out of it

@@ -23,9 +23,9 @@ use Rattle.model.specs.declared.Answer.the-variants.{Accepted, Refused}
 use Rattle.theorems.specs.Truth.{true-T, differ}
 use Rattle.theorems.specs.TestLaws.{passes-append, found-append}
 use Rattle.theorems.specs.RoundTrip.{bytes-iff}
-use Rattle.tests.specs.declared.Fault.{Fault}
-use Rattle.tests.specs.declared.Fault.the-variants.{West, South}
-use Rattle.tests.specs.Faults.{bare, cellTest, edges-are}
+use Rattle.tests.specs.declared.Edge.{Edge}
+use Rattle.tests.specs.declared.Edge.the-variants.{West, South}
+use Rattle.tests.specs.Sought.{bare, stillTest, edges-are}
 use Rattle.tests.specs.Links.{after, Chain, passed, accepted-none, refused-some}
 use Rattle.walking.specs.Places.{partsIn, Placed, Found}
 use Rattle.examining.specs.Tests.{stateRead, Meant, Examined}
@@ -44,12 +44,12 @@ module _ {rec at : List ℕ} {p : Parameters} (z : Meant rec at p) where
   own-taken field e = λ i. record { field = field; count = cells-are i; limits = limitsOf field; numbers = e i }
 
   -- u's edges, then v's
-  pub own-edges : cellTest (p .w) (p .n) (s .u) VelocityU (West p) ∷ cellTest (p .w) (p .n) (s .v) VelocityV (South p) ∷ [] ≡ edgeTests s
+  pub own-edges : stillTest p West VelocityU (s .u) ∷ stillTest p South VelocityV (s .v) ∷ [] ≡ edgeTests s
   own-edges = edges-are p (s .h) (s .b) (s .u) (s .v) ∙ ap (λ p. edgeTests (stateOf p (s .h) (s .b) (s .u) (s .v))) (z .parameters)
 
 -- a link whose numbers are known to be others
-pub numbers-as : (a : Answer) {r : Answer} (w n : ℕ) (field : Field) (t : Fault) {l f : List ℤ} → l ≡ f → r ≡ after a (cellTest w n l field t ∷ []) → r ≡ after a (cellTest w n f field t ∷ [])
-numbers-as a w n field t e h = h ∙ ap (λ l. after a (cellTest w n l field t ∷ [])) e
+pub numbers-as : (a : Answer) {r : Answer} (p : Parameters) (edge : Edge) (field : Field) {l f : List ℤ} → l ≡ f → r ≡ after a (stillTest p edge field l ∷ []) → r ≡ after a (stillTest p edge field f ∷ [])
+numbers-as a p edge field e h = h ∙ ap (λ l. after a (stillTest p edge field l ∷ [])) e
 
 -- where test 2 has passed, after one test
 pub bytes-passed : (m : ℕ) (parts : List Part) {e a : Answer} {t : Test Refusal} {k : List (Test Refusal)} → Chain e a (t ∷ (bytesTests m parts tagTable ++ k)) → a ≡ Accepted → BytesOf m parts

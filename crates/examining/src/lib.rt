@@ -13,7 +13,7 @@ ghost use Rattle.model.specs.Claims.{BytesOf};
 ghost use Rattle.model.specs.declared.Answer.the-variants.{Accepted};
 ghost use Rattle.model.specs.declared.Refusal.the-variants.{Value};
 ghost use Rattle.integers.specs.Ranges.{between};
-ghost use Rattle.tests.specs.Faults.{bare, badIn, foundBy, cellTest};
+ghost use Rattle.tests.specs.Sought.{bare, foundBy, outsideIn, movingAt, badIn, stillTest};
 ghost use Rattle.tests.specs.Links.{after};
 ghost use Rattle.wire.specs.Sizes.{sizeOf, numbersBy};
 ghost use Rattle.wire.specs.Tags.{lastTag};
@@ -23,7 +23,7 @@ use integers::Range;
 use model::Answer;
 use model::Field;
 use model::Parameters;
-use tests::Fault;
+use tests::Edge;
 use tests::Found;
 use walking::Places;
 use wire::Size;
@@ -87,49 +87,44 @@ fn then_values(earlier: Answer, rec: &[u8], at: &Places, m: usize) -> Answer
 
 // ---- tests 4 and 5
 
-// The first cell that has the fault, in index order, of the numbers in a value: the loops end there.
-fn first_bad_in(w: usize, n: usize, value: &[u8], size: Size, t: Fault) -> Found
-    requires { ⌜ length (now value) ≡ w * n * sizeOf size ⌝ }
+// The first of m numbers in a value that is outside a range: the loop ends there.
+fn first_outside_in(m: usize, value: &[u8], size: Size, l: Range) -> Found
+    requires { ⌜ length (now value) ≡ m * sizeOf size ⌝ }
+    ensures { λ r. ⌜ r ≡ foundBy (firstFrom (outsideIn l (numbersBy size m (now (value .entry)))) m 0) ⌝ }
+{
+    let each = wire::bytes_of(size);
+    for k in 0..m {
+        let x = wire::number_at(value, k * each, size);
+        if !integers::within(x, l) {
+            return Found::At(k);
+        }
+    }
+    Found::Nowhere
+}
+
+// The first cell of the numbers in a value with a velocity on a closed edge, in index order: the loops end there.
+fn first_moving_in(p: Parameters, value: &[u8], size: Size, edge: Edge) -> Found
+    requires { ⌜ length (now value) ≡ p .w * p .n * sizeOf size ⌝ }
     ensures { λ r. ⌜
-        r ≡ foundBy (firstFrom (badIn t w (numbersBy size (w * n) (now (value .entry)))) (w * n) 0)
+        (let numbers = numbersBy size (p .w * p .n) (now (value .entry)) in
+        r ≡ foundBy (firstFrom (badIn (movingAt p edge) (p .w) numbers) (p .w * p .n) 0))
         ⌝ }
 {
     let each = wire::bytes_of(size);
-    let columns = tests::columns_of(t, w);
-    let rows = tests::rows_of(t, n);
+    let columns = tests::columns_of(p, edge);
+    let rows = tests::rows_of(p, edge);
     let mut found = Found::Nowhere;
     'scan: for j in 0..rows {
         for i in 0..columns {
-            let k = j * w + i;
+            let k = j * p.w + i;
             let x = wire::number_at(value, k * each, size);
-            if tests::is_bad(t, x, i, j) {
+            if tests::is_moving(p, edge, x, i, j) {
                 found = Found::At(k);
                 break 'scan;
             }
         }
     }
     found
-}
-
-// The test of a field's cells, in its bytes.
-fn then_cells_in(
-    earlier: Answer,
-    p: Parameters,
-    value: &[u8],
-    size: Size,
-    field: Field,
-    t: Fault,
-) -> Answer
-    requires { ⌜ (earlier ≡ Accepted → length (now value) ≡ p .w * p .n * sizeOf size) ⌝ }
-    ensures { λ r. ⌜
-        (let numbers = numbersBy size (p .w * p .n) (now (value .entry)) in
-        r ≡ after earlier (cellTest (p .w) (p .n) numbers field t ∷ []))
-        ⌝ }
-{
-    let Answer::Accepted = earlier else {
-        return earlier;
-    };
-    tests::found_answer(first_bad_in(p.w, p.n, value, size, t), field, t)
 }
 
 // Test 4 of one field, by these limits.
@@ -149,7 +144,11 @@ fn then_within_in(
         (record { field = field; count = p .w * p .n; limits = between limits; numbers = numbers }) ∷ []))
         ⌝ }
 {
-    then_cells_in(earlier, p, value, size, field, Fault::Outside(limits))
+    let Answer::Accepted = earlier else {
+        return earlier;
+    };
+    let m = p.w * p.n;
+    tests::value_answer(first_outside_in(m, value, size, limits), field)
 }
 
 // Test 4 of one field, by 01's limits.
@@ -181,6 +180,27 @@ fn then_fields_in(earlier: Answer, rec: &[u8], at: &Places, p: Parameters) -> An
     then_field_in(west, p, v, Size::Two, Field::VelocityV)
 }
 
+// Test 5 of one field of velocities.
+fn then_still_in(
+    earlier: Answer,
+    p: Parameters,
+    value: &[u8],
+    size: Size,
+    field: Field,
+    edge: Edge,
+) -> Answer
+    requires { ⌜ (earlier ≡ Accepted → length (now value) ≡ p .w * p .n * sizeOf size) ⌝ }
+    ensures { λ r. ⌜
+        (let numbers = numbersBy size (p .w * p .n) (now (value .entry)) in
+        r ≡ after earlier (stillTest p edge field numbers ∷ []))
+        ⌝ }
+{
+    let Answer::Accepted = earlier else {
+        return earlier;
+    };
+    tests::edge_answer(first_moving_in(p, value, size, edge), field)
+}
+
 // Test 5: u before v.
 fn then_edges_in(earlier: Answer, rec: &[u8], at: &Places, p: Parameters) -> Answer
     requires { ⌜
@@ -191,8 +211,8 @@ fn then_edges_in(earlier: Answer, rec: &[u8], at: &Places, p: Parameters) -> Ans
 {
     let u = walking::value_of(rec, at, 6);
     let v = walking::value_of(rec, at, 7);
-    let west = then_cells_in(earlier, p, u, Size::Two, Field::VelocityU, Fault::West(p));
-    then_cells_in(west, p, v, Size::Two, Field::VelocityV, Fault::South(p))
+    let west = then_still_in(earlier, p, u, Size::Two, Field::VelocityU, Edge::West);
+    then_still_in(west, p, v, Size::Two, Field::VelocityV, Edge::South)
 }
 
 // ---- all of them

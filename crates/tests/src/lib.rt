@@ -16,9 +16,9 @@ ghost use Rattle.model.specs.Refusals.{taken, fieldsOf, gridKnown, gridTest, ru
 ghost use Rattle.model.specs.Refusals.{constantsWithin, constantsTest, valueTest, valueTests, edgeTests, roomTest, stateTests};
 ghost use Rattle.model.specs.Promises.{answerOf};
 ghost use Rattle.model.specs.declared.Answer.the-variants.{Accepted};
-ghost use Rattle.model.specs.declared.Refusal.the-variants.{Value};
+ghost use Rattle.model.specs.declared.Refusal.the-variants.{Value, ClosedEdge};
 ghost use Rattle.integers.specs.Ranges.{between};
-ghost use Rattle.tests.specs.Faults.{bare, badAt, badIn, foundBy, refusalBy, answerBy, ColumnsOf, RowsOf, cellTest};
+ghost use Rattle.tests.specs.Sought.{bare, foundBy, answerBy, outsideIn, movingAt, badIn, ColumnsOf, RowsOf, stillTest};
 ghost use Rattle.tests.specs.Links.{after, ownLengths, FieldsLong};
 use integers::Range;
 use model::Answer;
@@ -64,49 +64,7 @@ pub fn limits(field: Field) -> Range
     row_of(field).limits
 }
 
-// ---- a cell, and the scan of a field
-
-// What can be wrong with a cell: its number is outside a range (refusal 4); it has a velocity on a closed west edge, or on a
-// closed south edge (refusal 5).
-pub enum Fault {
-    Outside(Range),
-    West(Parameters),
-    South(Parameters),
-}
-
-// Whether cell (i, j), with number x, has the fault t. It rules out, for instance: the south wall along column 0; a velocity of 0
-// refused.
-pub fn is_bad(t: Fault, x: i64, i: usize, j: usize) -> bool
-    ensures { λ r. ⌜ r ≡ badAt t x i j ⌝ }
-{
-    match t {
-        Fault::Outside(l) => !integers::within(x, l),
-        Fault::West(p) => grid::closed_west(p, i, j) && x != 0,
-        Fault::South(p) => grid::closed_south(p, i, j) && x != 0,
-    }
-}
-
-// How many columns, from the first on, can have the fault, and how many rows: a scan goes no further. They rule out, for instance: the
-// last column left out of a scan for values; the south wall looked for at its first cell alone.
-pub fn columns_of(t: Fault, w: usize) -> usize
-    ensures { λ r. ⌜ ColumnsOf t w r ⌝ }
-{
-    match t {
-        Fault::Outside(_) => w,
-        Fault::West(p) => grid::closable_columns(p, w),
-        Fault::South(_) => w,
-    }
-}
-
-pub fn rows_of(t: Fault, n: usize) -> usize
-    ensures { λ r. ⌜ RowsOf t n r ⌝ }
-{
-    match t {
-        Fault::Outside(_) => n,
-        Fault::West(_) => n,
-        Fault::South(p) => grid::closable_rows(p, n),
-    }
-}
+// ---- scans
 
 // What a scan finds.
 pub enum Found {
@@ -114,36 +72,77 @@ pub enum Found {
     Nowhere,
 }
 
-// The first cell of a field that has the fault, in index order: the loops end there. It rules out, for instance: the last such cell;
-// a row told for a cell.
-pub fn first_bad(w: usize, n: usize, f: &[i64], t: Fault) -> Found
-    requires { ⌜ length (now f) ≡ w * n ⌝ }
-    ensures { λ r. ⌜ r ≡ foundBy (firstFrom (badIn t w (now (f .entry))) (w * n) 0) ⌝ }
+// The first number of a field that is outside a range: the loop ends there. It rules out, for instance: the last such number; the first
+// one left out.
+pub fn first_outside(f: &[i64], l: Range) -> Found
+    ensures { λ r. ⌜ r ≡ foundBy (firstFrom (outsideIn l (now (f .entry))) (length (now (f .entry))) 0) ⌝ }
 {
-    let columns = columns_of(t, w);
-    let rows = rows_of(t, n);
+    for k in 0..f.len() {
+        if !integers::within(f[k], l) {
+            return Found::At(k);
+        }
+    }
+    Found::Nowhere
+}
+
+// An edge of a cell that has a velocity: u stands on the west edge, v on the south edge.
+pub enum Edge {
+    West,
+    South,
+}
+
+// Whether x is a velocity on a closed edge of cell (i, j). It rules out, for instance: the south wall along column 0; a velocity of 0
+// refused.
+pub fn is_moving(p: Parameters, edge: Edge, x: i64, i: usize, j: usize) -> bool
+    ensures { λ r. ⌜ r ≡ movingAt p edge x i j ⌝ }
+{
+    match edge {
+        Edge::West => grid::closed_west(p, i, j) && x != 0,
+        Edge::South => grid::closed_south(p, i, j) && x != 0,
+    }
+}
+
+// How many columns, from the first on, can have such an edge closed, and how many rows: a scan goes no further. They rule out, for instance:
+// the south wall looked for at its first cell alone; the west wall in one row.
+pub fn columns_of(p: Parameters, edge: Edge) -> usize
+    ensures { λ r. ⌜ ColumnsOf (movingAt p edge) (p .w) r ⌝ }
+{
+    match edge {
+        Edge::West => grid::closable_columns(p, p.w),
+        Edge::South => p.w,
+    }
+}
+
+pub fn rows_of(p: Parameters, edge: Edge) -> usize
+    ensures { λ r. ⌜ RowsOf (movingAt p edge) (p .n) r ⌝ }
+{
+    match edge {
+        Edge::West => p.n,
+        Edge::South => grid::closable_rows(p, p.n),
+    }
+}
+
+// The first cell with a velocity on a closed edge, in index order: the loops end there. It rules out, for instance: the last such cell; a
+// row told for a cell.
+pub fn first_moving(p: Parameters, f: &[i64], edge: Edge) -> Found
+    requires { ⌜ length (now f) ≡ p .w * p .n ⌝ }
+    ensures { λ r. ⌜
+        r ≡ foundBy (firstFrom (badIn (movingAt p edge) (p .w) (now (f .entry))) (p .w * p .n) 0)
+        ⌝ }
+{
+    let columns = columns_of(p, edge);
+    let rows = rows_of(p, edge);
     let mut found = Found::Nowhere;
     'scan: for j in 0..rows {
         for i in 0..columns {
-            let k = j * w + i;
-            if is_bad(t, f[k], i, j) {
+            let k = j * p.w + i;
+            if is_moving(p, edge, f[k], i, j) {
                 found = Found::At(k);
                 break 'scan;
             }
         }
     }
     found
-}
-
-// The refusal that a cell with the fault makes. It rules out, for instance: a closed edge told as a value outside; u told for v.
-pub fn refusal_of(t: Fault, field: Field, cell: usize) -> Refusal
-    ensures { λ r. ⌜ r ≡ refusalBy t field cell ⌝ }
-{
-    match t {
-        Fault::Outside(_) => Refusal::Value { field, cell },
-        Fault::West(_) => Refusal::ClosedEdge { field, cell },
-        Fault::South(_) => Refusal::ClosedEdge { field, cell },
-    }
 }
 
 // ---- the two kinds of link
@@ -161,25 +160,24 @@ pub fn then_asks(earlier: Answer, holds: bool, own: Refusal) -> Answer
     Answer::Refused(own)
 }
 
-// A test that seeks: what it answers by what its scan found. It rules out, for instance: a cell told of another field; a clean field
-// refused.
-pub fn found_answer(found: Found, field: Field, t: Fault) -> Answer
-    ensures { λ r. ⌜ r ≡ answerBy (refusalBy t field) found ⌝ }
+// A test that seeks: what tests 4 and 5 answer, by what their scan found. They rule out, for instance: a cell told of another field; a
+// clean field refused; a closed edge told as a value outside.
+pub fn value_answer(found: Found, field: Field) -> Answer
+    ensures { λ r. ⌜ r ≡ answerBy (Value field) found ⌝ }
 {
     match found {
-        Found::At(k) => Answer::Refused(refusal_of(t, field, k)),
+        Found::At(cell) => Answer::Refused(Refusal::Value { field, cell }),
         Found::Nowhere => Answer::Accepted,
     }
 }
 
-fn then_cells(earlier: Answer, w: usize, n: usize, f: &[i64], field: Field, t: Fault) -> Answer
-    requires { ⌜ (earlier ≡ Accepted → length (now f) ≡ w * n) ⌝ }
-    ensures { λ r. ⌜ r ≡ after earlier (cellTest w n (now (f .entry)) field t ∷ []) ⌝ }
+pub fn edge_answer(found: Found, field: Field) -> Answer
+    ensures { λ r. ⌜ r ≡ answerBy (ClosedEdge field) found ⌝ }
 {
-    let Answer::Accepted = earlier else {
-        return earlier;
-    };
-    found_answer(first_bad(w, n, f, t), field, t)
+    match found {
+        Found::At(cell) => Answer::Refused(Refusal::ClosedEdge { field, cell }),
+        Found::Nowhere => Answer::Accepted,
+    }
 }
 
 // ---- 1
@@ -304,7 +302,10 @@ pub fn then_within(earlier: Answer, p: Parameters, f: &[i64], field: Field, limi
         ∷ [])
         ⌝ }
 {
-    then_cells(earlier, p.w, p.n, f, field, Fault::Outside(limits))
+    let Answer::Accepted = earlier else {
+        return earlier;
+    };
+    value_answer(first_outside(f, limits), field)
 }
 
 // Test 4 of one field, by 01's limits. It rules out, for instance: the inflow's limits for q; the lowest cell left out.
@@ -333,6 +334,17 @@ pub fn then_fields(
     then_field(west, p, v, Field::VelocityV)
 }
 
+// Test 5 of one field of velocities.
+fn then_still(earlier: Answer, p: Parameters, f: &[i64], field: Field, edge: Edge) -> Answer
+    requires { ⌜ (earlier ≡ Accepted → length (now f) ≡ p .w * p .n) ⌝ }
+    ensures { λ r. ⌜ r ≡ after earlier (stillTest p edge field (now (f .entry)) ∷ []) ⌝ }
+{
+    let Answer::Accepted = earlier else {
+        return earlier;
+    };
+    edge_answer(first_moving(p, f, edge), field)
+}
+
 // Test 5: u before v. It rules out, for instance: v's closed edges told before u's; the south wall untested.
 pub fn then_edges(earlier: Answer, p: Parameters, u: &[i64], v: &[i64]) -> Answer
     requires { ⌜
@@ -343,8 +355,8 @@ pub fn then_edges(earlier: Answer, p: Parameters, u: &[i64], v: &[i64]) -> Answe
         → r ≡ after earlier (edgeTests (stateOf p h b (now (u .entry)) (now (v .entry)))))
         ⌝ }
 {
-    let west = then_cells(earlier, p.w, p.n, u, Field::VelocityU, Fault::West(p));
-    then_cells(west, p.w, p.n, v, Field::VelocityV, Fault::South(p))
+    let west = then_still(earlier, p, u, Field::VelocityU, Edge::West);
+    then_still(west, p, v, Field::VelocityV, Edge::South)
 }
 
 // ---- 8

@@ -1,15 +1,19 @@
 -- `advancing::first_outside` meets its contract. The three banks of the result are cut out one after the other, and each scan takes what
 -- the one before it found; `scans` says that this is 01's order h, u, v. Assumes nothing.
-use mathlib.Core.Path.{ap, _∙_}
-use mathlib.Core.List.{[], _∷_}
-use Prim.Native.Nat.{_*_, _≤_}
+use mathlib.Core.Path.{_≡_, ap, _∙_}
+use mathlib.Core.List.{List, [], _∷_}
+use Prim.Native.Nat.{ℕ, _+_, _*_, _≤_}
 use native.Mathlib.Omega.{arith}
+use lib.IntN.{ℤ}
 use lib.ListN.{length}
+use borrow.Author.Needs.{needs}
 use Rattle.model.specs.Step.{leaves}
+use Rattle.model.specs.declared.Field.{Field}
 use Rattle.model.specs.declared.Field.the-variants.{Depth, VelocityU, VelocityV}
 use Rattle.grid.specs.Cells.{cells-most}
 use Rattle.grid.specs.Parts.{part}
 use Rattle.grid.specs.Banks.{length-part}
+use Rattle.advancing.specs.declared.Bounds.{Bounds}
 use Rattle.advancing.specs.declared.Bounds.the-variants.{Kept}
 use Rattle.advancing.specs.Outcomes.{fieldTest, afterScan}
 use Rattle.advancing.proofs.ScanLaws.{scans}
@@ -19,23 +23,9 @@ use Rattle.advancing.proofs.first_outside.Tie as tie
 few : (c : tie.Start) → c .args .p .w * c .args .p .n ≤ 4096
 few c = cells-most (c .pre .0) (c .pre .1)
 
-then-bounds-requires : tie.Need-then-bounds-requires
-then-bounds-requires c κs =
-    let s = c .before .before in
-    let m = s .args .p .w * s .args .p .n in
-    ap length (c .part-of .ensures) ∙ length-part (3 * m) m (s .args .work .now) (omega (arith, s .pre .2))
-
-then-bounds-requires-2 : tie.Need-then-bounds-requires-2
-then-bounds-requires-2 c κs =
-    let s = c .before .before .before .before in
-    let m = s .args .p .w * s .args .p .n in
-    ap length (c .part-of2 .ensures) ∙ length-part (4 * m) m (s .args .work .now) (omega (arith, s .pre .2))
-
-then-bounds-requires-3 : tie.Need-then-bounds-requires-3
-then-bounds-requires-3 c κs =
-    let s = c .before .before .before .before .before .before in
-    let m = s .args .p .w * s .args .p .n in
-    ap length (c .part-of3 .ensures) ∙ length-part (5 * m) m (s .args .work .now) (omega (arith, s .pre .2))
+-- a bank has m numbers
+bank : (c : tie.Start) (a : ℕ) → let m = c .args .p .w * c .args .p .n in a + m ≤ length (c .args .work .now) → length (part a m (c .args .work .now)) ≡ m
+bank c a h = length-part a (c .args .p .w * c .args .p .n) (c .args .work .now) h
 
 returns : tie.Need-returns
 unfolding leaves
@@ -54,9 +44,12 @@ returns c b =
     let v₀ = part (5 * m) m d in
     scans (fieldTest Depth m h₀ ∷ fieldTest VelocityU m u₀ ∷ []) (fieldTest VelocityV m v₀ ∷ [])
     (scans (fieldTest Depth m h₀ ∷ []) (fieldTest VelocityU m u₀ ∷ [])
-    (x .then-bounds .ensures ∙ ap (λ f. afterScan Kept (fieldTest Depth m f ∷ [])) (h .part-of .ensures))
-    (y .then-bounds2 .ensures ∙ ap (λ f. afterScan (x .then-bounds .result) (fieldTest VelocityU m f ∷ [])) (u .part-of2 .ensures)))
-    (c .then-bounds3 .ensures ∙ ap (λ f. afterScan (y .then-bounds2 .result) (fieldTest VelocityV m f ∷ [])) (v .part-of3 .ensures))
+    (of Kept Depth (x .then-bounds .ensures) (h .part-of .ensures) (bank s (3 * m) (omega (arith, s .pre .2))))
+    (of (x .then-bounds .result) VelocityU (y .then-bounds2 .ensures) (u .part-of2 .ensures) (bank s (4 * m) (omega (arith, s .pre .2)))))
+    (of (y .then-bounds2 .result) VelocityV (c .then-bounds3 .ensures) (v .part-of3 .ensures) (bank s (5 * m) (omega (arith, s .pre .2))))
+  where
+    of : (e : Bounds) (field : Field) {r : Bounds} {f g : List ℤ} {m : ℕ} → r ≡ afterScan e (fieldTest field (length f) f ∷ []) → f ≡ g → length g ≡ m → r ≡ afterScan e (fieldTest field m g ∷ [])
+    of e field {g = g} p q l = p ∙ ap (λ f. afterScan e (fieldTest field (length f) f ∷ [])) q ∙ ap (λ m. afterScan e (fieldTest field m g ∷ [])) l
 
 pub first-outside-spec : {M : Type 1} → statement M
 first-outside-spec =
@@ -65,11 +58,11 @@ first-outside-spec =
     (λ c. omega (arith, few (c .before)))
     (λ c. omega (arith, few (c .before)))
     (λ c κs. omega (arith, c .before .pre .2))
-    then-bounds-requires
+    (λ c κs. search needs)
     (λ c. omega (arith, few (c .before .before .before)))
     (λ c κs. omega (arith, c .before .before .before .pre .2))
-    then-bounds-requires-2
+    (λ c κs. search needs)
     (λ c. omega (arith, few (c .before .before .before .before .before)))
     (λ c κs. omega (arith, c .before .before .before .before .before .pre .2))
-    then-bounds-requires-3
+    (λ c κs. search needs)
     returns)

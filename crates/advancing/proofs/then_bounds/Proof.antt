@@ -1,6 +1,6 @@
 -- `advancing::then_bounds` meets its contract. Assumes nothing.
 use mathlib.Core.Path.{sym, _∙_}
-use Prim.Native.Nat.{_*_}
+use lib.ListN.{length}
 use borrow.Author.Needs.{needs}
 use Rattle.advancing.proofs.ScanLaws.{field-outside, field-kept}
 use Rattle.advancing.proofs.then_bounds.Statement.{statement}
@@ -13,7 +13,7 @@ returns-2 c =
     let l = f .before in
     let e = l .before in
     let a = e .before .before .args in
-    field-outside (a .field) (a .w) (a .w * a .n) (a .f .now) (l .limits .result) (l .limits .ensures) (e .enum-told .given .1) _ (sym (k .cell .given .1) ∙ f .first-bad .ensures)
+    field-outside (a .field) (length (a .f .now)) (a .f .now) (l .limits .result) (l .limits .ensures) (e .enum-told .given .1) _ (sym (k .cell .given .1) ∙ f .first-outside .ensures)
 
 returns-3 : tie.Need-returns-3
 returns-3 c =
@@ -21,7 +21,7 @@ returns-3 c =
     let l = f .before in
     let e = l .before in
     let a = e .before .before .args in
-    field-kept (a .field) (a .w) (a .w * a .n) (a .f .now) (l .limits .result) (l .limits .ensures) (e .enum-told .given .1) (sym (c .enum-told3 .given .1) ∙ f .first-bad .ensures)
+    field-kept (a .field) (length (a .f .now)) (a .f .now) (l .limits .result) (l .limits .ensures) (e .enum-told .given .1) (sym (c .enum-told3 .given .1) ∙ f .first-outside .ensures)
 
 pub then-bounds-spec : {M : Type 1} → statement M
 then-bounds-spec =

@@ -6,8 +6,8 @@ use Prim.Native.Nat.{ℕ, _*_}
 use borrow.Author.Needs.{needs}
 use Rattle.model.specs.State.{State}
 use Rattle.model.specs.declared.Field.the-variants.{VelocityU, VelocityV}
-use Rattle.tests.specs.declared.Fault.the-variants.{West, South}
-use Rattle.tests.specs.Faults.{cellTest}
+use Rattle.tests.specs.declared.Edge.the-variants.{West, South}
+use Rattle.tests.specs.Sought.{stillTest}
 use Rattle.tests.specs.Links.{after, Chain, start, more, begun}
 use Rattle.wire.specs.declared.Size.the-variants.{Two}
 use Rattle.examining.specs.Tests.{stateRead}
@@ -26,14 +26,14 @@ abbrev cells-of : tie.After-value-of2 → ℕ
 cells-of c = let p = start-of c .args .p in p .w * p .n
 
 -- u's edges, the first link
-west : (c : tie.After-then-cells-in)
-    → let q = c .before in let a = start-of q .args in Chain (a .earlier) (c .then-cells-in .result) (cellTest (a .p .w) (a .p .n) (state q .u) VelocityU (West (a .p)) ∷ [])
+west : (c : tie.After-then-still-in)
+    → let q = c .before in let a = start-of q .args in Chain (a .earlier) (c .then-still-in .result) (stillTest (a .p) West VelocityU (state q .u) ∷ [])
 west c =
     let q = c .before in
     let b = start-of q in
     let a = b .args in
     let numbers = value-numbers (q .before .value-of .ensures) Two (cells-are (b .pre .0)) (u-is (a .rec .now)) in
-    start (a .earlier) _ (numbers-as (a .earlier) (a .p .w) (a .p .n) VelocityU (West (a .p)) numbers (c .then-cells-in .ensures))
+    start (a .earlier) _ (numbers-as (a .earlier) (a .p) West VelocityU numbers (c .then-still-in .ensures))
 
 returns : tie.Need-returns
 returns c =
@@ -42,8 +42,8 @@ returns c =
     let b = start-of q in
     let a = b .args in
     let numbers = value-numbers (q .value-of2 .ensures) Two (cells-are (b .pre .0)) (v-is (a .rec .now)) in
-    more (cellTest (a .p .w) (a .p .n) (state q .v) VelocityV (South (a .p)) ∷ []) (west w)
-    (numbers-as (w .then-cells-in .result) (a .p .w) (a .p .n) VelocityV (South (a .p)) numbers (c .then-cells-in2 .ensures))
+    more (stillTest (a .p) South VelocityV (state q .v) ∷ []) (west w)
+    (numbers-as (w .then-still-in .result) (a .p) South VelocityV numbers (c .then-still-in2 .ensures))
     .is
     ∙ ap (after (a .earlier)) (own-edges (b .pre .0))
 

@@ -10,7 +10,7 @@ use Rattle.model.specs.declared.Answer.{Answer}
 use Rattle.model.specs.declared.Field.{Field}
 use Rattle.model.specs.declared.Field.the-variants.{Depth, Bottom, VelocityU, VelocityV}
 use Rattle.model.specs.declared.Refusal.the-variants.{Value}
-use Rattle.tests.specs.Faults.{bare}
+use Rattle.tests.specs.Sought.{bare}
 use Rattle.tests.specs.Links.{after, Chain, start, more, begun}
 use Rattle.wire.specs.declared.Size.{Size}
 use Rattle.wire.specs.declared.Size.the-variants.{Two, Four}

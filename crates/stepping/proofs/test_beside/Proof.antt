@@ -10,7 +10,7 @@ use Rattle.model.specs.declared.Answer.the-variants.{Accepted}
 use Rattle.model.specs.declared.Field.the-variants.{Inflow}
 use Rattle.model.specs.declared.Refusal.the-variants.{Value}
 use Rattle.grid.specs.Cells.{cells-most}
-use Rattle.tests.specs.Faults.{bare}
+use Rattle.tests.specs.Sought.{bare}
 use Rattle.tests.specs.Links.{Chain, start, more, passed}
 use Rattle.stepping.proofs.test_beside.Statement.{statement}
 use Rattle.stepping.proofs.test_beside.Tie as tie

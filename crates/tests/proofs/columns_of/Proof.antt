@@ -10,9 +10,7 @@ columns-of-spec =
     tie.close
     (tie.spec
     (λ c. search needs)
-    (λ c. search needs)
     (λ c κs. search needs)
     (λ c. search needs)
-    (λ c. all-columns _ _)
-    (λ c. let e = c .closable-columns .ensures in west-columns (c .before .before .t .given .1) (e .0) (e .1 [] [] [] []))
+    (λ c. let e = c .closable-columns .ensures in west-columns (c .before .before .before .args .p) (c .before .enum-told .given .1) (e .0) (e .1 [] [] [] []))
     (λ c. all-columns _ _))

@@ -11,8 +11,6 @@ rows-of-spec =
     (tie.spec
     (λ c. search needs)
     (λ c. search needs)
-    (λ c. search needs)
     (λ c κs. search needs)
     (λ c. all-rows _ _)
-    (λ c. all-rows _ _)
-    (λ c. let e = c .closable-rows .ensures in south-rows (c .before .before .t .given .1) (e .0) (e .1 [] [] [] [])))
+    (λ c. let e = c .closable-rows .ensures in south-rows (c .before .before .before .args .p) (c .before .enum-told2 .given .1) (e .0) (e .1 [] [] [] [])))

@@ -2,21 +2,21 @@
 use mathlib.Core.Path.{ap, _∙_}
 use mathlib.Core.List.{[], _∷_}
 use Rattle.model.specs.declared.Field.the-variants.{VelocityU, VelocityV}
-use Rattle.tests.specs.declared.Fault.the-variants.{West, South}
-use Rattle.tests.specs.Faults.{cellTest, edges-are}
+use Rattle.tests.specs.declared.Edge.the-variants.{West, South}
+use Rattle.tests.specs.Sought.{stillTest, edges-are}
 use Rattle.tests.specs.Links.{after, Chain, start, more, begun}
 use Rattle.tests.proofs.then_edges.Statement.{statement}
 use Rattle.tests.proofs.then_edges.Tie as tie
 
 -- u's edges, the first link
-west : (c : tie.After-then-cells) → let a = c .before .args in Chain (a .earlier) (c .then-cells .result) (cellTest (a .p .w) (a .p .n) (a .u .now) VelocityU (West (a .p)) ∷ [])
-west c = start (c .before .args .earlier) _ (c .then-cells .ensures)
+west : (c : tie.After-then-still) → let a = c .before .args in Chain (a .earlier) (c .then-still .result) (stillTest (a .p) West VelocityU (a .u .now) ∷ [])
+west c = start (c .before .args .earlier) _ (c .then-still .ensures)
 
 returns : tie.Need-returns
 returns c h b =
     let w = c .before in
     let a = w .before .args in
-    more (cellTest (a .p .w) (a .p .n) (a .v .now) VelocityV (South (a .p)) ∷ []) (west w) (c .then-cells2 .ensures) .is
+    more (stillTest (a .p) South VelocityV (a .v .now) ∷ []) (west w) (c .then-still2 .ensures) .is
     ∙ ap (after (a .earlier)) (edges-are (a .p) h b (a .u .now) (a .v .now))
 
 pub then-edges-spec : {M : Type 1} → statement M
