@@ -1,11 +1,11 @@
 // The calls that fill lent fields: potential vorticity, and tendencies. They go by rows and columns, without a division for an index,
-// and work each cell out once; the tendencies do the last column and the last row once more, since the grid wraps.
+// and work each cell out once; the tendencies do the last cell of a row or column once more where the grid wraps through an open edge.
 ghost use mathlib.Core.Path.{_≡_};
 ghost use mathlib.Core.List.{[], _∷_};
-ghost use Prim.Native.Nat.{_*_, _<_, _≤_};
+ghost use Prim.Native.Nat.{_+_, _*_, _<_, _≤_};
 ghost use lib.IntN.{negℤ};
 ghost use lib.ListN.{length};
-ghost use Rattle.model.specs.Grid.{filled, previous};
+ghost use Rattle.model.specs.Grid.{filled};
 ghost use Rattle.model.specs.State.{cells, stateOf, lent, before};
 ghost use Rattle.model.specs.Tests.{firstFound};
 ghost use Rattle.model.specs.Refusals.{taken, roomTests, stateTests};
@@ -64,7 +64,7 @@ pub fn potential_vorticity(
 
 // ---- tendencies
 
-// The tendencies of row j. `handed` has what the row to the south gives to this one, and then what this row gives to the next.
+// The tendencies of row j. `handed` has what this row needs of the row to the south, and then what the next one needs of this row.
 fn fill_row(
     p: Parameters,
     h: &[i64],
@@ -82,7 +82,7 @@ fn fill_row(
         (let s = lent p h b u v in
         TendenciesReady s (now q)
         × (j < p .n)
-        × HandedNorth s (now q) (previous (p .n) j) (now handed)
+        × HandedNorth s (now q) j (now handed)
         × Room (cells s) (now dh) (now du) (now dv))
         ⌝ }
     ensures { λ _. ⌜
@@ -91,11 +91,10 @@ fn fill_row(
         RowWriting (p .w) (p .n) (λ i j. negℤ (D s i j)) 0 j (now (dh .entry)) (p .w) (now (dh .exit))
         × RowWriting (p .w) (p .n) (tendencyU s q₀) 0 j (now (du .entry)) (p .w) (now (du .exit))
         × RowWriting (p .w) (p .n) (tendencyV s q₀) 0 j (now (dv .entry)) (p .w) (now (dv .exit))
-        × HandedNorth s q₀ j (now (handed .exit)))
+        × HandedNorth s q₀ (j + 1) (now (handed .exit)))
         ⌝ }
 {
-    let last = scheme::shares_at(p, h, b, u, v, q, p.w - 1, j);
-    let mut from_west = last.east;
+    let mut from_west = scheme::from_west(p, h, b, u, v, q, 0, j);
     for i in 0..p.w {
         let cell = scheme::tendencies_at(p, h, b, u, v, q, i, j, from_west, handed[i]);
         // what is stored below is copied first: the checker takes a local there

@@ -54,6 +54,13 @@ previous-inner w i k l = ap (λ x. x % w) (around w i k l) ∙ add-mod-right (i 
     around : (w i : ℕ) → 0 < i → i < w → i + (w - 1) ≡ i - 1 + w
     around w i k l = omega arith
 
+-- the only place has itself before it
+pub previous-only : {w i : ℕ} → w ≡ 1 → i < w → previous w i ≡ i
+previous-only {w} {i} e p = previous-first w i (omega arith) p ∙ only w i e p
+  where
+    only : (w i : ℕ) → w ≡ 1 → i < w → w - 1 ≡ i
+    only w i e p = omega arith
+
 -- the place before one counted on without a wrap, and before the next one
 pub previous-after : {w i : ℕ} → i < w → previous w (i + 1) ≡ i
 previous-after {w} {i} p = ap (λ x. x % w) (on w i p) ∙ add-mod-right i w ∙ mod-eq-of-lt p

@@ -2,9 +2,9 @@
 // result are banks of the work space, of w·n numbers each.
 ghost use mathlib.Core.Path.{_≡_};
 ghost use mathlib.Core.List.{[]};
-ghost use Prim.Native.Nat.{_*_, _<_, _≤_};
+ghost use Prim.Native.Nat.{_+_, _*_, _<_, _≤_};
 ghost use lib.ListN.{length};
-ghost use Rattle.model.specs.Grid.{previous, byCell};
+ghost use Rattle.model.specs.Grid.{byCell};
 ghost use Rattle.model.specs.State.{stateOf, lent, before};
 ghost use Rattle.model.specs.Scheme.{vorticity};
 ghost use Rattle.model.specs.Step;
@@ -104,8 +104,8 @@ fn fill_depth(p: Parameters, inflow: &[i64], work: &mut [i64])
 
 // ---- velocities
 
-// The velocities of row j after the pass. `handed` has what the row to the south gives to this one, and then what this row gives to the
-// next.
+// The velocities of row j after the pass. `handed` has what this row needs of the row to the south, and then what the next one needs of
+// this row.
 fn velocity_row(
     p: Parameters,
     h: &[i64],
@@ -121,7 +121,7 @@ fn velocity_row(
         let m = p .w * p .n in
         VelocityReady s (now work)
         × (j < p .n)
-        × HandedNorth s (part (6 * m) m (now work)) (previous (p .n) j) (now handed))
+        × HandedNorth s (part (6 * m) m (now work)) j (now handed))
         ⌝ }
     ensures { λ _. ⌜
         (let s = before p h b u v in
@@ -132,22 +132,21 @@ fn velocity_row(
         let base = baseIn p (now (b .entry)) d in
         RowWriting (p .w) (p .n) (newU s base q) 0 j (part (4 * m) m d) (p .w) (part (4 * m) m e)
         × RowWriting (p .w) (p .n) (newV s base q) 0 j (part (5 * m) m d) (p .w) (part (5 * m) m e)
-        × HandedNorth s q j (now (handed .exit))
+        × HandedNorth s q (j + 1) (now (handed .exit))
         × Elsewhere (4 * m) (6 * m) d e)
         ⌝ }
 {
     let m = p.w * p.n;
-    let last = scheme::shares_at(
+    let mut from_west = scheme::from_west(
         p,
         h,
         b,
         u,
         v,
         grid::part_of(work, VORTICITY * m, m),
-        p.w - 1,
+        0,
         j,
     );
-    let mut from_west = last.east;
     for i in 0..p.w {
         let q = grid::part_of(work, VORTICITY * m, m);
         let cell = scheme::tendencies_at(p, h, b, u, v, q, i, j, from_west, handed[i]);

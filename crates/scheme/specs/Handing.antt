@@ -1,45 +1,110 @@
--- What a row hands on to the row to its north. Assumes nothing.
-use mathlib.Core.Path.{_≡_, sym, ap, subst, _∙_}
+-- What a cell needs of the cells to its west and south, and what a row hands on to the row to its north. Assumes nothing.
+use mathlib.Core.Path.{_≡_, refl, sym, ap, subst, _∙_}
+use mathlib.Core.Bool.{Bool, true, false, cond}
 use mathlib.Core.List.{List}
-use Prim.Native.Nat.{ℕ, _+_, _≤_, _<_}
+use Prim.Native.Nat.{ℕ, _+_, _≤_, _<_, zero-le}
 use native.Mathlib.Omega.{arith}
+use lib.Dec.{eqb}
 use lib.IntN.{ℤ, pos}
-use lib.ListN.{length, getD, set, drop, List·getD-append}
-use Rattle.model.specs.Grid.{tabulate}
-use Rattle.model.specs.State.{State}
-use Rattle.grid.specs.Fields.{length-tabulate, getD-tabulate}
-use Rattle.grid.specs.Writing.{Writing, filling-more, filling-done}
-use Rattle.scheme.specs.Shares.{northShareAt}
+use lib.ListN.{length, getD, set, length-set}
+use lib.Seq.{getD-set-same, getD-set-other}
+use mir.Syntax.{w64}
+use borrow.Author.Tests.{eqb-true, eqb-false}
+use Rattle.model.specs.Grid.{previous}
+use Rattle.model.specs.State.{State, closedWest, closedSouth}
+use Rattle.model.specs.Scheme.{toWest, toSouth}
+use Rattle.integers.specs.Bounds.{abs-as, held}
+use Rattle.grid.specs.Cells.{previous-lt, previous-after, previous-only}
+use Rattle.scheme.specs.Reading.{TendenciesReady}
+use Rattle.scheme.specs.Shares.{eastShareAt, northShareAt}
+use Rattle.scheme.specs.Sizes.{share-held, north-size, fit-in}
 
--- what row j gives to the row to its north
-abbrev pub northRow : State → List ℤ → ℕ → List ℤ
-northRow s q j = tabulate (s .w) (λ i. northShareAt s q i j)
+-- ---- a cell
+
+-- x is the share of the cell to the west of cell (i, j), and of the cell to its south, where that is used: not at a closed edge, and
+-- not where the side has one place, so that the cell is its own neighbour
+pub record FromWest (s : State) (q : List ℤ) (i j : ℕ) (x : ℤ) : Type 0 where
+  pub share : closedWest s i j ≡ false → 1 < s .w → x ≡ eastShareAt s q (toWest s i) j
+
+pub record FromSouth (s : State) (q : List ℤ) (i j : ℕ) (x : ℤ) : Type 0 where
+  pub share : closedSouth s i j ≡ false → 1 < s .n → x ≡ northShareAt s q i (toSouth s j)
+
+-- g the shares of a side's places, x the one handed to place i: beyond the edge is place i itself where it is the only one
+beyond : {w i : ℕ} {x : ℤ} (g : ℕ → ℤ) → i < w → (1 < w → x ≡ g (previous w i)) → cond (eqb w 1) (g i) x ≡ g (previous w i)
+beyond {w} {i} {x} g p h = by (eqb w 1) refl
+  where
+    by : (one : Bool) → eqb w 1 ≡ one → cond one (g i) x ≡ g (previous w i)
+    by true e = ap g (sym (previous-only (eqb-true w 1 e) p))
+    by false e = h (omega (arith, eqb-false w 1 e))
+
+module _ {s : State} {q : List ℤ} {i j : ℕ} {x : ℤ} where
+  pub west-beyond : FromWest s q i j x → i < s .w → closedWest s i j ≡ false → cond (eqb (s .w) 1) (eastShareAt s q i j) x ≡ eastShareAt s q (toWest s i) j
+  west-beyond h p o = beyond (λ k. eastShareAt s q k j) p (h .share o)
+
+  pub south-beyond : FromSouth s q i j x → j < s .n → closedSouth s i j ≡ false → cond (eqb (s .n) 1) (northShareAt s q i j) x ≡ northShareAt s q i (toSouth s j)
+  south-beyond h p o = beyond (λ k. northShareAt s q i k) p (h .share o)
+
+  -- what a cell gives is what the next one needs
+  pub to-east : i < s .w → x ≡ eastShareAt s q i j → FromWest s q (i + 1) j x
+  to-east p e = record { share = λ o l. e ∙ ap (λ k. eastShareAt s q k j) (sym (previous-after p)) }
+
+  pub to-north : j < s .n → x ≡ northShareAt s q i j → FromSouth s q i (j + 1) x
+  to-north p e = record { share = λ o l. e ∙ ap (northShareAt s q i) (sym (previous-after p)) }
+
+-- ---- a row
+
+-- places a to e of l have what row j needs of the row to its south
+pub record Handed (s : State) (q : List ℤ) (j a e : ℕ) (l : List ℤ) : Type 0 where
+  pub each : (i : ℕ) → a ≤ i → i < e → FromSouth s q i j (getD l i (pos 0))
 
 -- the first w places have it
 pub record HandedNorth (s : State) (q : List ℤ) (j : ℕ) (l : List ℤ) : Type 0 where
   pub long : s .w ≤ length l
-  pub each : (i : ℕ) → i < s .w → getD l i (pos 0) ≡ northShareAt s q i j
+  pub all : Handed s q j 0 (s .w) l
 
-pub handed-at : {s : State} {q l : List ℤ} {j k : ℕ} → HandedNorth s q j l → j ≡ k → HandedNorth s q k l
-handed-at {s} {q} {l} h e = subst (λ (j : ℕ). HandedNorth s q j l) e h
+pub handed-none : {s : State} {q : List ℤ} {j : ℕ} {l : List ℤ} → Handed s q j 0 0 l
+handed-none = record { each = λ k a e. absurd (omega arith) }
 
--- a loop over the columns, i of which it has passed, has put them there
-module _ (s : State) (q : List ℤ) (j : ℕ) where
-  abbrev gives : ℕ → ℤ
-  gives i = northShareAt s q i j
+module _ {s : State} {q : List ℤ} {j i : ℕ} {l : List ℤ} where
+  -- a store at place i
+  pub handed-more : {x : ℤ} → Handed s q j 0 i l → i < length l → FromSouth s q i j x → Handed s q j 0 (i + 1) (set l i x)
+  handed-more {x} h p r = record { each = λ k a e. by k (eqb k i) refl e }
+    where
+      by : (k : ℕ) (here : Bool) → eqb k i ≡ here → k < i + 1 → FromSouth s q k j (getD (set l i x) k (pos 0))
+      by k true z e = subst (λ (k : ℕ). FromSouth s q k j (getD (set l i x) k (pos 0))) (sym (eqb-true k i z)) (subst (FromSouth s q i j) (sym (getD-set-same l i x (pos 0) p)) r)
+      by k false z e = subst (FromSouth s q k j) (sym (getD-set-other l i k x (pos 0) (eqb-false k i z))) (h .each k zero-le (omega (arith, eqb-false k i z)))
 
-  many : length (northRow s q j) ≡ s .w
-  many = length-tabulate (s .w) gives
+  handed-past : (x : ℤ) {e : ℕ} → Handed s q j i e l → Handed s q j (i + 1) e (set l i x)
+  handed-past x h = record { each = λ k a e. subst (FromSouth s q k j) (sym (getD-set-other l i k x (pos 0) (above k a))) (h .each k (omega arith) e) }
+    where
+      above : (k : ℕ) → i + 1 ≤ k → k ≡ i → ⊥
+      above k a z = omega arith
 
-  pub handed-more : {i : ℕ} {l₀ l : List ℤ} {x : ℤ} → Writing 0 (northRow s q j) l₀ i l → i < s .w → s .w ≤ length l₀ → x ≡ gives i → Writing 0 (northRow s q j) l₀ (i + 1) (set l i x)
-  handed-more {i} h p r e = filling-more (pos 0) h (omega (arith, many)) (omega (arith, many)) (e ∙ sym (getD-tabulate (s .w) gives i (pos 0) p))
+  pub handed-all : Handed s q j 0 i l → s .w ≤ i → s .w ≤ length l → HandedNorth s q j l
+  handed-all h p r = record { long = r; all = record { each = λ k a e. h .each k a (omega arith) } }
 
-  pub handed-all : {i : ℕ} {l₀ l : List ℤ} → Writing 0 (northRow s q j) l₀ i l → s .w ≤ i → s .w ≤ length l₀ → HandedNorth s q j l
-  handed-all {l₀ = l₀} h p r =
-      record {
-        long = omega (arith, h .long);
-        each = λ x y.
-            ap (λ l. getD l x (pos 0)) (filling-done h many p)
-            ∙ List·getD-append (northRow s q j) (drop (s .w) l₀) (pos 0) x (omega (arith, many))
-            ∙ getD-tabulate (s .w) gives x (pos 0) y;
-      }
+-- a loop over row j that found l₀ and has passed i columns: there stands what the row to the north needs, and further on what row j does
+pub record Handing (s : State) (q : List ℤ) (j : ℕ) (l₀ : List ℤ) (i : ℕ) (l : List ℤ) : Type 0 where
+  pub long : length l ≡ length l₀
+  pub given : Handed s q (j + 1) 0 i l
+  pub ahead : Handed s q j i (s .w) l
+
+module _ {s : State} {q : List ℤ} {j : ℕ} {l₀ : List ℤ} where
+  pub handing-none : HandedNorth s q j l₀ → Handing s q j l₀ 0 l₀
+  handing-none h = record { long = refl; given = handed-none; ahead = h .all }
+
+  module _ {i : ℕ} {l : List ℤ} (h : Handing s q j l₀ i l) where
+    pub handing-more : {x : ℤ} → i < length l → j < s .n → x ≡ northShareAt s q i j → Handing s q j l₀ (i + 1) (set l i x)
+    handing-more {x} p r e = record { long = length-set l i x ∙ h .long; given = handed-more (h .given) p (to-north r e); ahead = handed-past x (h .ahead) }
+
+    pub handing-all : s .w ≤ i → s .w ≤ length l₀ → HandedNorth s q (j + 1) l
+    handing-all p r = handed-all (h .given) p (omega (arith, h .long))
+
+    -- what is read at column i is kept by the machine where it is used
+    pub handing-south : TendenciesReady s q → i < s .w → j < s .n → FromSouth s q i j (held w64 (getD l i (pos 0)))
+    handing-south t p r =
+        record {
+          share = λ o m.
+              let e = h .ahead .each i (omega arith) p .share o m in
+              share-held (abs-as e (north-size (fit-in t p (previous-lt (s .n) j (t .state .rows .some))))) ∙ e;
+        }

@@ -1,6 +1,6 @@
 -- What a cell gives to the tendencies of its edges: 01's sums, taken cell by cell. Assumes nothing.
-use mathlib.Core.Path.{_≡_, ap, ap₂, _∙_}
-use mathlib.Core.Bool.{Bool, cond}
+use mathlib.Core.Path.{_≡_, refl, sym, ap, ap₂, _∙_}
+use mathlib.Core.Bool.{Bool, true, false, cond}
 use mathlib.Core.List.{List}
 use Prim.Native.Nat.{ℕ}
 use lib.IntN.{ℤ, pos, negℤ, _+ℤ_, _-ℤ_, _*ℤ_, +ℤ-idl}
@@ -145,6 +145,10 @@ v-law : Identity 14 (λ P M F a b t B Ps Ms Fs as′ bs ss Bs.
     ⊜ con (pos 0) ⊖ P ⊗ b ⊖ M ⊗ a ⊖ Ps ⊗ as′ ⊖ Ms ⊗ bs ⊖ F ⊗ t ⊕ Fs ⊗ ss ⊖ scale ⊗ (B ⊖ Bs))
 v-law = ring tt
 
+masked : (closed : Bool) {x y : ℤ} → (closed ≡ false → x ≡ y) → cond closed (pos 0) x ≡ cond closed (pos 0) y
+masked true e = refl
+masked false e = e refl
+
 module _ (s : State) (q : List ℤ) (i j : ℕ) where
   pub u-shares : westShareAt s q i j +ℤ eastShareAt s q (toWest s i) j ≡ Tu s q i j
   unfolding Tu momentumU
@@ -165,16 +169,16 @@ module _ (s : State) (q : List ℤ) (i j : ℕ) where
       -ℤ weight s q 3 i j *ℤ fluxV s i (toNorth s j) +ℤ weight s q 3 i j′ *ℤ fluxV s i j′ -ℤ pos 786432 *ℤ (B s i j -ℤ B s i j′))
       (+ℤ-idl (negℤ (weight s q 0 i j *ℤ fluxU s e j)))
 
-  -- a closed edge has none
-  pub u-edge : {closed : Bool} {own other : ℤ} → closed ≡ closedWest s i j → own ≡ westShareAt s q i j → other ≡ eastShareAt s q (toWest s i) j
-      → cond closed (pos 0) (own +ℤ other) ≡ tendencyU s q i j
+  -- a closed edge has none, so that the other share matters where the edge is open
+  pub u-edge : {closed : Bool} {own other : ℤ} → closed ≡ closedWest s i j → own ≡ westShareAt s q i j
+      → (closedWest s i j ≡ false → other ≡ eastShareAt s q (toWest s i) j) → cond closed (pos 0) (own +ℤ other) ≡ tendencyU s q i j
   unfolding tendencyU
-  u-edge e a b = ap₂ (λ c x. cond c (pos 0) x) e (ap₂ _+ℤ_ a b ∙ u-shares)
+  u-edge {closed} e a b = masked closed (λ o. ap₂ _+ℤ_ a (b (sym e ∙ o)) ∙ u-shares) ∙ ap (λ c. cond c (pos 0) (Tu s q i j)) e
 
-  pub v-edge : {closed : Bool} {own other : ℤ} → closed ≡ closedSouth s i j → own ≡ southShareAt s q i j → other ≡ northShareAt s q i (toSouth s j)
-      → cond closed (pos 0) (own +ℤ other) ≡ tendencyV s q i j
+  pub v-edge : {closed : Bool} {own other : ℤ} → closed ≡ closedSouth s i j → own ≡ southShareAt s q i j
+      → (closedSouth s i j ≡ false → other ≡ northShareAt s q i (toSouth s j)) → cond closed (pos 0) (own +ℤ other) ≡ tendencyV s q i j
   unfolding tendencyV
-  v-edge e a b = ap₂ (λ c x. cond c (pos 0) x) e (ap₂ _+ℤ_ a b ∙ v-shares)
+  v-edge {closed} e a b = masked closed (λ o. ap₂ _+ℤ_ a (b (sym e ∙ o)) ∙ v-shares) ∙ ap (λ c. cond c (pos 0) (Tv s q i j)) e
 
 -- ---- what a cell holds, and hands on
 

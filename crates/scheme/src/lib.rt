@@ -3,26 +3,27 @@
 //
 // A tendency sums what the two cells beside an edge give to it. So a cell is worked out once: its weights, fluxes and Bernoulli value
 // give a share to each of its four edges, and whoever fills a field hands on those of the cell to the west and of the cell to the
-// south. The functions here serve the calls of the crates above, and require what those have tested.
+// south. A cell where a row or a column ends is worked out once more, for the cell where it begins, if the edge between them is open.
+// The functions here serve the calls of the crates above, and require what those have tested.
 ghost use mathlib.Core.Path.{_≡_};
-ghost use mathlib.Core.Bool.{cond};
+ghost use mathlib.Core.Bool.{false, cond};
 ghost use mathlib.Core.List.{[]};
 ghost use Prim.Native.Nat.{_≤_, _<_};
+ghost use lib.Dec.{eqb};
 ghost use lib.IntN.{pos, negℤ, _+ℤ_, _-ℤ_, _*ℤ_};
 ghost use lib.ListN.{length, getD};
 ghost use Rattle.model.specs.Numbers.{rnd, bernoulliScale, tendencyScale, Within, gravityLimits, coriolisLimits, ratioLimits, depthLimits};
 ghost use Rattle.model.specs.Numbers.{bottomLimits, velocityLimits};
-ghost use Rattle.model.specs.Grid.{previous};
 ghost use Rattle.model.specs.State.{FieldWithin, stateOf, lent, before};
 ghost use Rattle.model.specs.Weights.{weightAt};
-ghost use Rattle.model.specs.Scheme.{vorticityAt, toWest, toSouth};
+ghost use Rattle.model.specs.Scheme.{vorticityAt};
 ghost use Rattle.model.specs.Step.{X, Y};
 ghost use Rattle.integers.specs.Bounds.{Abs};
 ghost use Rattle.scheme.specs.Reading.{ReadsAt, VorticityReady, FlowReady, Flow, TendenciesReady};
 ghost use Rattle.scheme.specs.Shares.{mostFlux, mostBernoulli, mostShare, mostTendency, weightedBy, CornersWithin, squaresAt, fluxAt};
 ghost use Rattle.scheme.specs.Shares.{geopotentialAt, westShare, eastShare, southShare, northShare, Fit, IsShares, AreShares};
-ghost use Rattle.scheme.specs.Shares.{eastShareAt, northShareAt, AreTendencies};
-ghost use Rattle.scheme.specs.Handing.{HandedNorth};
+ghost use Rattle.scheme.specs.Shares.{AreTendencies};
+ghost use Rattle.scheme.specs.Handing.{FromWest, FromSouth, HandedNorth};
 use grid::Stencil;
 use model::Parameters;
 
@@ -324,13 +325,19 @@ pub fn shares_at(
     shares_of(weights, fluxes, bernoulli)
 }
 
-// The tendency at an edge, from the shares of the cells beside it; on a closed edge it is 0.
+// The tendency at an edge, from the shares of the cells beside it; on a closed edge it is 0, and nothing is asked of the other share.
 fn edge_tendency(closed: bool, own: i64, other: i64) -> i64
-    requires { ⌜ Abs own mostShare × Abs other mostShare ⌝ }
+    requires { ⌜ Abs own mostShare × (closed ≡ false → Abs other mostShare) ⌝ }
     ensures { λ r. ⌜ r ≡ cond closed (pos 0) (own +ℤ other) ⌝ }
 {
-    let sum = own + other;
-    if closed { 0 } else { sum }
+    if closed { 0 } else { own + other }
+}
+
+// The share of the cell beyond an edge: on a side of one place that is the cell itself, and nothing was handed on.
+fn other_share(side: usize, own: i64, handed: i64) -> i64
+    ensures { λ r. ⌜ r ≡ cond (eqb side 1) own handed ⌝ }
+{
+    if side == 1 { own } else { handed }
 }
 
 // ---- tendencies
@@ -345,8 +352,8 @@ pub struct CellTendencies {
     pub north: i64,
 }
 
-// The tendencies of cell (i, j), from what the cells to its west and south have handed on. It rules out, for instance: the mask
-// forgotten; the edge's own share twice.
+// The tendencies of cell (i, j), from what the cells to its west and south have handed on, as far as it needs that. It rules out, for
+// instance: the mask forgotten; the edge's own share twice.
 pub fn tendencies_at(
     p: Parameters,
     h: &[i64],
@@ -364,23 +371,74 @@ pub fn tendencies_at(
         TendenciesReady s (now q)
         × (i < p .w)
         × (j < p .n)
-        × (west ≡ eastShareAt s (now q) (toWest s i) j)
-        × (south ≡ northShareAt s (now q) i (toSouth s j)))
+        × FromWest s (now q) i j west
+        × FromSouth s (now q) i j south)
         ⌝ }
     ensures { λ r. ⌜ AreTendencies (before p h b u v) (now (q .entry)) i j r ⌝ }
 {
-    let e = grid::boundary_of(p.kind);
+    // read before the call that takes all of p: read after it, the compiler copies p in pieces at each cell, half as long again
+    let closed_west = grid::closed_west(p.kind, i, j);
+    let closed_south = grid::closed_south(p.kind, i, j);
+    let columns = p.w;
+    let rows = p.n;
     let own = shares_at(p, h, b, u, v, q, i, j);
+    let from_west = other_share(columns, own.east, west);
+    let from_south = other_share(rows, own.north, south);
     CellTendencies {
         depth: own.depth,
-        u: edge_tendency(grid::wall_west(e, i), own.west, west),
-        v: edge_tendency(grid::wall_south(e, j), own.south, south),
+        u: edge_tendency(closed_west, own.west, from_west),
+        v: edge_tendency(closed_south, own.south, from_south),
         east: own.east,
         north: own.north,
     }
 }
 
-// What the last row gives to row 0, which is to its north. It rules out, for instance: what row 0 gives; the shares for the east.
+// What cell (i, j) needs of the cell to its west, and of the cell to its south, for a loop that begins with it. That cell is worked out
+// only where its share is used. They rule out, for instance: the share for another edge; nothing handed through an open edge.
+pub fn from_west(
+    p: Parameters,
+    h: &[i64],
+    b: &[i64],
+    u: &[i64],
+    v: &[i64],
+    q: &[i64],
+    i: usize,
+    j: usize,
+) -> i64
+    requires { ⌜ TendenciesReady (lent p h b u v) (now q) × (i < p .w) × (j < p .n) ⌝ }
+    ensures { λ r. ⌜ FromWest (before p h b u v) (now (q .entry)) i j r ⌝ }
+{
+    if p.w == 1 || grid::closed_west(p.kind, i, j) {
+        return 0;
+    }
+    let west = grid::previous(p.w, i);
+    let beyond = shares_at(p, h, b, u, v, q, west, j);
+    beyond.east
+}
+
+pub fn from_south(
+    p: Parameters,
+    h: &[i64],
+    b: &[i64],
+    u: &[i64],
+    v: &[i64],
+    q: &[i64],
+    i: usize,
+    j: usize,
+) -> i64
+    requires { ⌜ TendenciesReady (lent p h b u v) (now q) × (i < p .w) × (j < p .n) ⌝ }
+    ensures { λ r. ⌜ FromSouth (before p h b u v) (now (q .entry)) i j r ⌝ }
+{
+    if p.n == 1 || grid::closed_south(p.kind, i, j) {
+        return 0;
+    }
+    let south = grid::previous(p.n, j);
+    let beyond = shares_at(p, h, b, u, v, q, i, south);
+    beyond.north
+}
+
+// What row 0 needs of the row to its south, which is the last one: no row of the loop comes before it. It rules out, for instance: what
+// row 0 itself gives; the shares for the east.
 pub fn hand_north(
     p: Parameters,
     h: &[i64],
@@ -391,15 +449,10 @@ pub fn hand_north(
     handed: &mut [i64],
 )
     requires { ⌜ TendenciesReady (lent p h b u v) (now q) × (p .w ≤ length (now handed)) ⌝ }
-    ensures { λ _. ⌜
-        HandedNorth (before p h b u v) (now (q .entry)) (previous (p .n) 0) (now (handed .exit))
-        ⌝ }
+    ensures { λ _. ⌜ HandedNorth (before p h b u v) (now (q .entry)) 0 (now (handed .exit)) ⌝ }
 {
-    let j = p.n - 1;
     for i in 0..p.w {
-        let last = shares_at(p, h, b, u, v, q, i, j);
-        let north = last.north;
-        handed[i] = north;
+        handed[i] = from_south(p, h, b, u, v, q, i, 0);
     }
 }
 

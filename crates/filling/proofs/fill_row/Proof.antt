@@ -1,21 +1,19 @@
 -- `filling::fill_row` meets its contract: i cells of the row are filled, the share of the cell to the west is at hand, and the shares
 -- for the row to the north are put in place of those that came from the south. Assumes nothing.
-use mathlib.Core.Path.{_≡_, refl, sym, ap, _∙_}
-use Prim.Native.Nat.{_+_, _-_, _*_, _<_, zero-le}
+use mathlib.Core.Path.{refl, sym, subst, _∙_}
+use Prim.Native.Nat.{_+_, _-_, _*_, _<_}
 use native.Mathlib.Omega.{arith}
-use lib.IntN.{pos, negℤ}
-use lib.ListN.{length, getD}
+use lib.IntN.{negℤ}
+use lib.ListN.{length}
 use mir.Syntax.{w64}
 use mir.Val.{toZ}
-use Rattle.model.specs.Grid.{previous}
 use Rattle.model.specs.State.{State, stateOf}
 use Rattle.model.specs.Scheme.{D, tendencyU, tendencyV}
-use Rattle.integers.specs.Bounds.{abs-as, held, held-is}
-use Rattle.grid.specs.Cells.{cells-most, cell-lt, previous-first, previous-after, previous-lt}
-use Rattle.grid.specs.Writing.{Writing, writing-none, ahead, RowWriting, row-none, row-filled, row-whole}
-use Rattle.scheme.specs.Shares.{eastShareAt, northShareAt}
+use Rattle.integers.specs.Bounds.{abs-as, held-is}
+use Rattle.grid.specs.Cells.{cells-most, cell-lt}
+use Rattle.grid.specs.Writing.{RowWriting, row-none, row-filled, row-whole}
 use Rattle.scheme.specs.Sizes.{share-held, east-size, north-size, fit-in}
-use Rattle.scheme.specs.Handing.{northRow, handed-more, handed-all}
+use Rattle.scheme.specs.Handing.{FromWest, to-east, Handing, handing-none, handing-more, handing-all, handing-south}
 use Rattle.filling.proofs.fill_row.Statement.{statement}
 use Rattle.filling.proofs.fill_row.Tie as tie
 
@@ -25,8 +23,8 @@ Inv-loop p h b u v q j handed₀ dh₀ du₀ dv₀ from-west₀ i₀ i-end hande
     RowWriting (p .w) (p .n) (λ i j. negℤ (D s i j)) 0 j dh₀ i dh
     × RowWriting (p .w) (p .n) (tendencyU s q) 0 j du₀ i du
     × RowWriting (p .w) (p .n) (tendencyV s q) 0 j dv₀ i dv
-    × Writing 0 (northRow s q j) handed₀ i handed
-    × (toZ w64 from-west ≡ eastShareAt s q (previous (p .w) i) j)
+    × Handing s q j handed₀ i handed
+    × FromWest s q i j (toZ w64 from-west)
 
 abbrev μ-loop : tie.MeasureT-loop
 μ-loop p h b u v q j handed₀ dh₀ du₀ dv₀ from-west₀ i₀ i-end handed dh du dv from-west i = p .w - i
@@ -36,29 +34,19 @@ state c = let a = c .args in stateOf (a .p) (a .h .now) (a .b .now) (a .u .now) 
 
 -- ---- the row begins
 
-last : (c : tie.Start Inv-loop μ-loop) → c .args .p .w - 1 < c .args .p .w
-last c = omega (arith, c .pre .0 .state .columns .some)
-
 loop-holds : tie.Need-loop-holds Inv-loop μ-loop
 loop-holds c =
-    let k = c .before in
-    let s = k .before .before in
+    let s = c .before in
     let a = s .args in
-    let e = k .shares-at .ensures .east in
-    let first = share-held (abs-as e (east-size (fit-in (s .pre .0) (last s) (s .pre .1)))) ∙ e in (
-      row-none _ _ _ (a .j),
-      row-none _ _ _ (a .j),
-      row-none _ _ _ (a .j),
-      writing-none,
-      first ∙ ap (λ i. eastShareAt (state s) (a .q .now) i (a .j)) (sym (previous-first (a .p .w) 0 refl (omega (arith, last s)))),
-    )
+    let x = c .from-west in
+    (row-none _ _ _ (a .j), row-none _ _ _ (a .j), row-none _ _ _ (a .j), handing-none (s .pre .2), subst (FromWest (state s) (a .q .now) 0 (a .j)) (sym (held-is w64 (x .ok) refl)) (x .ensures))
 
 -- ---- a turn
 
 abbrev begin : tie.In-loop Inv-loop μ-loop → tie.Start Inv-loop μ-loop
-begin c = c .before .before .before .before .before
+begin c = c .before .before .before
 
-abbrev turn : tie.After-struct-known2 Inv-loop μ-loop → tie.In-loop Inv-loop μ-loop
+abbrev turn : tie.After-struct-known Inv-loop μ-loop → tie.In-loop Inv-loop μ-loop
 turn c = c .before .before .before .before .before .before .before .before
 
 below : (c : tie.In-loop Inv-loop μ-loop) → let a = begin c .args in a .j * a .p .w + c .before .loop .i < a .p .w * a .p .n
@@ -78,19 +66,12 @@ in-row c =
     let r = begin c .pre .3 in
     (omega (arith, below c, l .0 .long, r .h), omega (arith, below c, l .1 .long, r .u), omega (arith, below c, l .2 .long, r .v))
 
--- the share that the row to the south has handed on
-south-is : (c : tie.In-loop Inv-loop μ-loop) → let s = begin c in held w64 (getD (c .before .loop .handed) (c .before .loop .i) (pos 0)) ≡ northShareAt (state s) (s .args .q .now) (c .before .loop .i) (previous (s .args .p .n) (s .args .j))
-south-is c =
-    let s = begin c in
-    let i = c .before .loop .i in
-    let e = ahead i (pos 0) (c .before .loop .inv .3) (omega arith) zero-le ∙ s .pre .2 .each i (c .loop-test .taken) in
-    share-held (abs-as e (north-size (fit-in (s .pre .0) (c .loop-test .taken) (previous-lt (s .args .p .n) (s .args .j) (s .pre .0 .state .rows .some))))) ∙ e
-
 tendencies-at-requires : tie.Need-tendencies-at-requires Inv-loop μ-loop
 tendencies-at-requires c κs =
     let i = c .before in
     let s = begin i in
-    (s .pre .0, i .loop-test .taken, s .pre .1, i .before .loop .inv .4, south-is i)
+    let inv = i .before .loop .inv in
+    (s .pre .0, i .loop-test .taken, s .pre .1, inv .4, handing-south (inv .3) (s .pre .0) (i .loop-test .taken) (s .pre .1))
 
 loop-again : tie.Need-loop-again Inv-loop μ-loop
 loop-again c =
@@ -98,30 +79,29 @@ loop-again c =
     let k = t .before in
     let i = turn c in
     let s = begin i in
-    let a = s .args in
     let inv = i .before .loop .inv in
     let p = i .loop-test .taken in
     let r = s .pre .1 in
     let fit = fit-in (s .pre .0) p r in
     let e = k .tendencies-at .ensures in (
-      row-filled _ _ _ (inv .0) p r (held-is w64 (t .struct-told2 .given .0 .1) (e .depth)),
-      row-filled _ _ _ (inv .1) p r (held-is w64 (t .struct-told2 .given .1 .0 .1) (e .u)),
-      row-filled _ _ _ (inv .2) p r (held-is w64 (t .struct-told2 .given .1 .1 .0 .1) (e .v)),
-      handed-more (state s) (a .q .now) (a .j) (inv .3) p (s .pre .2 .long) (share-held (abs-as (e .north) (north-size fit)) ∙ e .north),
-      share-held (abs-as (e .east) (east-size fit)) ∙ e .east ∙ ap (λ x. eastShareAt (state s) (a .q .now) x (a .j)) (sym (previous-after p)),
+      row-filled _ _ _ (inv .0) p r (held-is w64 (t .struct-told .given .0 .1) (e .depth)),
+      row-filled _ _ _ (inv .1) p r (held-is w64 (t .struct-told .given .1 .0 .1) (e .u)),
+      row-filled _ _ _ (inv .2) p r (held-is w64 (t .struct-told .given .1 .1 .0 .1) (e .v)),
+      handing-more (inv .3) (in-handed i) r (share-held (abs-as (e .north) (north-size fit)) ∙ e .north),
+      to-east p (share-held (abs-as (e .east) (east-size fit)) ∙ e .east),
     )
 
 -- ---- the row is filled
 
 returns : tie.Need-returns Inv-loop μ-loop
 returns c =
-    let s = c .before .before .before .before .before in
+    let s = c .before .before .before in
     let inv = c .before .loop .inv in
     let all = c .loop-test .left in (
       row-whole _ _ _ (inv .0) all,
       row-whole _ _ _ (inv .1) all,
       row-whole _ _ _ (inv .2) all,
-      handed-all (state s) (s .args .q .now) (s .args .j) (inv .3) all (s .pre .2 .long),
+      handing-all (inv .3) all (s .pre .2 .long),
     )
 
 pub fill-row-spec : {M : Type 1} → statement M
@@ -130,8 +110,7 @@ fill-row-spec =
     (tie.spec
     Inv-loop
     μ-loop
-    (λ c. c .before .pre .0 .state .columns .some)
-    (λ c κs. let s = c .before in (s .pre .0, last s, s .pre .1))
+    (λ c κs. (c .pre .0, c .pre .0 .state .columns .some, c .pre .1))
     loop-holds
     (λ c. omega (arith, most c))
     in-handed

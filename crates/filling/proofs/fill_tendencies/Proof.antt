@@ -5,12 +5,10 @@ use Prim.Native.Nat.{_-_, _*_, _≤_, zero-le}
 use native.Mathlib.Omega.{arith}
 use lib.IntN.{negℤ}
 use lib.ListN.{length}
-use Rattle.model.specs.Grid.{previous}
 use Rattle.model.specs.State.{stateOf}
 use Rattle.model.specs.Scheme.{D, tendencyU, tendencyV, hTendencies, uTendencies, vTendencies}
-use Rattle.grid.specs.Cells.{previous-after}
 use Rattle.grid.specs.Writing.{Writing, field, row-done, rows-none, rows-filled}
-use Rattle.scheme.specs.Handing.{HandedNorth, handed-at}
+use Rattle.scheme.specs.Handing.{HandedNorth}
 use Rattle.filling.proofs.fill_tendencies.Statement.{statement}
 use Rattle.filling.proofs.fill_tendencies.Tie as tie
 
@@ -21,7 +19,7 @@ Inv-loop p h b u v q dh₀ du₀ dv₀ handed₀ j₀ j-end dh du dv handed j =
     × Writing 0 (field (p .w) (p .n) (λ i j. negℤ (D s i j))) dh₀ (j * p .w) dh
     × Writing 0 (field (p .w) (p .n) (tendencyU s q)) du₀ (j * p .w) du
     × Writing 0 (field (p .w) (p .n) (tendencyV s q)) dv₀ (j * p .w) dv
-    × HandedNorth s q (previous (p .n) j) handed
+    × HandedNorth s q j handed
     × (length handed ≡ 64)
 
 abbrev μ-loop : tie.MeasureT-loop
@@ -52,7 +50,7 @@ loop-again c =
       row-done _ _ _ j (e .0) (omega arith) (omega (arith, s .pre .1 .h)) (inv .1),
       row-done _ _ _ j (e .1) (omega arith) (omega (arith, s .pre .1 .u)) (inv .2),
       row-done _ _ _ j (e .2) (omega arith) (omega (arith, s .pre .1 .v)) (inv .3),
-      handed-at (e .3) (sym (previous-after (i .loop-test .taken))),
+      e .3,
       c .before .before .before .handed4 .given,
     )
 

@@ -6,15 +6,14 @@ use Prim.Native.Nat.{ℕ, _+_, _-_, _*_, _≤_, zero-le}
 use native.Mathlib.Omega.{arith}
 use lib.IntN.{ℤ}
 use lib.ListN.{length}
-use Rattle.model.specs.Grid.{previous}
 use Rattle.model.specs.State.{State, stateOf}
 use Rattle.model.specs.Step.{newU, newV}
-use Rattle.grid.specs.Cells.{cells-most, previous-after}
+use Rattle.grid.specs.Cells.{cells-most}
 use Rattle.grid.specs.Parts.{part}
 use Rattle.grid.specs.Writing.{Writing, RowWriting, field, row-done, rows-none}
 use Rattle.grid.specs.Banks.{Elsewhere, elsewhere-none, elsewhere-then, length-part, bank-filled}
 use Rattle.scheme.specs.Reading.{TendenciesReady}
-use Rattle.scheme.specs.Handing.{HandedNorth, handed-at}
+use Rattle.scheme.specs.Handing.{HandedNorth}
 use Rattle.passes.specs.Spaces.{baseIn, base-kept, vorticity-kept, velocity-ready-kept}
 use Rattle.passes.proofs.fill_velocity.Statement.{statement}
 use Rattle.passes.proofs.fill_velocity.Tie as tie
@@ -28,7 +27,7 @@ Inv-loop p h b u v work₀ handed₀ m j₀ j-end work handed j =
     (j ≤ p .n)
     × Writing 0 (field (p .w) (p .n) (newU s base q)) (part (4 * m) m work₀) (j * p .w) (part (4 * m) m work)
     × Writing 0 (field (p .w) (p .n) (newV s base q)) (part (5 * m) m work₀) (j * p .w) (part (5 * m) m work)
-    × HandedNorth s q (previous (p .n) j) handed
+    × HandedNorth s q j handed
     × (length handed ≡ 64)
     × Elsewhere (4 * m) (6 * m) work₀ work
 
@@ -58,7 +57,7 @@ loop-holds c =
     let k = c .before in
     let q = k .before .before in
     let s = q .before .before .before in
-    let first = subst (λ q. HandedNorth (state s) q (previous (s .args .p .n) 0) (k .hand-north .last .1 .1 .1 .1 .1 .1 .0)) (q .part-of .ensures) (k .hand-north .ensures) in
+    let first = subst (λ q. HandedNorth (state s) q 0 (k .hand-north .last .1 .1 .1 .1 .1 .1 .0)) (q .part-of .ensures) (k .hand-north .ensures) in
     (zero-le, rows-none _ _ _, rows-none _ _ _, first, c .handed2 .given, elsewhere-none)
 
 -- ---- a row
@@ -75,7 +74,7 @@ velocity-row-requires c κs =
     let s = begin i in
     let inv = i .before .loop .inv in
     let q = vorticity-kept (state s) (inv .5) (s .pre .long) in
-    (velocity-ready-kept (state s) (inv .5) (s .pre), i .loop-test .taken, subst (λ q. HandedNorth (state s) q (previous (s .args .p .n) (i .before .loop .j)) (i .before .loop .handed)) (sym q) (inv .3))
+    (velocity-ready-kept (state s) (inv .5) (s .pre), i .loop-test .taken, subst (λ q. HandedNorth (state s) q (i .before .loop .j) (i .before .loop .handed)) (sym q) (inv .3))
 
 -- what goes by the base and the potential vorticity as the row begins goes by those at first
 module _ (c : Turn) (P : State → List ℤ → Type 0) where
@@ -106,7 +105,7 @@ loop-again c =
       omega arith,
       row-done _ _ _ j (at-first i (λ b q. RowWriting (p .w) (p .n) (newU (state s) b q) 0 j (part (4 * m) m d) (p .w) (part (4 * m) m d′)) (e .0)) (omega arith) (room (4 * m) (omega arith)) (inv .1),
       row-done _ _ _ j (at-first i (λ b q. RowWriting (p .w) (p .n) (newV (state s) b q) 0 j (part (5 * m) m d) (p .w) (part (5 * m) m d′)) (e .1)) (omega arith) (room (5 * m) (omega arith)) (inv .2),
-      handed-at (at-first i (λ b q. HandedNorth (state s) q j (after .0)) (e .2)) (sym (previous-after (i .loop-test .taken))),
+      at-first i (λ b q. HandedNorth (state s) q (j + 1) (after .0)) (e .2),
       c .before .handed4 .given,
       elsewhere-then (inv .5) (e .3),
     )

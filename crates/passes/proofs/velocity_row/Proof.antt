@@ -2,29 +2,28 @@
 -- hand, and the shares for the row to the north are put in place of those that came from the south. Assumes nothing.
 use mathlib.Core.Path.{_≡_, refl, sym, ap, ap₂, subst, _∙_}
 use mathlib.Core.List.{List}
-use Prim.Native.Nat.{ℕ, _+_, _-_, _*_, _≤_, _<_, zero-le}
+use Prim.Native.Nat.{ℕ, _+_, _-_, _*_, _≤_, _<_}
 use native.Mathlib.Omega.{arith}
 use lib.IntN.{ℤ, pos, _+ℤ_, _*ℤ_}
 use lib.ListN.{length, getD, set, length-set}
 use mir.Syntax.{w64}
 use mir.Val.{toZ}
 use Rattle.model.specs.Numbers.{Within, rnd, velocityLimits, ratioLimits}
-use Rattle.model.specs.Grid.{previous}
 use Rattle.model.specs.State.{State, stateOf}
 use Rattle.model.specs.Scheme.{tendencyU, tendencyV}
 use Rattle.model.specs.Step.{newU, newV}
 use Rattle.integers.specs.Ring.{var}
 use Rattle.integers.specs.Bounds.{∎, _◂_, abs-as, held, held-is, exact}
 use Rattle.integers.specs.Magnitudes.{velocity-size, ratio-size}
-use Rattle.grid.specs.Cells.{cells-most, cell-lt, previous-first, previous-after, previous-lt}
+use Rattle.grid.specs.Cells.{cells-most, cell-lt}
 use Rattle.grid.specs.Parts.{part}
-use Rattle.grid.specs.Writing.{Writing, writing-none, ahead, RowWriting, row-none, row-whole}
+use Rattle.grid.specs.Writing.{RowWriting, row-none, row-whole}
 use Rattle.grid.specs.Banks.{Elsewhere, elsewhere-none, elsewhere-set, kept-before, getD-part, part-set, part-set-before, part-set-behind, bank-more}
 use Rattle.scheme.specs.Reading.{TendenciesReady}
-use Rattle.scheme.specs.Shares.{eastShareAt, northShareAt, AreTendencies}
+use Rattle.scheme.specs.Shares.{AreTendencies}
 use Rattle.scheme.specs.Sizes.{share-held, east-size, north-size, fit-in}
 use Rattle.scheme.specs.Passing.{tendencyU-size, tendencyV-size}
-use Rattle.scheme.specs.Handing.{northRow, handed-more, handed-all}
+use Rattle.scheme.specs.Handing.{FromWest, FromSouth, to-east, Handing, handing-none, handing-more, handing-all, handing-south}
 use Rattle.passes.specs.Spaces.{baseIn, VelocityReady, vorticity-kept, velocity-ready-kept}
 use Rattle.passes.proofs.velocity_row.Statement.{statement}
 use Rattle.passes.proofs.velocity_row.Tie as tie
@@ -37,8 +36,8 @@ Inv-loop p h b u v j handed₀ work₀ m from-west₀ i₀ i-end handed work fro
     let base = baseIn p b work₀ in
     RowWriting (p .w) (p .n) (newU s base q) 0 j (part (4 * m) m work₀) i (part (4 * m) m work)
     × RowWriting (p .w) (p .n) (newV s base q) 0 j (part (5 * m) m work₀) i (part (5 * m) m work)
-    × Writing 0 (northRow s q j) handed₀ i handed
-    × (toZ w64 from-west ≡ eastShareAt s q (previous (p .w) i) j)
+    × Handing s q j handed₀ i handed
+    × FromWest s q i j (toZ w64 from-west)
     × Elsewhere (4 * m) (6 * m) work₀ work
 
 abbrev μ-loop : tie.MeasureT-loop
@@ -68,34 +67,24 @@ few c = let s = c .pre .0 .state in cells-most (s .columns) (s .rows)
 
 -- ---- the row begins
 
-last : (c : Start) → c .args .p .w - 1 < c .args .p .w
-last c = omega (arith, c .pre .0 .state .columns .some)
-
-shares-at-requires : tie.Need-shares-at-requires Inv-loop μ-loop
-shares-at-requires c κs =
-    let q = c .before in
-    let s = q .before .before .before in
-    (subst (TendenciesReady (state s)) (sym (q .part-of .ensures)) (ready s), last s, s .pre .1)
+from-west-requires : tie.Need-from-west-requires Inv-loop μ-loop
+from-west-requires c κs =
+    let s = c .before .before .before in
+    (subst (TendenciesReady (state s)) (sym (c .part-of .ensures)) (ready s), s .pre .0 .state .columns .some, s .pre .1)
 
 loop-holds : tie.Need-loop-holds Inv-loop μ-loop
 loop-holds c =
-    let k = c .before in
-    let q = k .before .before in
+    let q = c .before in
     let s = q .before .before .before in
-    let a = s .args in
-    let e = k .shares-at .ensures .east ∙ ap (λ q. eastShareAt (state s) q (a .p .w - 1) (a .j)) (q .part-of .ensures) in
-    let first = share-held (abs-as e (east-size (fit-in (ready s) (last s) (s .pre .1)))) ∙ e in (
-      row-none _ _ _ (a .j),
-      row-none _ _ _ (a .j),
-      writing-none,
-      first ∙ ap (λ i. eastShareAt (state s) (vorticity s) i (a .j)) (sym (previous-first (a .p .w) 0 refl (omega (arith, last s)))),
-      elsewhere-none,
-    )
+    let j = s .args .j in
+    let x = c .from-west in
+    let first = subst (λ q. FromWest (state s) q 0 j (x .result)) (q .part-of .ensures) (x .ensures) in
+    (row-none _ _ _ j, row-none _ _ _ j, handing-none (s .pre .2), subst (FromWest (state s) (vorticity s) 0 j) (sym (held-is w64 (x .ok) refl)) first, elsewhere-none)
 
 -- ---- a turn
 
 abbrev begin : Turn → Start
-begin c = c .before .before .before .before .before .before .before .before
+begin c = c .before .before .before .before .before .before
 
 abbrev cell : Turn → ℕ
 cell c = begin c .args .j * begin c .args .p .w + c .before .loop .i
@@ -115,15 +104,6 @@ places : (c : Turn)
     → let m = cells (begin c) in let k = cell c in let l = length (c .before .loop .work) in (1 * m + k < l) × (2 * m + k < l) × (4 * m + k < l) × (5 * m + k < l)
 places c = let l = kept c .long in (omega (arith, below c), omega (arith, below c), omega (arith, below c), omega (arith, below c))
 
--- the share that the row to the south has handed on
-south-is : (c : Turn)
-    → let s = begin c in held w64 (getD (c .before .loop .handed) (c .before .loop .i) (pos 0)) ≡ northShareAt (state s) (vorticity s) (c .before .loop .i) (previous (s .args .p .n) (s .args .j))
-south-is c =
-    let s = begin c in
-    let i = c .before .loop .i in
-    let e = ahead i (pos 0) (c .before .loop .inv .2) (omega arith) zero-le ∙ s .pre .2 .each i (c .loop-test .taken) in
-    share-held (abs-as e (north-size (fit-in (ready s) (c .loop-test .taken) (previous-lt (s .args .p .n) (s .args .j) (s .pre .0 .state .rows .some))))) ∙ e
-
 abbrev lent : tie.After-part-of2 Inv-loop μ-loop → List ℤ
 lent c = c .part-of2 .result .now
 
@@ -136,12 +116,13 @@ tendencies-at-requires c κs =
     let t = l .before .before in
     let s = begin t in
     let i = t .before .loop .i in
+    let inv = t .before .loop .inv in
     let q = sym (q-is l) in (
       subst (TendenciesReady (state s)) q (ready s),
       t .loop-test .taken,
       s .pre .1,
-      t .before .loop .inv .3 ∙ ap (λ q. eastShareAt (state s) q (previous (s .args .p .w) i) (s .args .j)) q,
-      south-is t ∙ ap (λ q. northShareAt (state s) q i (previous (s .args .p .n) (s .args .j))) q,
+      subst (λ q. FromWest (state s) q i (s .args .j) (toZ w64 (t .before .loop .from-west))) q (inv .3),
+      subst (λ q. FromSouth (state s) q i (s .args .j) (held w64 (getD (t .before .loop .handed) i (pos 0)))) q (handing-south (inv .2) (ready s) (t .loop-test .taken) (s .pre .1)),
     )
 
 -- the tendencies that are told are those with the given state's own potential vorticity
@@ -251,8 +232,8 @@ loop-again c =
       bank-more _ _ _ (inv .0) p r (new-u-is c) (part-set-behind (4 * m) m _ (5 * m + k) _ (omega arith) ∙ part-set (4 * m) m d k _ l),
       bank-more _ _ _ (inv .1) p r (new-v-is c)
           (part-set (5 * m) m _ k _ l ∙ ap (λ f. set f k (held w64 (c .moved-velocity2 .result))) (part-set-before (5 * m) m d (4 * m + k) _ (omega arith))),
-      handed-more (state s) (vorticity s) (a .j) (inv .2) p (s .pre .2 .long) (share-held (abs-as (e .north) (north-size fit)) ∙ e .north),
-      share-held (abs-as (e .east) (east-size fit)) ∙ e .east ∙ ap (λ x. eastShareAt (state s) (vorticity s) x (a .j)) (sym (previous-after p)),
+      handing-more (inv .2) (in-handed i) r (share-held (abs-as (e .north) (north-size fit)) ∙ e .north),
+      to-east p (share-held (abs-as (e .east) (east-size fit)) ∙ e .east),
       elsewhere-set (5 * m + k) _ (elsewhere-set (4 * m + k) _ (inv .4) (omega arith) (omega arith)) (omega arith) (omega arith),
     )
 
@@ -260,12 +241,12 @@ loop-again c =
 
 returns : tie.Need-returns Inv-loop μ-loop
 returns c =
-    let s = c .before .before .before .before .before .before .before .before in
+    let s = c .before .before .before .before .before .before in
     let inv = c .before .loop .inv in
     let all = c .loop-test .left in (
       row-whole _ _ _ (inv .0) all,
       row-whole _ _ _ (inv .1) all,
-      handed-all (state s) (vorticity s) (s .args .j) (inv .2) all (s .pre .2 .long),
+      handing-all (inv .2) all (s .pre .2 .long),
       inv .4,
     )
 
@@ -278,8 +259,7 @@ velocity-row-spec =
     (λ c. omega (arith, few (c .before)))
     (λ c. omega (arith, few (c .before .before)))
     (λ c κs. omega (arith, c .before .before .pre .0 .long))
-    (λ c. c .before .before .before .before .pre .0 .state .columns .some)
-    shares-at-requires
+    from-west-requires
     loop-holds
     (λ c. omega (arith, few (begin (c .before))))
     (λ c κs. omega (arith, kept (c .before) .long))

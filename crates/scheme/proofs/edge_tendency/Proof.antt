@@ -8,11 +8,11 @@ use Rattle.scheme.specs.Shares.{mostShare}
 use Rattle.scheme.proofs.edge_tendency.Statement.{statement}
 use Rattle.scheme.proofs.edge_tendency.Tie as tie
 
-sizes : (c : tie.Start) → Sizes (c .args .own ∷ c .args .other ∷ []) (mostShare ∷ mostShare ∷ [])
-sizes c = c .pre .0 ◂ c .pre .1 ◂ ∎
+sizes : (c : tie.Else1) → let a = c .before .args in Sizes (a .own ∷ a .other ∷ []) (mostShare ∷ mostShare ∷ [])
+sizes c = let p = c .before .pre in p .0 ◂ p .1 (c .if1 .left) ◂ ∎
 
 returns-2 : tie.Need-returns-2
-returns-2 c = exact w64 (var 0 ⊕ var 1) (sizes (c .before)) tt ∙ rw (c .if1 .left)
+returns-2 c = exact w64 (var 0 ⊕ var 1) (sizes c) tt ∙ rw (c .if1 .left)
 
 pub edge-tendency-spec : {M : Type 1} → statement M
 edge-tendency-spec =

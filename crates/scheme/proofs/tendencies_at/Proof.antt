@@ -1,30 +1,36 @@
 -- `scheme::tendencies_at` meets its contract. Assumes nothing.
-use mathlib.Core.Path.{_≡_, ap, _∙_}
+use mathlib.Core.Path.{_≡_, refl, sym, ap₂, _∙_}
+use mathlib.Core.Bool.{false, cond}
+use lib.Dec.{eqb}
 use borrow.Author.Needs.{needs}
 use mir.Facts.{toZ-ofZ}
 use mir.Syntax.{w64}
-use Rattle.model.specs.State.{State, stateOf, closedWest, closedSouth, wallWest, wallSouth}
-use Rattle.model.specs.Scheme.{tendencyU, tendencyV}
+use Rattle.model.specs.State.{State, stateOf, closedWest, closedSouth}
+use Rattle.model.specs.Scheme.{tendencyU, tendencyV, toWest, toSouth}
 use Rattle.integers.specs.Bounds.{Abs, abs-as, held, held-is}
 use Rattle.grid.specs.Cells.{previous-lt}
-use Rattle.scheme.specs.Shares.{mostShare, Fit, weightsIn, fluxesIn, headIn, u-edge, v-edge}
+use Rattle.scheme.specs.Shares.{mostShare, Fit, weightsIn, fluxesIn, headIn, eastShareAt, northShareAt, u-edge, v-edge}
 use Rattle.scheme.specs.Sizes.{share-held, west-size, east-size, south-size, north-size, fit-in}
+use Rattle.scheme.specs.Handing.{west-beyond, south-beyond}
 use Rattle.scheme.proofs.tendencies_at.Statement.{statement}
 use Rattle.scheme.proofs.tendencies_at.Tie as tie
 
 abbrev state : tie.Start → State
 state c = let a = c .args in stateOf (a .p) (a .h .now) (a .b .now) (a .u .now) (a .v .now)
 
--- what was handed on is small
-from-west : (c : tie.Start) → Abs (c .args .west) mostShare
-from-west c = let s = c .pre .0 .state in abs-as (c .pre .3) (east-size (fit-in (c .pre .0) (previous-lt (c .args .p .w) (c .args .i) (s .columns .some)) (c .pre .2)))
+-- whether the edges are closed
+west-closed : (c : tie.After-closed-west) → let s = c .before in c .closed-west .result ≡ closedWest (state s) (s .args .i) (s .args .j)
+west-closed c = c .closed-west .ensures (state (c .before)) refl
 
-from-south : (c : tie.Start) → Abs (c .args .south) mostShare
-from-south c = let s = c .pre .0 .state in abs-as (c .pre .4) (north-size (fit-in (c .pre .0) (c .pre .1) (previous-lt (c .args .p .n) (c .args .j) (s .rows .some))))
+south-closed : (c : tie.After-closed-south) → let s = c .before .before in c .closed-south .result ≡ closedSouth (state s) (s .args .i) (s .args .j)
+south-closed c = c .closed-south .ensures (state (c .before .before)) refl
 
 -- the cell's own shares
-own : (c : tie.After-shares-at) → let s = c .before .before in Fit (weightsIn (state s) (s .args .q .now) (s .args .i) (s .args .j)) (fluxesIn (state s) (s .args .i) (s .args .j)) (headIn (state s) (s .args .i) (s .args .j))
-own c = let p = c .before .before .pre in fit-in (p .0) (p .1) (p .2)
+abbrev start : tie.After-shares-at → tie.Start
+start c = c .before .before .before
+
+own : (c : tie.After-shares-at) → let s = start c in Fit (weightsIn (state s) (s .args .q .now) (s .args .i) (s .args .j)) (fluxesIn (state s) (s .args .i) (s .args .j)) (headIn (state s) (s .args .i) (s .args .j))
+own c = let p = start c .pre in fit-in (p .0) (p .1) (p .2)
 
 own-west : (c : tie.After-shares-at) → Abs (c .shares-at .result .west) mostShare
 own-west c = abs-as (c .shares-at .ensures .west) (west-size (own c))
@@ -32,53 +38,79 @@ own-west c = abs-as (c .shares-at .ensures .west) (west-size (own c))
 own-south : (c : tie.After-shares-at) → Abs (c .shares-at .result .south) mostShare
 own-south c = abs-as (c .shares-at .ensures .south) (south-size (own c))
 
+east-is : (c : tie.After-shares-at) → let s = start c in held w64 (c .shares-at .result .east) ≡ eastShareAt (state s) (s .args .q .now) (s .args .i) (s .args .j)
+east-is c = let e = c .shares-at .ensures .east in share-held (abs-as e (east-size (own c))) ∙ e
+
+north-is : (c : tie.After-shares-at) → let s = start c in held w64 (c .shares-at .result .north) ≡ northShareAt (state s) (s .args .q .now) (s .args .i) (s .args .j)
+north-is c = let e = c .shares-at .ensures .north in share-held (abs-as e (north-size (own c))) ∙ e
+
+-- the shares of the cells beyond the edges, where these are open
+abbrev worked : tie.After-other-share2 → tie.After-shares-at
+worked c = c .before .before .before .before
+
+from-west : (c : tie.After-other-share2) → let s = start (worked c) in closedWest (state s) (s .args .i) (s .args .j) ≡ false
+    → held w64 (c .before .before .other-share .result) ≡ eastShareAt (state s) (s .args .q .now) (toWest (state s) (s .args .i)) (s .args .j)
+from-west c o =
+    let k = worked c in
+    let s = start k in
+    let x = c .before .before .other-share in
+    held-is w64 (x .ok) (x .ensures ∙ ap₂ (cond (eqb (s .args .p .w) 1)) (east-is k) (toZ-ofZ (s .fits .west)) ∙ west-beyond (s .pre .3) (s .pre .1) o)
+
+from-south : (c : tie.After-other-share2) → let s = start (worked c) in closedSouth (state s) (s .args .i) (s .args .j) ≡ false
+    → held w64 (c .other-share2 .result) ≡ northShareAt (state s) (s .args .q .now) (s .args .i) (toSouth (state s) (s .args .j))
+from-south c o =
+    let k = worked c in
+    let s = start k in
+    let x = c .other-share2 in
+    held-is w64 (x .ok) (x .ensures ∙ ap₂ (cond (eqb (s .args .p .n) 1)) (north-is k) (toZ-ofZ (s .fits .south)) ∙ south-beyond (s .pre .4) (s .pre .2) o)
+
 -- the tendencies at the edges
-u-is : (c : tie.After-edge-tendency) → let s = c .before .before .before .before .before in held w64 (c .edge-tendency .result) ≡ tendencyU (state s) (s .args .q .now) (s .args .i) (s .args .j)
-unfolding closedWest
-u-is c =
-    let w = c .before .before in
-    let k = w .before in
-    let s = k .before .before in
-    let a = s .args in
-    let wall = w .wall-west .ensures ∙ ap (λ e. wallWest e (a .i)) (k .before .boundary-of .ensures) in
-    held-is w64 (c .edge-tendency .ok)
-    (c .edge-tendency .ensures ∙ u-edge (state s) (a .q .now) (a .i) (a .j) wall (share-held (own-west k) ∙ k .shares-at .ensures .west) (toZ-ofZ (s .fits .west) ∙ s .pre .3))
-
-v-is : (c : tie.After-edge-tendency2) → let s = c .before .before .before .before .before .before .before .before in held w64 (c .edge-tendency2 .result) ≡ tendencyV (state s) (s .args .q .now) (s .args .i) (s .args .j)
-unfolding closedSouth
-v-is c =
-    let w = c .before .before in
-    let k = w .before .before .before .before in
-    let s = k .before .before in
-    let a = s .args in
-    let wall = w .wall-south .ensures ∙ ap (λ e. wallSouth e (a .j)) (k .before .boundary-of .ensures) in
-    held-is w64 (c .edge-tendency2 .ok)
-    (c .edge-tendency2 .ensures ∙ v-edge (state s) (a .q .now) (a .i) (a .j) wall (share-held (own-south k) ∙ k .shares-at .ensures .south) (toZ-ofZ (s .fits .south) ∙ s .pre .4))
-
 edge-tendency-requires : tie.Need-edge-tendency-requires
 edge-tendency-requires c κs =
-    let k = c .before .before in
-    let s = k .before .before in
-    (abs-as (share-held (own-west k)) (own-west k), abs-as (toZ-ofZ (s .fits .west)) (from-west s))
+    let k = worked (c .before) in
+    let p = start k .pre in (
+      abs-as (share-held (own-west k)) (own-west k),
+      λ o. abs-as (from-west (c .before) (sym (west-closed (k .before .before)) ∙ o)) (east-size (fit-in (p .0) (previous-lt _ _ (p .0 .state .columns .some)) (p .2))),
+    )
+
+u-is : (c : tie.After-edge-tendency) → let s = start (worked (c .before .before)) in held w64 (c .edge-tendency .result) ≡ tendencyU (state s) (s .args .q .now) (s .args .i) (s .args .j)
+u-is c =
+    let e = c .before .before in
+    let k = worked e in
+    let s = start k in
+    held-is w64 (c .edge-tendency .ok)
+    (c .edge-tendency .ensures
+    ∙ u-edge (state s) (s .args .q .now) (s .args .i) (s .args .j) (west-closed (k .before .before)) (share-held (own-west k) ∙ k .shares-at .ensures .west) (from-west e))
 
 edge-tendency-requires-2 : tie.Need-edge-tendency-requires-2
 edge-tendency-requires-2 c κs =
-    let k = c .before .before .before .before .before in
-    let s = k .before .before in
-    (abs-as (share-held (own-south k)) (own-south k), abs-as (toZ-ofZ (s .fits .south)) (from-south s))
+    let e = c .before .before .before in
+    let k = worked e in
+    let p = start k .pre in (
+      abs-as (share-held (own-south k)) (own-south k),
+      λ o. abs-as (from-south e (sym (south-closed (k .before)) ∙ o)) (north-size (fit-in (p .0) (p .1) (previous-lt _ _ (p .0 .state .rows .some)))),
+    )
+
+v-is : (c : tie.After-edge-tendency2) → let s = start (worked (c .before .before .before .before)) in held w64 (c .edge-tendency2 .result) ≡ tendencyV (state s) (s .args .q .now) (s .args .i) (s .args .j)
+v-is c =
+    let e = c .before .before .before .before in
+    let k = worked e in
+    let s = start k in
+    held-is w64 (c .edge-tendency2 .ok)
+    (c .edge-tendency2 .ensures
+    ∙ v-edge (state s) (s .args .q .now) (s .args .i) (s .args .j) (south-closed (k .before)) (share-held (own-south k) ∙ k .shares-at .ensures .south) (from-south e))
 
 returns : tie.Need-returns
 returns c =
     let v = c .before in
-    let u = v .before .before .before in
-    let k = u .before .before .before in
-    let e = k .shares-at .ensures in
+    let u = v .before .before in
+    let k = worked (u .before .before) in
     record {
-      depth = held-is w64 (c .struct-told3 .given .0 .1) (e .depth);
+      depth = held-is w64 (c .struct-told5 .given .0 .1) (k .shares-at .ensures .depth);
       u = u-is u;
       v = v-is v;
-      east = share-held (abs-as (e .east) (east-size (own k))) ∙ e .east;
-      north = share-held (abs-as (e .north) (north-size (own k))) ∙ e .north;
+      east = east-is k;
+      north = north-is k;
     }
 
 pub tendencies-at-spec : {M : Type 1} → statement M
@@ -88,7 +120,8 @@ tendencies-at-spec =
     (λ c κs. search needs)
     (λ c κs. search needs)
     (λ c κs. search needs)
-    edge-tendency-requires
     (λ c κs. search needs)
+    (λ c κs. search needs)
+    edge-tendency-requires
     edge-tendency-requires-2
     returns)
