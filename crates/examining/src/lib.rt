@@ -107,7 +107,7 @@ fn first_moving_in(p: Parameters, value: &[u8], size: Size, edge: Edge) -> Found
     requires { ⌜ length (now value) ≡ p .w * p .n * sizeOf size ⌝ }
     ensures { λ r. ⌜
         (let numbers = numbersBy size (p .w * p .n) (now (value .entry)) in
-        r ≡ foundBy (firstFrom (badIn (movingAt p edge) (p .w) numbers) (p .w * p .n) 0))
+        r ≡ foundBy (firstFrom (badIn (movingAt (p .kind) edge) (p .w) numbers) (p .w * p .n) 0))
         ⌝ }
 {
     let each = wire::bytes_of(size);
@@ -118,7 +118,7 @@ fn first_moving_in(p: Parameters, value: &[u8], size: Size, edge: Edge) -> Found
         for i in 0..columns {
             let k = j * p.w + i;
             let x = wire::number_at(value, k * each, size);
-            if tests::is_moving(p, edge, x, i, j) {
+            if tests::is_moving(p.kind, edge, x, i, j) {
                 found = Found::At(k);
                 break 'scan;
             }

@@ -1,14 +1,11 @@
 -- Where walls can stand: along the first column and the first row alone. Assumes nothing.
 use mathlib.Core.Path.{_≡_, refl}
 use mathlib.Core.Bool.{false}
-use mathlib.Core.List.{List}
 use Prim.Native.Nat.{ℕ, _≤_}
 use native.Mathlib.Omega.{arith}
 use lib.Dec.{eqb}
-use lib.IntN.{ℤ}
 use borrow.Author.Tests.{ne-eqb}
-use Rattle.model.specs.State.{stateOf, boundaryOf, wallWest, wallSouth, closedWest, closedSouth}
-use Rattle.model.specs.declared.Parameters.{Parameters}
+use Rattle.model.specs.State.{State, boundaryOf, wallWest, wallSouth, closedWest, closedSouth}
 use Rattle.model.specs.declared.Boundary.the-variants.{Periodic, Channel, Basin}
 use Rattle.model.specs.declared.BoundaryByte.{BoundaryByte}
 use Rattle.model.specs.declared.BoundaryByte.the-variants.{Known, Unknown}
@@ -47,19 +44,19 @@ south-never (Known Basin) i h = never i h
 south-never Unknown i h = refl
 
 -- so is an edge past them open, and every edge where the first is
-module _ (p : Parameters) (h b u v : List ℤ) (i j : ℕ) where
-  pub open-west-past : 1 ≤ i → closedWest (stateOf p h b u v) i j ≡ false
+module _ (s : State) (i j : ℕ) where
+  pub open-west-past : 1 ≤ i → closedWest s i j ≡ false
   unfolding closedWest
-  open-west-past l = west-past (boundaryOf (p .kind)) l
+  open-west-past l = west-past (boundaryOf (s .kind)) l
 
-  pub open-west : wallWest (boundaryOf (p .kind)) 0 ≡ false → closedWest (stateOf p h b u v) i j ≡ false
+  pub open-west : wallWest (boundaryOf (s .kind)) 0 ≡ false → closedWest s i j ≡ false
   unfolding closedWest
-  open-west e = west-never (boundaryOf (p .kind)) i e
+  open-west e = west-never (boundaryOf (s .kind)) i e
 
-  pub open-south-past : 1 ≤ j → closedSouth (stateOf p h b u v) i j ≡ false
+  pub open-south-past : 1 ≤ j → closedSouth s i j ≡ false
   unfolding closedSouth
-  open-south-past l = south-past (boundaryOf (p .kind)) l
+  open-south-past l = south-past (boundaryOf (s .kind)) l
 
-  pub open-south : wallSouth (boundaryOf (p .kind)) 0 ≡ false → closedSouth (stateOf p h b u v) i j ≡ false
+  pub open-south : wallSouth (boundaryOf (s .kind)) 0 ≡ false → closedSouth s i j ≡ false
   unfolding closedSouth
-  open-south e = south-never (boundaryOf (p .kind)) j e
+  open-south e = south-never (boundaryOf (s .kind)) j e

@@ -2,20 +2,18 @@
 // torus by computation, and the laws of loops that fill, scan, and write a part.
 ghost use mathlib.Core.Path.{_≡_};
 ghost use mathlib.Core.Bool.{false};
-ghost use mathlib.Core.List.{List};
 ghost use Prim.Native.Nat.{ℕ, _+_, _*_, _<_, _≤_};
-ghost use lib.IntN.{ℤ, pos};
+ghost use lib.IntN.{pos};
 ghost use lib.ListN.{length, replicate};
 ghost use Rattle.model.specs.Grid;
 ghost use Rattle.model.specs.State;
 ghost use Rattle.model.specs.Grid.{filled};
-ghost use Rattle.model.specs.State.{stateOf, boundaryOf, wallWest, wallSouth, closedWest, closedSouth};
+ghost use Rattle.model.specs.State.{State, boundaryOf, wallWest, wallSouth, closedWest, closedSouth};
 ghost use Rattle.grid.specs.Cells.{Cell};
 ghost use Rattle.grid.specs.Stencils.{IsAround};
 ghost use Rattle.grid.specs.Parts.{part, replaced};
 use model::Boundary;
 use model::BoundaryByte;
-use model::Parameters;
 
 // The boundary that a byte stands for. It rules out, for instance: kind 2 without its west wall; kind 3 taken for periodic.
 pub fn boundary_of(kind: u8) -> BoundaryByte
@@ -68,47 +66,47 @@ pub fn wall_south(e: BoundaryByte, j: usize) -> bool
     }
 }
 
-// Whether the west edge of cell (i, j) is closed, and the south edge: whoever works at an edge asks here, and goes by nothing else. They
-// rule out, for instance: the row taken for the column; a closed edge of a grid whose kind has no walls.
-pub fn closed_west(p: Parameters, i: usize, j: usize) -> bool
-    ensures { λ r. ⌜ ((h b u v : List ℤ) → r ≡ closedWest (stateOf p h b u v) i j) ⌝ }
+// Whether the west edge of cell (i, j) is closed, and the south edge, in a state of that kind: whoever works at an edge asks here, and
+// goes by nothing else. They rule out, for instance: the row taken for the column; a closed edge where the kind has no walls.
+pub fn closed_west(kind: u8, i: usize, j: usize) -> bool
+    ensures { λ r. ⌜ ((s : State) → s .kind ≡ kind → r ≡ closedWest s i j) ⌝ }
 {
-    wall_west(boundary_of(p.kind), i)
+    wall_west(boundary_of(kind), i)
 }
 
-pub fn closed_south(p: Parameters, i: usize, j: usize) -> bool
-    ensures { λ r. ⌜ ((h b u v : List ℤ) → r ≡ closedSouth (stateOf p h b u v) i j) ⌝ }
+pub fn closed_south(kind: u8, i: usize, j: usize) -> bool
+    ensures { λ r. ⌜ ((s : State) → s .kind ≡ kind → r ≡ closedSouth s i j) ⌝ }
 {
-    wall_south(boundary_of(p.kind), j)
+    wall_south(boundary_of(kind), j)
 }
 
 // How many columns of w, from the first on, can have a closed west edge, and how many rows of n a closed south edge: whoever looks for
 // closed edges need go no further. They rule out, for instance: a basin's west wall past them; the last row's for the first's.
-pub fn closable_columns(p: Parameters, w: usize) -> usize
+pub fn closable_columns(kind: u8, w: usize) -> usize
     ensures { λ r. ⌜
         (r ≤ w)
-        × ((h b u v : List ℤ) (i j : ℕ) → r ≤ i → i < w → closedWest (stateOf p h b u v) i j ≡ false)
+        × ((s : State) (i j : ℕ) → s .kind ≡ kind → r ≤ i → i < w → closedWest s i j ≡ false)
         ⌝ }
 {
     if w == 0 {
         return 0;
     }
-    if wall_west(boundary_of(p.kind), 0) {
+    if wall_west(boundary_of(kind), 0) {
         return 1;
     }
     0
 }
 
-pub fn closable_rows(p: Parameters, n: usize) -> usize
+pub fn closable_rows(kind: u8, n: usize) -> usize
     ensures { λ r. ⌜
         (r ≤ n)
-        × ((h b u v : List ℤ) (i j : ℕ) → r ≤ j → j < n → closedSouth (stateOf p h b u v) i j ≡ false)
+        × ((s : State) (i j : ℕ) → s .kind ≡ kind → r ≤ j → j < n → closedSouth s i j ≡ false)
         ⌝ }
 {
     if n == 0 {
         return 0;
     }
-    if wall_south(boundary_of(p.kind), 0) {
+    if wall_south(boundary_of(kind), 0) {
         return 1;
     }
     0

@@ -15,7 +15,7 @@ use Rattle.model.specs.State.{closedWest, closedSouth}
 use Rattle.model.specs.declared.Parameters.{Parameters}
 use Rattle.grid.specs.Cells.{by-index}
 use Rattle.grid.specs.Scanning.{Scanned, scanned-at, scanned-past, scanned-all}
-use Rattle.tests.specs.Sought.{bare, movingAt, badIn, ColumnsOf, RowsOf}
+use Rattle.tests.specs.Sought.{ofKind, movingAt, badIn, ColumnsOf, RowsOf}
 use Rattle.tests.specs.declared.Edge.{Edge}
 use Rattle.tests.specs.declared.Edge.the-variants.{West, South}
 
@@ -55,8 +55,8 @@ pub all-rows : (bad : ℤ → ℕ → ℕ → Bool) (n : ℕ) → RowsOf bad n n
 all-rows bad n = record { most = le-refl n; rest = λ x i j a b. absurd (omega arith) }
 
 -- none where no edge can be closed
-pub west-columns : (p : Parameters) {edge : Edge} {r : ℕ} → edge ≡ West → r ≤ p .w → ((i j : ℕ) → r ≤ i → i < p .w → closedWest (bare p) i j ≡ false) → ColumnsOf (movingAt p edge) (p .w) r
-west-columns p {r = r} q h e = subst (λ t. ColumnsOf (movingAt p t) (p .w) r) (sym q) (record { most = h; rest = λ x i j a b. ap (λ c. c && not (eqℤ x (pos 0))) (e i j a b) })
+pub west-columns : (p : Parameters) {edge : Edge} {r : ℕ} → edge ≡ West → r ≤ p .w → ((i j : ℕ) → r ≤ i → i < p .w → closedWest (ofKind (p .kind)) i j ≡ false) → ColumnsOf (movingAt (p .kind) edge) (p .w) r
+west-columns p {r = r} q h e = subst (λ t. ColumnsOf (movingAt (p .kind) t) (p .w) r) (sym q) (record { most = h; rest = λ x i j a b. ap (λ c. c && not (eqℤ x (pos 0))) (e i j a b) })
 
-pub south-rows : (p : Parameters) {edge : Edge} {r : ℕ} → edge ≡ South → r ≤ p .n → ((i j : ℕ) → r ≤ j → j < p .n → closedSouth (bare p) i j ≡ false) → RowsOf (movingAt p edge) (p .n) r
-south-rows p {r = r} q h e = subst (λ t. RowsOf (movingAt p t) (p .n) r) (sym q) (record { most = h; rest = λ x i j a b. ap (λ c. c && not (eqℤ x (pos 0))) (e i j a b) })
+pub south-rows : (p : Parameters) {edge : Edge} {r : ℕ} → edge ≡ South → r ≤ p .n → ((i j : ℕ) → r ≤ j → j < p .n → closedSouth (ofKind (p .kind)) i j ≡ false) → RowsOf (movingAt (p .kind) edge) (p .n) r
+south-rows p {r = r} q h e = subst (λ t. RowsOf (movingAt (p .kind) t) (p .n) r) (sym q) (record { most = h; rest = λ x i j a b. ap (λ c. c && not (eqℤ x (pos 0))) (e i j a b) })

@@ -42,14 +42,18 @@ outsideIn l f k = not (within (between l) (getD f k (pos 0)))
 
 -- ---- a velocity on a closed edge
 
--- whether an edge is closed goes by the parameters alone: no field has a say in it
+-- a state without fields
 abbrev pub bare : Parameters → State
 bare p = stateOf p [] [] [] []
 
+-- whether an edge is closed goes by the kind alone: nothing else of a state has a say in it
+abbrev pub ofKind : ℕ → State
+ofKind kind = bare (record { w = 0; n = 0; kind = kind; g = pos 0; c = pos 0; r = pos 0 })
+
 -- whether x at cell (i, j) is one
-abbrev pub movingAt : Parameters → Edge → ℤ → ℕ → ℕ → Bool
-movingAt p West x i j = closedWest (bare p) i j && not (eqℤ x (pos 0))
-movingAt p South x i j = closedSouth (bare p) i j && not (eqℤ x (pos 0))
+abbrev pub movingAt : (kind : ℕ) → Edge → ℤ → ℕ → ℕ → Bool
+movingAt kind West x i j = closedWest (ofKind kind) i j && not (eqℤ x (pos 0))
+movingAt kind South x i j = closedSouth (ofKind kind) i j && not (eqℤ x (pos 0))
 
 -- a test of the cell with index k of a field f of w columns
 abbrev pub badIn : (ℤ → ℕ → ℕ → Bool) → ℕ → List ℤ → ℕ → Bool
@@ -66,7 +70,7 @@ pub record RowsOf (bad : ℤ → ℕ → ℕ → Bool) (n r : ℕ) : Type 0 wher
 
 -- test 5 of one field
 abbrev pub stillTest : Parameters → Edge → Field → List ℤ → Test Refusal
-stillTest p edge field f = seeks (badIn (movingAt p edge) (p .w) f) (p .w * p .n) (ClosedEdge field)
+stillTest p edge field f = seeks (badIn (movingAt (p .kind) edge) (p .w) f) (p .w * p .n) (ClosedEdge field)
 
 -- u before v, as the model has them
 pub edges-are : (p : Parameters) (h b u v : List ℤ) → stillTest p West VelocityU u ∷ stillTest p South VelocityV v ∷ [] ≡ edgeTests (stateOf p h b u v)

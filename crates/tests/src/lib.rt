@@ -93,32 +93,32 @@ pub enum Edge {
 
 // Whether x is a velocity on a closed edge of cell (i, j). It rules out, for instance: the south wall along column 0; a velocity of 0
 // refused.
-pub fn is_moving(p: Parameters, edge: Edge, x: i64, i: usize, j: usize) -> bool
-    ensures { λ r. ⌜ r ≡ movingAt p edge x i j ⌝ }
+pub fn is_moving(kind: u8, edge: Edge, x: i64, i: usize, j: usize) -> bool
+    ensures { λ r. ⌜ r ≡ movingAt kind edge x i j ⌝ }
 {
     match edge {
-        Edge::West => grid::closed_west(p, i, j) && x != 0,
-        Edge::South => grid::closed_south(p, i, j) && x != 0,
+        Edge::West => grid::closed_west(kind, i, j) && x != 0,
+        Edge::South => grid::closed_south(kind, i, j) && x != 0,
     }
 }
 
 // How many columns, from the first on, can have such an edge closed, and how many rows: a scan goes no further. They rule out, for instance:
 // the south wall looked for at its first cell alone; the west wall in one row.
 pub fn columns_of(p: Parameters, edge: Edge) -> usize
-    ensures { λ r. ⌜ ColumnsOf (movingAt p edge) (p .w) r ⌝ }
+    ensures { λ r. ⌜ ColumnsOf (movingAt (p .kind) edge) (p .w) r ⌝ }
 {
     match edge {
-        Edge::West => grid::closable_columns(p, p.w),
+        Edge::West => grid::closable_columns(p.kind, p.w),
         Edge::South => p.w,
     }
 }
 
 pub fn rows_of(p: Parameters, edge: Edge) -> usize
-    ensures { λ r. ⌜ RowsOf (movingAt p edge) (p .n) r ⌝ }
+    ensures { λ r. ⌜ RowsOf (movingAt (p .kind) edge) (p .n) r ⌝ }
 {
     match edge {
         Edge::West => p.n,
-        Edge::South => grid::closable_rows(p, p.n),
+        Edge::South => grid::closable_rows(p.kind, p.n),
     }
 }
 
@@ -127,7 +127,7 @@ pub fn rows_of(p: Parameters, edge: Edge) -> usize
 pub fn first_moving(p: Parameters, f: &[i64], edge: Edge) -> Found
     requires { ⌜ length (now f) ≡ p .w * p .n ⌝ }
     ensures { λ r. ⌜
-        r ≡ foundBy (firstFrom (badIn (movingAt p edge) (p .w) (now (f .entry))) (p .w * p .n) 0)
+        r ≡ foundBy (firstFrom (badIn (movingAt (p .kind) edge) (p .w) (now (f .entry))) (p .w * p .n) 0)
         ⌝ }
 {
     let columns = columns_of(p, edge);
@@ -136,7 +136,7 @@ pub fn first_moving(p: Parameters, f: &[i64], edge: Edge) -> Found
     'scan: for j in 0..rows {
         for i in 0..columns {
             let k = j * p.w + i;
-            if is_moving(p, edge, f[k], i, j) {
+            if is_moving(p.kind, edge, f[k], i, j) {
                 found = Found::At(k);
                 break 'scan;
             }

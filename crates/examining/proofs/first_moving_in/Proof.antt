@@ -19,13 +19,13 @@ use Rattle.examining.proofs.first_moving_in.Statement.{statement}
 use Rattle.examining.proofs.first_moving_in.Tie as tie
 
 abbrev Inv-loop : tie.InvT-loop
-Inv-loop p value size edge each columns rows found₀ j i₀ found i = (i ≤ columns) × (found ≡ Nowhere) × Scanned (badIn (movingAt p edge) (p .w) (numbersBy size (p .w * p .n) value)) (p .w * p .n) (j * p .w + i)
+Inv-loop p value size edge each columns rows found₀ j i₀ found i = (i ≤ columns) × (found ≡ Nowhere) × Scanned (badIn (movingAt (p .kind) edge) (p .w) (numbersBy size (p .w * p .n) value)) (p .w * p .n) (j * p .w + i)
 
 abbrev μ-loop : tie.MeasureT-loop
 μ-loop p value size edge each columns rows found₀ j i₀ found i = columns - i
 
 abbrev Inv-scan : tie.InvT-scan
-Inv-scan p value size edge each columns rows found₀ j₀ found j = (j ≤ rows) × (found ≡ Nowhere) × Scanned (badIn (movingAt p edge) (p .w) (numbersBy size (p .w * p .n) value)) (p .w * p .n) (j * p .w)
+Inv-scan p value size edge each columns rows found₀ j₀ found j = (j ≤ rows) × (found ≡ Nowhere) × Scanned (badIn (movingAt (p .kind) edge) (p .w) (numbersBy size (p .w * p .n) value)) (p .w * p .n) (j * p .w)
 
 abbrev μ-scan : tie.MeasureT-scan
 μ-scan p value size edge each columns rows found₀ j₀ found j = rows - j
@@ -63,7 +63,7 @@ told : (c : tie.After-is-moving Inv-loop μ-loop Inv-scan μ-scan)
     → let l = c .before .before .before .before in
     let s = l .before .before in
     let a = start (c .before .before .before) .args in
-    c .is-moving .result ≡ badIn (movingAt (a .p) (a .edge)) (a .p .w) (numbersBy (a .size) (a .p .w * a .p .n) (a .value .now)) (s .scan .j * a .p .w + l .loop .i)
+    c .is-moving .result ≡ badIn (movingAt (a .p .kind) (a .edge)) (a .p .w) (numbersBy (a .size) (a .p .w * a .p .n) (a .value .now)) (s .scan .j * a .p .w + l .loop .i)
 told c =
     let x = c .before in
     let i = x .before .before in
@@ -72,12 +72,12 @@ told c =
     let a = start i .args in
     let k = s .scan .j * a .p .w + l .loop .i in
     c .is-moving .ensures
-    ∙ ap (λ (z : ℤ). movingAt (a .p) (a .edge) z (l .loop .i) (s .scan .j))
+    ∙ ap (λ (z : ℤ). movingAt (a .p .kind) (a .edge) z (l .loop .i) (s .scan .j))
     (held-is w64 (x .number-at .ok)
     (x .number-at .ensures
     ∙ ap (λ n. signedBy (a .size) (take (sizeOf (a .size)) (drop (k * n) (a .value .now)))) (s .before .before .before .bytes-of .ensures)
     ∙ sym (number-is (a .size) (a .p .w * a .p .n) (a .value .now) k (below i))))
-    ∙ sym (by-index (movingAt (a .p) (a .edge) (getD (numbersBy (a .size) (a .p .w * a .p .n) (a .value .now)) k (pos 0))) (s .scan .j) (column i))
+    ∙ sym (by-index (movingAt (a .p .kind) (a .edge) (getD (numbersBy (a .size) (a .p .w * a .p .n) (a .value .now)) k (pos 0))) (s .scan .j) (column i))
 
 loop-again : tie.Need-loop-again Inv-loop μ-loop Inv-scan μ-scan
 loop-again c =
@@ -100,7 +100,7 @@ scan-again c =
     let e : l .loop .i ≡ q .columns-of .result = omega arith in (
       omega arith,
       l .loop .inv .1,
-      row-scanned (movingAt (a .p) (a .edge)) (a .p .w) (a .p .n) (numbers st) (q .columns-of .ensures) (omega (arith, r .rows-of .ensures .most)) (scanned-at (l .loop .inv .2) (ap (λ i. s .scan .j * a .p .w + i) e)),
+      row-scanned (movingAt (a .p .kind) (a .edge)) (a .p .w) (a .p .n) (numbers st) (q .columns-of .ensures) (omega (arith, r .rows-of .ensures .most)) (scanned-at (l .loop .inv .2) (ap (λ i. s .scan .j * a .p .w + i) e)),
     )
 
 returns : tie.Need-returns Inv-loop μ-loop Inv-scan μ-scan
@@ -109,7 +109,7 @@ returns c =
     let r = s .before in
     let st = r .before .before .before .before in
     let a = st .args in
-    s .scan .inv .1 ∙ sym (ap foundBy (rows-scanned (movingAt (a .p) (a .edge)) (a .p .w) (a .p .n) (numbers st) (r .rows-of .ensures) (c .scan-test .left) (omega (arith, r .rows-of .ensures .most)) (s .scan .inv .2)))
+    s .scan .inv .1 ∙ sym (ap foundBy (rows-scanned (movingAt (a .p .kind) (a .edge)) (a .p .w) (a .p .n) (numbers st) (r .rows-of .ensures) (c .scan-test .left) (omega (arith, r .rows-of .ensures .most)) (s .scan .inv .2)))
 
 returns-2 : tie.Need-returns-2 Inv-loop μ-loop Inv-scan μ-scan
 returns-2 c =

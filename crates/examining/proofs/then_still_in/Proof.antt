@@ -14,7 +14,7 @@ returns-2 c =
     let e = b .before in
     let a = e .before .before .before .args in
     let m = a .p .w * a .p .n in
-    sought (badIn (movingAt (a .p) (a .edge)) (a .p .w) (numbersBy (a .size) m (a .value .now))) m (ClosedEdge (a .field)) (e .enum-told .given .1) (b .first-moving-in .ensures) (c .edge-answer .ensures)
+    sought (badIn (movingAt (a .p .kind) (a .edge)) (a .p .w) (numbersBy (a .size) m (a .value .now))) m (ClosedEdge (a .field)) (e .enum-told .given .1) (b .first-moving-in .ensures) (c .edge-answer .ensures)
 
 pub then-still-in-spec : {M : Type 1} → statement M
 then-still-in-spec =

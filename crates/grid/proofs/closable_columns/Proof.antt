@@ -3,22 +3,21 @@ use mathlib.Core.Path.{sym, ap, _∙_}
 use Prim.Native.Nat.{zero-le}
 use native.Mathlib.Omega.{arith}
 use borrow.Author.Needs.{needs}
-use Rattle.model.specs.State.{wallWest}
+use Rattle.model.specs.State.{boundaryOf, wallWest}
 use Rattle.grid.specs.Walls.{open-west-past, open-west}
 use Rattle.grid.proofs.closable_columns.Statement.{statement}
 use Rattle.grid.proofs.closable_columns.Tie as tie
 
 none : tie.Need-returns
-none c = (zero-le, λ h b u v i j l k. absurd (omega (arith, c .if1 .taken)))
+none c = (zero-le, λ s i j e l k. absurd (omega (arith, c .if1 .taken)))
 
 walled : tie.Need-returns-2
-walled c = (omega (arith, c .before .before .before .if1 .left), λ h b u v i j l k. open-west-past (c .before .before .before .before .args .p) h b u v i j l)
+walled c = (omega (arith, c .before .before .before .if1 .left), λ s i j e l k. open-west-past s i j l)
 
 free : tie.Need-returns-3
 free c =
     let w = c .before in
-    let p = w .before .before .before .args .p in
-    (zero-le, λ h b u v i j l k. open-west p h b u v i j (sym (ap (λ e. wallWest e 0) (w .before .boundary-of .ensures)) ∙ sym (w .wall-west .ensures) ∙ c .if2 .left))
+    (zero-le, λ s i j e l k. open-west s i j (ap (λ x. wallWest (boundaryOf x) 0) e ∙ sym (ap (λ e. wallWest e 0) (w .before .boundary-of .ensures)) ∙ sym (w .wall-west .ensures) ∙ c .if2 .left))
 
 pub closable-columns-spec : {M : Type 1} → statement M
 closable-columns-spec = tie.close (tie.spec none (λ c κs. search needs) (λ c κs. search needs) walled free)

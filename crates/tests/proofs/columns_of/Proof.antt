@@ -1,6 +1,7 @@
 -- `tests::columns_of` meets its contract. Assumes nothing.
-use mathlib.Core.List.{[]}
+use mathlib.Core.Path.{refl}
 use borrow.Author.Needs.{needs}
+use Rattle.tests.specs.Sought.{ofKind}
 use Rattle.tests.proofs.ScanLaws.{all-columns, west-columns}
 use Rattle.tests.proofs.columns_of.Statement.{statement}
 use Rattle.tests.proofs.columns_of.Tie as tie
@@ -12,5 +13,5 @@ columns-of-spec =
     (λ c. search needs)
     (λ c κs. search needs)
     (λ c. search needs)
-    (λ c. let e = c .closable-columns .ensures in west-columns (c .before .before .before .args .p) (c .before .enum-told .given .1) (e .0) (e .1 [] [] [] []))
+    (λ c. let e = c .closable-columns .ensures in west-columns (c .before .before .before .args .p) (c .before .enum-told .given .1) (e .0) (λ i j. e .1 (ofKind (c .before .before .before .args .p .kind)) i j refl))
     (λ c. all-columns _ _))

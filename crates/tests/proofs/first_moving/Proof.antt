@@ -16,13 +16,13 @@ use Rattle.tests.proofs.first_moving.Statement.{statement}
 use Rattle.tests.proofs.first_moving.Tie as tie
 
 abbrev Inv-loop : tie.InvT-loop
-Inv-loop p f edge columns rows found₀ j i₀ found i = (i ≤ columns) × (found ≡ Nowhere) × Scanned (badIn (movingAt p edge) (p .w) f) (p .w * p .n) (j * p .w + i)
+Inv-loop p f edge columns rows found₀ j i₀ found i = (i ≤ columns) × (found ≡ Nowhere) × Scanned (badIn (movingAt (p .kind) edge) (p .w) f) (p .w * p .n) (j * p .w + i)
 
 abbrev μ-loop : tie.MeasureT-loop
 μ-loop p f edge columns rows found₀ j i₀ found i = columns - i
 
 abbrev Inv-scan : tie.InvT-scan
-Inv-scan p f edge columns rows found₀ j₀ found j = (j ≤ rows) × (found ≡ Nowhere) × Scanned (badIn (movingAt p edge) (p .w) f) (p .w * p .n) (j * p .w)
+Inv-scan p f edge columns rows found₀ j₀ found j = (j ≤ rows) × (found ≡ Nowhere) × Scanned (badIn (movingAt (p .kind) edge) (p .w) f) (p .w * p .n) (j * p .w)
 
 abbrev μ-scan : tie.MeasureT-scan
 μ-scan p f edge columns rows found₀ j₀ found j = rows - j
@@ -43,7 +43,7 @@ in-slice : (c : tie.In-loop Inv-loop μ-loop Inv-scan μ-scan) → let s = c .be
 in-slice c = rw (start c .pre) (below c)
 
 -- what the call of `is_moving` tells
-told : (c : tie.After-is-moving Inv-loop μ-loop Inv-scan μ-scan) → let l = c .before .before .before .before in let s = l .before .before in let a = start (c .before .before .before) .args in c .is-moving .result ≡ badIn (movingAt (a .p) (a .edge)) (a .p .w) (a .f .now) (s .scan .j * a .p .w + l .loop .i)
+told : (c : tie.After-is-moving Inv-loop μ-loop Inv-scan μ-scan) → let l = c .before .before .before .before in let s = l .before .before in let a = start (c .before .before .before) .args in c .is-moving .result ≡ badIn (movingAt (a .p .kind) (a .edge)) (a .p .w) (a .f .now) (s .scan .j * a .p .w + l .loop .i)
 told c =
     let i = c .before .before .before in
     let l = i .before in
@@ -51,8 +51,8 @@ told c =
     let a = start i .args in
     let x = getD (a .f .now) (s .scan .j * a .p .w + l .loop .i) (pos 0) in
     c .is-moving .ensures
-    ∙ ap (λ (z : ℤ). movingAt (a .p) (a .edge) z (l .loop .i) (s .scan .j)) (held-is w64 (c .before .is-moving-arg .given) refl)
-    ∙ sym (by-index (movingAt (a .p) (a .edge) x) (s .scan .j) (column i))
+    ∙ ap (λ (z : ℤ). movingAt (a .p .kind) (a .edge) z (l .loop .i) (s .scan .j)) (held-is w64 (c .before .is-moving-arg .given) refl)
+    ∙ sym (by-index (movingAt (a .p .kind) (a .edge) x) (s .scan .j) (column i))
 
 loop-again : tie.Need-loop-again Inv-loop μ-loop Inv-scan μ-scan
 loop-again c =
@@ -70,7 +70,7 @@ scan-again c =
     let e : l .loop .i ≡ q .columns-of .result = omega arith in (
       omega arith,
       l .loop .inv .1,
-      row-scanned (movingAt (a .p) (a .edge)) (a .p .w) (a .p .n) (a .f .now) (q .columns-of .ensures) (omega (arith, r .rows-of .ensures .most)) (scanned-at (l .loop .inv .2) (ap (λ i. s .scan .j * a .p .w + i) e)),
+      row-scanned (movingAt (a .p .kind) (a .edge)) (a .p .w) (a .p .n) (a .f .now) (q .columns-of .ensures) (omega (arith, r .rows-of .ensures .most)) (scanned-at (l .loop .inv .2) (ap (λ i. s .scan .j * a .p .w + i) e)),
     )
 
 returns : tie.Need-returns Inv-loop μ-loop Inv-scan μ-scan
@@ -78,7 +78,7 @@ returns c =
     let s = c .before in
     let r = s .before in
     let a = r .before .before .args in
-    s .scan .inv .1 ∙ sym (ap foundBy (rows-scanned (movingAt (a .p) (a .edge)) (a .p .w) (a .p .n) (a .f .now) (r .rows-of .ensures) (c .scan-test .left) (omega (arith, r .rows-of .ensures .most)) (s .scan .inv .2)))
+    s .scan .inv .1 ∙ sym (ap foundBy (rows-scanned (movingAt (a .p .kind) (a .edge)) (a .p .w) (a .p .n) (a .f .now) (r .rows-of .ensures) (c .scan-test .left) (omega (arith, r .rows-of .ensures .most)) (s .scan .inv .2)))
 
 returns-2 : tie.Need-returns-2 Inv-loop μ-loop Inv-scan μ-scan
 returns-2 c =

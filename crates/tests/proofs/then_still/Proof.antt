@@ -11,7 +11,7 @@ returns-2 : tie.Need-returns-2
 returns-2 c =
     let b = c .before in
     let a = b .before .before .before .args in
-    sought (badIn (movingAt (a .p) (a .edge)) (a .p .w) (a .f .now)) (a .p .w * a .p .n) (ClosedEdge (a .field)) (b .before .enum-told .given .1) (b .first-moving .ensures) (c .edge-answer .ensures)
+    sought (badIn (movingAt (a .p .kind) (a .edge)) (a .p .w) (a .f .now)) (a .p .w * a .p .n) (ClosedEdge (a .field)) (b .before .enum-told .given .1) (b .first-moving .ensures) (c .edge-answer .ensures)
 
 pub then-still-spec : {M : Type 1} → statement M
 then-still-spec =
