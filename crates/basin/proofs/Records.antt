@@ -25,8 +25,8 @@ use Rattle.model.specs.declared.CompareAnswer.{CompareAnswer}
 use Rattle.model.specs.declared.CompareAnswer.the-variants.{Same, FirstNewer, SecondNewer, Conflict, FirstRefused, SecondRefused}
 use Rattle.theorems.specs.Theorems.{theorems}
 use Rattle.theorems.specs.Truth.{_⟫_}
-use Rattle.telling.specs.Told.{eight, orKept}
-use Rattle.reading.specs.Rooms.{Room}
+use Rattle.answers.specs.Told.{eight, orKept}
+use Rattle.record_read.specs.ReadRooms.{Room}
 use Rattle.basin.specs.FromC.{parameters}
 use Rattle.basin.proofs.Applied.{from-one}
 use Rattle.basin.proofs.basin_compare.Kinds as compare-kinds

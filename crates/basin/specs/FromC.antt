@@ -18,7 +18,7 @@ use Rattle.model.specs.declared.TotalAnswer.{TotalAnswer}
 use Rattle.model.specs.declared.WriteAnswer.{WriteAnswer}
 use Rattle.model.specs.declared.ReadAnswer.{ReadAnswer}
 use Rattle.model.specs.declared.CompareAnswer.{CompareAnswer}
-use Rattle.telling.specs.Told.{Told, orKept}
+use Rattle.answers.specs.Told.{Told, orKept}
 
 -- the parameters, from the six numbers that a C function takes for them
 abbrev pub parameters : (w n kind : ℕ) (g c r : ℤ) → Parameters

@@ -49,8 +49,8 @@ pub extern "C" fn basin_potential_vorticity(
         ⌝ }
 {
     let p = parameters(w, n, kind, g, c, r);
-    let x = filling::potential_vorticity(p, h, b, u, v, q);
-    telling::tell(answer, telling::answer_numbers(x))
+    let x = scheme_tendencies::potential_vorticity(p, h, b, u, v, q);
+    answers::tell(answer, answers::answer_numbers(x))
 }
 
 #[no_mangle]
@@ -78,8 +78,8 @@ pub extern "C" fn basin_tendencies(
         ⌝ }
 {
     let p = parameters(w, n, kind, g, c, r);
-    let x = filling::tendencies(p, h, b, u, v, q, dh, du, dv);
-    telling::tell(answer, telling::answer_numbers(x))
+    let x = scheme_tendencies::tendencies(p, h, b, u, v, q, dh, du, dv);
+    answers::tell(answer, answers::answer_numbers(x))
 }
 
 // ---- step and run
@@ -109,8 +109,8 @@ pub extern "C" fn basin_step(
         ⌝ }
 {
     let p = parameters(w, n, kind, g, c, r);
-    let x = stepping::step(p, h, b, u, v, inflow, work);
-    telling::tell(answer, telling::step_numbers(x))
+    let x = step_run::step(p, h, b, u, v, inflow, work);
+    answers::tell(answer, answers::step_numbers(x))
 }
 
 #[no_mangle]
@@ -136,8 +136,8 @@ pub extern "C" fn basin_run(
         ⌝ }
 {
     let p = parameters(w, n, kind, g, c, r);
-    let x = stepping::run(p, h, b, u, v, inflow, steps, work);
-    telling::tell(answer, telling::run_numbers(x))
+    let x = step_run::run(p, h, b, u, v, inflow, steps, work);
+    answers::tell(answer, answers::run_numbers(x))
 }
 
 // ---- totals
@@ -166,9 +166,9 @@ pub extern "C" fn basin_total_depth(
         ⌝ }
 {
     let p = parameters(w, n, kind, g, c, r);
-    let x = totals::total_depth(p, h, b, u, v);
-    *total = telling::total_or(x, *total);
-    telling::tell(answer, telling::total_numbers(x))
+    let x = scheme_totals::total_depth(p, h, b, u, v);
+    *total = answers::total_or(x, *total);
+    answers::tell(answer, answers::total_numbers(x))
 }
 
 #[no_mangle]
@@ -192,9 +192,9 @@ pub extern "C" fn basin_total_energy(
         ⌝ }
 {
     let p = parameters(w, n, kind, g, c, r);
-    let x = totals::total_energy(p, h, b, u, v);
-    *total = telling::total_or(x, *total);
-    telling::tell(answer, telling::total_numbers(x))
+    let x = scheme_totals::total_energy(p, h, b, u, v);
+    *total = answers::total_or(x, *total);
+    answers::tell(answer, answers::total_numbers(x))
 }
 
 // ---- the record
@@ -226,8 +226,8 @@ pub extern "C" fn basin_write(
         ⌝ }
 {
     let p = parameters(w, n, kind, g, c, r);
-    let x = writing::write(p, h, b, u, v, timestamp, record);
-    telling::tell(answer, telling::write_numbers(x))
+    let x = record_write::write(p, h, b, u, v, timestamp, record);
+    answers::tell(answer, answers::write_numbers(x))
 }
 
 #[no_mangle]
@@ -246,17 +246,17 @@ pub extern "C" fn basin_read(
         (now (constants .exit)) k (now (answer .exit))
         ⌝ }
 {
-    let x = reading::read(record, h, b, u, v);
-    *constants = telling::constants_or(x, *constants);
-    telling::tell(answer, telling::read_numbers(x))
+    let x = record_read::read(record, h, b, u, v);
+    *constants = answers::constants_or(x, *constants);
+    answers::tell(answer, answers::read_numbers(x))
 }
 
 #[no_mangle]
 pub extern "C" fn basin_compare(first: &[u8], second: &[u8], answer: &mut [u64; 8]) -> u64
     ensures { λ k. ⌜ CompareFromC (now (first .entry)) (now (second .entry)) k (now (answer .exit)) ⌝ }
 {
-    let x = comparing::compare(first, second);
-    telling::tell(answer, telling::compare_numbers(x))
+    let x = record_compare::compare(first, second);
+    answers::tell(answer, answers::compare_numbers(x))
 }
 
 // ---- rounding

@@ -10,7 +10,7 @@ use lib.ListN.{length, take, drop, getD, set, length-drop, length-set, List·get
 use lib.Seq.{length-take-le, take-set-lt, take-set-le, drop-set-add, drop-set-lt, getD-take, getD-drop, getD-set-other, getD-append-add, ext-getD, sets-eq, length-sets, drop-length}
 use Rattle.model.specs.Grid.{byCell}
 use Rattle.grid.specs.Parts.{part, replaced}
-use Rattle.grid.specs.Writing.{Writing, RowWriting, field, row-filled, rows-filled, part-written}
+use Rattle.grid.specs.WritingLoops.{Writing, RowWriting, field, row-filled, rows-filled, part-written}
 
 -- ---- a part
 

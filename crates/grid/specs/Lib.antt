@@ -5,8 +5,8 @@ pub mod Torus
 pub mod Walls
 pub mod Cells
 pub mod Stencils
-pub mod Fields
+pub mod CellFields
 pub mod Parts
-pub mod Writing
+pub mod WritingLoops
 pub mod Banks
 pub mod Scanning

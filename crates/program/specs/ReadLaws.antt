@@ -22,12 +22,12 @@ use Rattle.model.specs.declared.Refusal.{Refusal}
 use Rattle.model.specs.declared.Refusal.the-variants.{Record}
 use Rattle.model.specs.declared.ReadAnswer.{ReadAnswer}
 use Rattle.model.specs.declared.ReadAnswer.the-variants.{Read, Refused}
-use Rattle.grid.specs.Fields.{take-filled, drop-filled}
+use Rattle.grid.specs.CellFields.{take-filled, drop-filled}
 use Rattle.theorems.specs.Truth.{differ}
 use Rattle.theorems.specs.RoundTrip.{read-part}
 use Rattle.theorems.specs.Rewrite.{decoded-within, read-within}
 use Rattle.theorems.specs.Output.{output-fits}
-use Rattle.wire.specs.Stores.{sets-front}
+use Rattle.record_bytes.specs.Stores.{sets-front}
 use Rattle.program.specs.Stepped.{Stepped, Ready, SteppedParts, count, front}
 
 -- ---- parts of the lent fields

@@ -17,7 +17,7 @@ use Rattle.model.specs.declared.StepAnswer.{StepAnswer}
 use Rattle.model.specs.declared.StepAnswer.the-variants as StepAnswer
 use Rattle.grid.specs.Cells.{cells-most}
 use Rattle.theorems.specs.Stepping.{step-leaves}
-use Rattle.printing.specs.Sink.{sink, puts, follows, printed}
+use Rattle.text.specs.Sink.{sink, puts, follows, printed}
 use Rattle.program.specs.Stepped.{Stepped}
 
 -- ---- a state within the limits

@@ -15,8 +15,8 @@ fn print_state(p: Parameters, h: &[i64], b: &[i64], u: &[i64], v: &[i64], out: &
     requires { ⌜ WithinLimits (lent p h b u v) ⌝ }
     ensures { λ r. ⌜ Printed (stateLines (before p h b u v)) (now (out .entry)) r (now (out .exit)) ⌝ }
 {
-    let at = printing::put_total(out, totals::sum_depths(h));
-    printing::put_cells(out, at, p.w, h, u, v)
+    let at = text::put_total(out, scheme_totals::sum_depths(h));
+    text::put_cells(out, at, p.w, h, u, v)
 }
 
 // Steps a state within the limits, and prints what comes of it.
@@ -37,14 +37,14 @@ fn step_state(
         (now (out .entry)) r (now (out .exit)))
         ⌝ }
 {
-    match stepping::step_within(p, h, b, u, v, inflow, work) {
+    match step_run::step_within(p, h, b, u, v, inflow, work) {
         StepAnswer::Done => print_state(p, h, b, u, v, out),
-        StepAnswer::Refused(refusal) => printing::put_refused(out, telling::number_of(refusal)),
+        StepAnswer::Refused(refusal) => text::put_refused(out, answers::number_of(refusal)),
         StepAnswer::OutOfBounds {
             pass: _,
             field: _,
             cell: _,
-        } => printing::put_refused(out, 6),
+        } => text::put_refused(out, 6),
     }
 }
 
@@ -100,14 +100,14 @@ pub fn print_step(
         ⌝ }
 {
     if input.len() >= 65536 {
-        return printing::put_refused(out, 7);
+        return text::put_refused(out, 7);
     }
-    match reading::read(input, h, b, u, v) {
+    match record_read::read(input, h, b, u, v) {
         ReadAnswer::Read {
             parameters,
             timestamp: _,
         } => step_parts(parameters, h, b, u, v, inflow, work, out),
-        ReadAnswer::Refused(refusal) => printing::put_refused(out, telling::number_of(refusal)),
+        ReadAnswer::Refused(refusal) => text::put_refused(out, answers::number_of(refusal)),
     }
 }
 

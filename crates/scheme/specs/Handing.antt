@@ -15,9 +15,9 @@ use Rattle.model.specs.State.{State, closedWest, closedSouth}
 use Rattle.model.specs.Scheme.{toWest, toSouth}
 use Rattle.integers.specs.Bounds.{abs-as, held}
 use Rattle.grid.specs.Cells.{previous-lt, previous-after, previous-only}
-use Rattle.scheme.specs.Reading.{TendenciesReady}
+use Rattle.scheme.specs.Ready.{TendenciesReady}
 use Rattle.scheme.specs.Shares.{eastShareAt, northShareAt}
-use Rattle.scheme.specs.Sizes.{share-held, north-size, fit-in}
+use Rattle.scheme.specs.SchemeSizes.{share-held, north-size, fit-in}
 
 -- ---- a cell
 

@@ -17,9 +17,9 @@ use Rattle.integers.specs.Bounds.{Abs, ∎, _◂_, abs-as, size}
 use Rattle.integers.specs.Magnitudes.{least-size}
 use Rattle.integers.specs.Rounding.{rnd-size}
 use Rattle.grid.specs.Cells.{previous-lt}
-use Rattle.scheme.specs.Reading.{TendenciesReady}
+use Rattle.scheme.specs.Ready.{TendenciesReady}
 use Rattle.scheme.specs.Shares.{mostFlux, mostTendency, u-shares, v-shares}
-use Rattle.scheme.specs.Sizes.{fluxU-size, fluxV-size, west-size, east-size, south-size, north-size, fit-in}
+use Rattle.scheme.specs.SchemeSizes.{fluxU-size, fluxV-size, west-size, east-size, south-size, north-size, fit-in}
 
 -- the largest flux over the least 2R, and the largest tendency over the least 3,145,728 R, each rounded up
 abbrev pub mostFlow : ℕ

@@ -19,7 +19,7 @@ ghost use Rattle.model.specs.Weights.{weightAt};
 ghost use Rattle.model.specs.Scheme.{vorticityAt};
 ghost use Rattle.model.specs.Step.{X, Y};
 ghost use Rattle.integers.specs.Bounds.{Abs};
-ghost use Rattle.scheme.specs.Reading.{ReadsAt, VorticityReady, FlowReady, Flow, TendenciesReady};
+ghost use Rattle.scheme.specs.Ready.{ReadsAt, VorticityReady, FlowReady, Flow, TendenciesReady};
 ghost use Rattle.scheme.specs.Shares.{mostFlux, mostBernoulli, mostShare, mostTendency, weightedBy, CornersWithin, squaresAt, fluxAt};
 ghost use Rattle.scheme.specs.Shares.{geopotentialAt, westShare, eastShare, southShare, northShare, Fit, IsShares, AreShares};
 ghost use Rattle.scheme.specs.Shares.{AreTendencies};

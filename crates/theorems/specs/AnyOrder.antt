@@ -16,7 +16,7 @@ use Rattle.model.specs.Promises.{readAnswer, readInto, readOf, ReadPromise}
 use Rattle.model.specs.Claims.{Among, WholeIn, Bytes, Reordered, empty, ahead, swap, chain, AnyOrderClaim}
 use Rattle.model.specs.declared.ReadAnswer.{ReadAnswer}
 use Rattle.theorems.specs.Walks.{Fine, AllFine, walks, unwalk}
-use Rattle.theorems.specs.Tags.{none-missing}
+use Rattle.theorems.specs.TagLaws.{none-missing}
 use Rattle.theorems.specs.Damage.{whole-iff}
 use Rattle.theorems.specs.Rewrite.{all-bytes}
 

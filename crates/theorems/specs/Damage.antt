@@ -15,7 +15,7 @@ use Rattle.model.specs.Claims.{BadTag, Reaches, outset, past, Damaged, WholeIn}
 use Rattle.model.specs.declared.Refusal.{Refusal}
 use Rattle.model.specs.declared.Refusal.the-variants.{Record}
 use Rattle.theorems.specs.Walks.{sound-iff, atEnd, walk-step, walk-end}
-use Rattle.theorems.specs.Tags.{told, untold, tag-judged, end-judged, none-missing}
+use Rattle.theorems.specs.TagLaws.{told, untold, tag-judged, end-judged, none-missing}
 
 -- ---- what the walk tells is so
 

@@ -11,7 +11,7 @@ use Rattle.model.specs.Scheme.{divergence}
 use Rattle.integers.specs.Ring.{Identity, ring, _⊕_, _⊖_, _⊜_}
 use Rattle.grid.specs.Sums.{grid, grid-cong, grid-add, sum-head, sum-rows}
 use Rattle.theorems.specs.Conservation.{mass-law}
-use Rattle.grid.specs.Fields.{length-byCell, at-byCell}
+use Rattle.grid.specs.CellFields.{length-byCell, at-byCell}
 
 -- a list's total is a sum over its indices
 pub total-sum : (l : List ℤ) → total l ≡ sumTo (length l) (λ k. getD l k (pos 0))

@@ -18,7 +18,7 @@ use Rattle.model.specs.declared.Answer.the-variants as Answer
 use Rattle.theorems.specs.Truth.{_⟫_, differ}
 use Rattle.theorems.specs.TestLaws.{passes}
 use Rattle.theorems.specs.Limits.{accepted}
-use Rattle.grid.specs.Fields.{length-byCell, at-byCell, at-filled, take-filled, drop-filled}
+use Rattle.grid.specs.CellFields.{length-byCell, at-byCell, at-filled, take-filled, drop-filled}
 
 -- ---- accepted is tested and passed
 

@@ -13,7 +13,7 @@ pub mod Filling
 pub mod Vorticity
 -- what is kept
 pub mod Conservation
-pub mod Rates
+pub mod ZeroRates
 pub mod ProductRule
 -- step, run and lists of calls
 pub mod Depth
@@ -21,17 +21,17 @@ pub mod Stepping
 pub mod Runs
 pub mod RunEnds
 pub mod RunSteps
-pub mod Histories
+pub mod Balances
 -- the record
-pub mod Bytes
+pub mod NumbersAsBytes
 pub mod Walks
-pub mod Tags
+pub mod TagLaws
 pub mod Damage
 pub mod RoundTrip
 pub mod ReadCauses
 pub mod Rewrite
 pub mod AnyOrder
-pub mod Program
+pub mod ProgramSteps
 pub mod Output
 pub mod Comparing
 pub mod Theorems

@@ -15,7 +15,7 @@ use Rattle.integers.specs.Ring.{Expr}
 use Rattle.grid.specs.Sums.{grid, grid-cong, grid-add, grid-scale}
 use Rattle.grid.specs.Torus.{scalar, field, grid-same}
 use Rattle.theorems.specs.Conservation.{Alg, ints, exprs, Near, near}
-use Rattle.grid.specs.Fields.{at-byCell}
+use Rattle.grid.specs.CellFields.{at-byCell}
 
 -- ---- the formulas, around a cell
 

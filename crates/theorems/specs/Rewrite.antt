@@ -18,9 +18,9 @@ use Rattle.model.specs.declared.Parameters.{Parameters}
 use Rattle.model.specs.declared.ReadAnswer.the-variants as Answer
 use Rattle.model.specs.declared.WriteAnswer.the-variants.{Written}
 use Rattle.theorems.specs.Truth.{and-iff, eq-iff, same-by}
-use Rattle.theorems.specs.Bytes.{AllBytes, back-bytes, put-numbers}
+use Rattle.theorems.specs.NumbersAsBytes.{AllBytes, back-bytes, put-numbers}
 use Rattle.theorems.specs.Walks.{Read, AllRead, unwalk}
-use Rattle.theorems.specs.Tags.{follow}
+use Rattle.theorems.specs.TagLaws.{follow}
 use Rattle.theorems.specs.Damage.{whole-iff}
 use Rattle.theorems.specs.RoundTrip.{length-encode, written, read-part}
 use Rattle.theorems.specs.ReadCauses.{accepts, read-accepts}

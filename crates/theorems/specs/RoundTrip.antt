@@ -24,8 +24,8 @@ use Rattle.model.specs.declared.WriteAnswer.{WriteAnswer}
 use Rattle.theorems.specs.Truth.{_⟫_, eq-iff}
 use Rattle.theorems.specs.TestLaws.{passes, passes-append}
 use Rattle.theorems.specs.Limits.{accepted as accepts, rooms-iff, tested-iff}
-use Rattle.grid.specs.Fields.{take-filled, length-tabulate}
-use Rattle.theorems.specs.Bytes.{EachFits, there-back, get-put, numbers-put, length-each}
+use Rattle.grid.specs.CellFields.{take-filled, length-tabulate}
+use Rattle.theorems.specs.NumbersAsBytes.{EachFits, there-back, get-put, numbers-put, length-each}
 use Rattle.theorems.specs.Walks.{AllShort, all-fine, walks}
 
 -- ---- a number within its limits fits its bytes

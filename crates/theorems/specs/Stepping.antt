@@ -20,7 +20,7 @@ use Rattle.model.specs.declared.Field.the-variants.{Depth, VelocityU, VelocityV
 use Rattle.theorems.specs.Truth.{eq-iff, differ}
 use Rattle.theorems.specs.TestLaws.{passes}
 use Rattle.theorems.specs.Limits.{each-iff}
-use Rattle.grid.specs.Fields.{length-byCell, at-byCell}
+use Rattle.grid.specs.CellFields.{length-byCell, at-byCell}
 use Rattle.theorems.specs.Filling.{tendencies-fill, vorticity-fill}
 use Rattle.integers.specs.Rounding.{rnd-zero}
 use Rattle.theorems.specs.Depth.{depth-sum}

@@ -18,13 +18,13 @@ use Rattle.theorems.specs.RunEnds.{run-ends}
 use Rattle.theorems.specs.RunSteps.{run-steps}
 use Rattle.theorems.specs.RoundTrip.{round-trip}
 use Rattle.theorems.specs.Rewrite.{read-within, rewritten}
-use Rattle.theorems.specs.Program.{program-steps}
+use Rattle.theorems.specs.ProgramSteps.{program-steps}
 use Rattle.theorems.specs.Output.{output-fits}
 use Rattle.theorems.specs.AnyOrder.{any-order}
 use Rattle.theorems.specs.Comparing.{comparison}
 use Rattle.theorems.specs.ProductRule.{energy-rate}
-use Rattle.theorems.specs.Rates.{energy-zero, enstrophy-zero, periodic-enstrophy}
-use Rattle.theorems.specs.Histories.{totals, balance, kept}
+use Rattle.theorems.specs.ZeroRates.{energy-zero, enstrophy-zero, periodic-enstrophy}
+use Rattle.theorems.specs.Balances.{totals, balance, kept}
 -- The laws behind energy, enstrophy and total depth, for any fluxes, Bernoulli function, weights of each cell and closed edges
 pub use Rattle.theorems.specs.Conservation.{mass-law, energy-law, enstrophy-law}
 -- What the checker computes: the worked examples, and the paper's conditions on the weight table

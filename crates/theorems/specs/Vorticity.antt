@@ -13,7 +13,7 @@ use Rattle.model.specs.Claims.{OwnVorticityClaim, VorticityClaim}
 use Rattle.integers.specs.Laws.{abs-mul}
 use Rattle.integers.specs.Magnitudes.{absolute-vorticity-size, depths-least, least-size}
 use Rattle.grid.specs.Cells.{cell-lt, previous-lt}
-use Rattle.grid.specs.Fields.{length-byCell, getD-byCell}
+use Rattle.grid.specs.CellFields.{length-byCell, getD-byCell}
 use Rattle.integers.specs.Rounding.{rnd-size}
 use Rattle.theorems.specs.Filling.{vorticity-fill}
 

@@ -18,7 +18,7 @@ use Rattle.model.specs.declared.Refusal.{Refusal}
 use Rattle.model.specs.declared.Refusal.the-variants.{Record}
 use Rattle.theorems.specs.Truth.{_⟫_, le-iff, and-iff, true-T, T-true, differ}
 use Rattle.theorems.specs.TestLaws.{passes}
-use Rattle.theorems.specs.Bytes.{AllBytes, bytes-drop, bytes-take, there-back, back-bytes, small-of}
+use Rattle.theorems.specs.NumbersAsBytes.{AllBytes, bytes-drop, bytes-take, there-back, back-bytes, small-of}
 
 -- ---- the tests at a tag
 

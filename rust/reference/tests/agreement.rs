@@ -1,5 +1,5 @@
 //! The numbers that the model is held to are those of this version: the rows
-//! of `crates/agreement/specs/Agreement.antt`, which the checker computes from
+//! of `crates/model_agreement/specs/Agreement.antt`, which the checker computes from
 //! the model's definitions, are worked out here anew and compared as text.
 
 use crate::common::{record_field, record_fields, record_of};
@@ -282,7 +282,7 @@ fn conditions() -> Vec<i64> {
 fn table() -> String {
     let path = concat!(
         env!("CARGO_MANIFEST_DIR"),
-        "/../../crates/agreement/specs/Agreement.antt"
+        "/../../crates/model_agreement/specs/Agreement.antt"
     );
     let file = std::fs::read_to_string(path).expect("the agreement crate");
     words(file.split("agreed =").nth(1).expect("the table"))

@@ -1,6 +1,6 @@
 -- `basin::basin_read` meets its contract. Assumes nothing.
 use borrow.Author.Needs.{needs}
-use Rattle.telling.specs.Told.{told-by}
+use Rattle.answers.specs.Told.{told-by}
 use Rattle.basin.proofs.basin_read.Statement.{statement}
 use Rattle.basin.proofs.basin_read.Tie as tie
 

@@ -1,7 +1,7 @@
 -- `basin::basin_run` meets its contract. Assumes nothing.
 use borrow.Author.Needs.{needs}
 use mir.Facts.{toZ-ofZ}
-use Rattle.telling.specs.Told.{told-by}
+use Rattle.answers.specs.Told.{told-by}
 use Rattle.basin.proofs.Lent.{made, run-of}
 use Rattle.basin.proofs.basin_run.Statement.{statement}
 use Rattle.basin.proofs.basin_run.Tie as tie

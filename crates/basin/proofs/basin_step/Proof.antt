@@ -1,7 +1,7 @@
 -- `basin::basin_step` meets its contract. Assumes nothing.
 use borrow.Author.Needs.{needs}
 use mir.Facts.{toZ-ofZ}
-use Rattle.telling.specs.Told.{told-by}
+use Rattle.answers.specs.Told.{told-by}
 use Rattle.basin.proofs.Lent.{made, step-of}
 use Rattle.basin.proofs.basin_step.Statement.{statement}
 use Rattle.basin.proofs.basin_step.Tie as tie

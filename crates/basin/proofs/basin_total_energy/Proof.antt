@@ -6,7 +6,7 @@ use mir.Syntax.{w64}
 use lib.ListN.{getD}
 use Rattle.model.specs.Answers.{totalIn}
 use Rattle.integers.specs.Bounds.{held-is}
-use Rattle.telling.specs.Told.{told-by}
+use Rattle.answers.specs.Told.{told-by}
 use Rattle.basin.proofs.Lent.{made, energy-of}
 use Rattle.basin.proofs.basin_total_energy.Statement.{statement}
 use Rattle.basin.proofs.basin_total_energy.Tie as tie

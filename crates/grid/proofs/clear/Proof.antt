@@ -4,7 +4,7 @@ use Prim.Native.Nat.{_-_}
 use native.Mathlib.Omega.{arith}
 use lib.IntN.{pos}
 use lib.ListN.{replicate, length-replicate, getD-replicate}
-use Rattle.grid.specs.Writing.{Writing, writing-none, filling-more, filling-done}
+use Rattle.grid.specs.WritingLoops.{Writing, writing-none, filling-more, filling-done}
 use Rattle.grid.proofs.clear.Statement.{statement}
 use Rattle.grid.proofs.clear.Tie as tie
 

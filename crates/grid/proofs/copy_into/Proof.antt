@@ -7,7 +7,7 @@ use native.Mathlib.Omega.{arith}
 use mir.Syntax.{w64}
 use mathlib.Core.Path.{refl}
 use Rattle.integers.specs.Bounds.{held-is}
-use Rattle.grid.specs.Writing.{Writing, writing-none, writing-more, writing-done}
+use Rattle.grid.specs.WritingLoops.{Writing, writing-none, writing-more, writing-done}
 use Rattle.grid.proofs.copy_into.Statement.{statement}
 use Rattle.grid.proofs.copy_into.Tie as tie
 

@@ -11,7 +11,7 @@ use mir.Syntax.{w64}
 use Rattle.integers.specs.Bounds.{held-is}
 use Rattle.grid.specs.Parts.{part}
 use Rattle.grid.specs.Banks.{length-part, getD-part}
-use Rattle.grid.specs.Writing.{Writing, writing-none, filling-more, filling-done}
+use Rattle.grid.specs.WritingLoops.{Writing, writing-none, filling-more, filling-done}
 use Rattle.grid.proofs.copy_out.Statement.{statement}
 use Rattle.grid.proofs.copy_out.Tie as tie
 

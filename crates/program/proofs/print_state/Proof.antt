@@ -6,7 +6,7 @@ use Rattle.model.specs.State.{State, stateOf}
 use Rattle.model.specs.Totals.{totalDepth}
 use Rattle.model.specs.Program.{totalLine}
 use Rattle.integers.specs.Bounds.{held-is}
-use Rattle.printing.specs.Sink.{sink, puts}
+use Rattle.text.specs.Sink.{sink, puts}
 use Rattle.program.specs.StepLaws.{cells-ready, depths-ready, state-printed}
 use Rattle.program.proofs.print_state.Statement.{statement}
 use Rattle.program.proofs.print_state.Tie as tie

@@ -7,9 +7,9 @@ use mir.Facts.{toZ-ofZ}
 use Rattle.model.specs.Numbers.{Within, gravityLimits}
 use Rattle.integers.specs.Ring.{Expr, var, _⊕_}
 use Rattle.integers.specs.Bounds.{Abs, Sizes, ∎, _◂_, abs-as, held, fits, exact}
-use Rattle.scheme.specs.Reading.{reads}
+use Rattle.scheme.specs.Ready.{reads}
 use Rattle.scheme.specs.Shares.{geopotentialAt}
-use Rattle.scheme.specs.Sizes.{squares-size, geopotential-size}
+use Rattle.scheme.specs.SchemeSizes.{squares-size, geopotential-size}
 use Rattle.scheme.proofs.bernoulli_at.Statement.{statement}
 use Rattle.scheme.proofs.bernoulli_at.Tie as tie
 

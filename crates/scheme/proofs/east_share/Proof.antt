@@ -2,7 +2,7 @@
 use mir.Syntax.{w64}
 use Rattle.integers.specs.Ring.{var, _⊕_, _⊗_}
 use Rattle.integers.specs.Bounds.{fits, exact}
-use Rattle.scheme.specs.Sizes.{fit-sizes, east-expr}
+use Rattle.scheme.specs.SchemeSizes.{fit-sizes, east-expr}
 use Rattle.scheme.proofs.east_share.Statement.{statement}
 use Rattle.scheme.proofs.east_share.Tie as tie
 

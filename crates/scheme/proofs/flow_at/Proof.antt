@@ -12,7 +12,7 @@ use Rattle.integers.specs.Bounds.{Abs, ∎, _◂_, abs-as, held, held-is, size,
 use Rattle.integers.specs.Magnitudes.{ratio-size}
 use Rattle.integers.specs.Rounding.{mostDividend, mostDivisor}
 use Rattle.scheme.specs.Shares.{fluxAt}
-use Rattle.scheme.specs.Sizes.{flux-size}
+use Rattle.scheme.specs.SchemeSizes.{flux-size}
 use Rattle.scheme.specs.Passing.{flow-divisor}
 use Rattle.scheme.proofs.flow_at.Statement.{statement}
 use Rattle.scheme.proofs.flow_at.Tie as tie

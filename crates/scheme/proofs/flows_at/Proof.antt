@@ -11,7 +11,7 @@ use Rattle.integers.specs.Ring.{var}
 use Rattle.integers.specs.Bounds.{∎, _◂_, held, held-is, exact}
 use Rattle.integers.specs.Magnitudes.{ratio-size}
 use Rattle.grid.specs.Stencils.{Below, around-below}
-use Rattle.scheme.specs.Reading.{ReadsAt, reads}
+use Rattle.scheme.specs.Ready.{ReadsAt, reads}
 use Rattle.scheme.specs.Around.{x-around, y-around}
 use Rattle.scheme.proofs.flows_at.Statement.{statement}
 use Rattle.scheme.proofs.flows_at.Tie as tie

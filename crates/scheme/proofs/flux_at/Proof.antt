@@ -7,7 +7,7 @@ use mir.Syntax.{w64}
 use Rattle.integers.specs.Ring.{var, _⊕_}
 use Rattle.integers.specs.Bounds.{Sizes, ∎, _◂_, fits, exact}
 use Rattle.integers.specs.Magnitudes.{depth-size, velocity-size}
-use Rattle.scheme.specs.Sizes.{flux-expr}
+use Rattle.scheme.specs.SchemeSizes.{flux-expr}
 use Rattle.scheme.proofs.flux_at.Statement.{statement}
 use Rattle.scheme.proofs.flux_at.Tie as tie
 

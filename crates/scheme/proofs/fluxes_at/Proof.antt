@@ -1,6 +1,6 @@
 -- `scheme::fluxes_at` meets its contract. Assumes nothing.
 use borrow.Author.Needs.{needs}
-use Rattle.scheme.specs.Reading.{reads}
+use Rattle.scheme.specs.Ready.{reads}
 use Rattle.scheme.proofs.fluxes_at.Statement.{statement}
 use Rattle.scheme.proofs.fluxes_at.Tie as tie
 

@@ -7,7 +7,7 @@ use mir.Syntax.{w64}
 use Rattle.integers.specs.Ring.{var, con, _⊕_, _⊗_}
 use Rattle.integers.specs.Bounds.{Sizes, ∎, _◂_, fits, exact}
 use Rattle.integers.specs.Magnitudes.{gravity-size, depth-size, bottom-size}
-use Rattle.scheme.specs.Sizes.{geopotential-expr}
+use Rattle.scheme.specs.SchemeSizes.{geopotential-expr}
 use Rattle.scheme.proofs.geopotential.Statement.{statement}
 use Rattle.scheme.proofs.geopotential.Tie as tie
 

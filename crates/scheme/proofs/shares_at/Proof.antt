@@ -10,11 +10,11 @@ use Rattle.model.specs.State.{State, stateOf, FieldWithin}
 use Rattle.model.specs.Scheme.{B, D, divergence}
 use Rattle.integers.specs.Bounds.{abs-as, held, held-is}
 use Rattle.grid.specs.Stencils.{Below, around-below}
-use Rattle.scheme.specs.Reading.{reads, Flow}
+use Rattle.scheme.specs.Ready.{reads, Flow}
 use Rattle.scheme.specs.Shares.{AreShares, weightsIn, fluxesIn, headIn}
 use Rattle.scheme.specs.Around.{weights-around, fluxes-around, bernoulli-around}
 use Rattle.integers.specs.Magnitudes.{vorticity-size}
-use Rattle.scheme.specs.Sizes.{B-size, fit-in}
+use Rattle.scheme.specs.SchemeSizes.{B-size, fit-in}
 use Rattle.scheme.proofs.shares_at.Statement.{statement}
 use Rattle.scheme.proofs.shares_at.Tie as tie
 

@@ -5,7 +5,7 @@ use lib.IntN.{pos, _*ℤ_}
 use mir.Syntax.{w64}
 use Rattle.integers.specs.Bounds.{∎, _◂_, held, held-is, fits, exact}
 use Rattle.scheme.specs.Shares.{Fit, westShare, eastShare, southShare, northShare}
-use Rattle.scheme.specs.Sizes.{head-expr}
+use Rattle.scheme.specs.SchemeSizes.{head-expr}
 use Rattle.scheme.proofs.shares_of.Statement.{statement}
 use Rattle.scheme.proofs.shares_of.Tie as tie
 

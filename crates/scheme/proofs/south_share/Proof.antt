@@ -3,7 +3,7 @@ use lib.IntN.{pos}
 use mir.Syntax.{w64}
 use Rattle.integers.specs.Ring.{var, con, _⊖_, _⊗_}
 use Rattle.integers.specs.Bounds.{fits, exact}
-use Rattle.scheme.specs.Sizes.{fit-sizes, south-expr}
+use Rattle.scheme.specs.SchemeSizes.{fit-sizes, south-expr}
 use Rattle.scheme.proofs.south_share.Statement.{statement}
 use Rattle.scheme.proofs.south_share.Tie as tie
 

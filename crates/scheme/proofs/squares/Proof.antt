@@ -7,7 +7,7 @@ use mir.Syntax.{w64}
 use Rattle.integers.specs.Ring.{var, _⊗_}
 use Rattle.integers.specs.Bounds.{Sizes, ∎, _◂_, fits, exact}
 use Rattle.integers.specs.Magnitudes.{velocity-size}
-use Rattle.scheme.specs.Sizes.{squares-expr}
+use Rattle.scheme.specs.SchemeSizes.{squares-expr}
 use Rattle.scheme.proofs.squares.Statement.{statement}
 use Rattle.scheme.proofs.squares.Tie as tie
 

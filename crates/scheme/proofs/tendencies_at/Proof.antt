@@ -10,7 +10,7 @@ use Rattle.model.specs.Scheme.{tendencyU, tendencyV, toWest, toSouth}
 use Rattle.integers.specs.Bounds.{Abs, abs-as, held, held-is}
 use Rattle.grid.specs.Cells.{previous-lt}
 use Rattle.scheme.specs.Shares.{mostShare, Fit, weightsIn, fluxesIn, headIn, eastShareAt, northShareAt, u-edge, v-edge}
-use Rattle.scheme.specs.Sizes.{share-held, west-size, east-size, south-size, north-size, fit-in}
+use Rattle.scheme.specs.SchemeSizes.{share-held, west-size, east-size, south-size, north-size, fit-in}
 use Rattle.scheme.specs.Handing.{west-beyond, south-beyond}
 use Rattle.scheme.proofs.tendencies_at.Statement.{statement}
 use Rattle.scheme.proofs.tendencies_at.Tie as tie

@@ -15,7 +15,7 @@ use Rattle.integers.specs.Order.{≤-trans}
 use Rattle.integers.specs.Bounds.{Abs, ∎, _◂_, abs-as, held, held-is, size, fits, exact}
 use Rattle.integers.specs.Rounding.{mostDividend, mostDivisor}
 use Rattle.grid.specs.Stencils.{Below, around-below}
-use Rattle.scheme.specs.Reading.{reads}
+use Rattle.scheme.specs.Ready.{reads}
 use Rattle.scheme.specs.Around.{absolute-vorticity-around, depth-around}
 use Rattle.integers.specs.Magnitudes.{absolute-vorticity-size, depths-size, depths-least}
 use Rattle.scheme.proofs.vorticity_at.Statement.{statement}

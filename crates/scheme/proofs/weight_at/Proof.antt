@@ -4,7 +4,7 @@ use borrow.Author.Needs.{needs}
 use mir.Syntax.{w64}
 use Rattle.integers.specs.Ring.{var}
 use Rattle.integers.specs.Bounds.{∎, _◂_, exact}
-use Rattle.scheme.specs.Sizes.{table-size}
+use Rattle.scheme.specs.SchemeSizes.{table-size}
 use Rattle.scheme.proofs.weight_at.Statement.{statement}
 use Rattle.scheme.proofs.weight_at.Tie as tie
 

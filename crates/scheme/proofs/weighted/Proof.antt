@@ -7,7 +7,7 @@ use mir.Syntax.{w64}
 use Rattle.model.specs.Weights.{weighted}
 use Rattle.integers.specs.Ring.{var, _⊕_, _⊗_}
 use Rattle.integers.specs.Bounds.{Sizes, ∎, _◂_, abs-as, fits, exact}
-use Rattle.scheme.specs.Sizes.{weighted-expr, table-size}
+use Rattle.scheme.specs.SchemeSizes.{weighted-expr, table-size}
 use Rattle.scheme.specs.Shares.{mostCorner}
 use Rattle.scheme.proofs.weighted.Statement.{statement}
 use Rattle.scheme.proofs.weighted.Tie as tie

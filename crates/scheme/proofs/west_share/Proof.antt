@@ -2,7 +2,7 @@
 use mir.Syntax.{w64}
 use Rattle.integers.specs.Ring.{var, _⊕_, _⊖_, _⊗_}
 use Rattle.integers.specs.Bounds.{fits, exact}
-use Rattle.scheme.specs.Sizes.{fit-sizes, west-expr}
+use Rattle.scheme.specs.SchemeSizes.{fit-sizes, west-expr}
 use Rattle.scheme.proofs.west_share.Statement.{statement}
 use Rattle.scheme.proofs.west_share.Tie as tie
 

@@ -1,0 +1,61 @@
+-- The round trips speak of this code, by calls of `write` and `read` (Calls). Assumes nothing.
+use mathlib.Core.Path.{_≡_, subst}
+use Prim.Native.Nat.{_*_, _^_, _≤_, _<_}
+use contract.Lifetimes.{Lfts}
+use denote.Ref.{now}
+use denote.Triple.Clauses.{AtExit}
+use borrow.Fn.Kinds.{Dens, resT, endedOf}
+use lib.Dec.{T}
+use lib.ListN.{length, take}
+use Rattle.model.specs.State.{State, stateOf, parametersOf, cells, WithinLimits}
+use Rattle.model.specs.Record.{Timestamp, recordLength, rising}
+use Rattle.model.specs.Promises.{WritePromise, ReadPromise}
+use Rattle.model.specs.Claims.{Bytes}
+use Rattle.model.specs.declared.Parameters.{Parameters}
+use Rattle.model.specs.declared.ReadAnswer.the-variants.{Read}
+use Rattle.model.specs.declared.WriteAnswer.the-variants.{Written}
+use Rattle.theorems.specs.Theorems.{theorems}
+use Rattle.record_read.specs.ReadRooms.{Room}
+use Rattle.record_read.proofs.read.Kinds as read-kinds
+use Rattle.record_read.proofs.read.Reads as read-reads
+use Rattle.record_read.proofs.Calls.{ReadCall, WriteCall, read-call}
+
+-- ---- a call of `read`
+
+-- the state of the parameters p and of what a call leaves: the first w·n places of each field
+abbrev pub left : ReadCall → Parameters → State
+left g p = let m = p .w * p .n in stateOf p (take m (g .h′)) (take m (g .b′)) (take m (g .u′)) (take m (g .v′))
+
+accepted-read : (g : ReadCall) {p : Parameters} {t : Timestamp} → g .answer ≡ Read p t → ReadPromise (g .rec) (g .h) (g .b) (g .u) (g .v) (Read p t) (g .h′) (g .b′) (g .u′) (g .v′)
+accepted-read g e = subst (λ x. ReadPromise (g .rec) (g .h) (g .b) (g .u) (g .v) x (g .h′) (g .b′) (g .u′) (g .v′)) e (g .promise)
+
+-- what it fills in is a state within the limits
+pub read-is-within : (g : ReadCall) {p : Parameters} {t : Timestamp} → g .answer ≡ Read p t → WithinLimits (left g p)
+read-is-within g {p} {t} e = theorems .read (g .rec) _ _ _ _ _ _ _ _ p t (accepted-read g e)
+
+-- ---- and a call of `write`
+
+-- a state within the limits that is written, and what was written read into fields that have room: the same state and timestamp
+pub write-then-read : (w : WriteCall) (g : ReadCall)
+    → WithinLimits (w .state) → w .timestamp < 2 ^ 64 → recordLength (w .state) ≤ length (w .d) → Room (cells (w .state)) (g .h) (g .b) (g .u) (g .v)
+    → g .rec ≡ take (recordLength (w .state)) (w .d′)
+    → (w .answer ≡ Written (recordLength (w .state))) × (g .answer ≡ Read (parametersOf (w .state)) (w .timestamp)) × (left g (parametersOf (w .state)) ≡ w .state)
+write-then-read w g l t room fit q =
+    theorems .write-then-read (w .state) (w .timestamp) (w .d) (w .d′) (w .answer) _ _ _ _ _ _ _ _ (g .answer) l t room (w .promise) (fit .depth) (fit .bottom) (fit .velocity-u) (fit .velocity-v)
+    (subst (λ r. ReadPromise r (g .h) (g .b) (g .u) (g .v) (g .answer) (g .h′) (g .b′) (g .u′) (g .v′)) q (g .promise))
+
+-- an accepted record whose tags rise, and what was read of it written again: the same bytes
+pub read-then-write : (g : ReadCall) (w : WriteCall) {p : Parameters} {t : Timestamp}
+    → Bytes (g .rec) → T (rising (g .rec)) → g .answer ≡ Read p t → w .state ≡ left g p → w .timestamp ≡ t → length (g .rec) ≤ length (w .d)
+    → (w .answer ≡ Written (length (g .rec))) × (take (length (g .rec)) (w .d′) ≡ g .rec)
+read-then-write g w {p} {t} bytes rises q same time room =
+    theorems .read-then-write (g .rec) (w .d) (w .d′) _ _ _ _ _ _ _ _ p t (w .answer) bytes rises (accepted-read g q)
+    (subst (λ x. WritePromise (left g p) x (w .d) (w .answer) (w .d′)) time (subst (λ s. WritePromise s (w .timestamp) (w .d) (w .answer) (w .d′)) same (w .promise))) room
+
+-- ---- the same of the code itself: from what a caller learns of a call, of its own parameters
+
+module _ (κs : Lfts 5) (a : Dens κs read-kinds.ps) (answer : resT read-kinds.r κs .Denot) (e : AtExit (endedOf 5 read-kinds.ps read-kinds.r) κs) where
+  pub code-read-is-within : read-reads.Learnt κs a answer e → {p : Parameters} {t : Timestamp} → answer ≡ Read p t
+      → let (_, (h′, (b′, (u′, (v′, _))))) = e in
+      let m = p .w * p .n in WithinLimits (stateOf p (take m (now h′)) (take m (now b′)) (take m (now u′)) (take m (now v′)))
+  code-read-is-within told q = read-is-within (read-call κs a answer e told) q

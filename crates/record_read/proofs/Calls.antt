@@ -1,0 +1,59 @@
+-- Calls of `read` and `write` as a caller sees them: what goes in, the answer, and what is left in the lent parameters (marked ′), by name.
+-- Each is read off `Learnt`, once: what a caller learns of a call, the function's `ensures` in src/lib.rt as the checker reads it, of the
+-- arguments a, the answer, and the parameters e as the call returns, both in the order of the signature. The theorems of Applied are of
+-- these calls. Assumes nothing.
+use mathlib.Core.List.{List}
+use Prim.Native.Nat.{ℕ}
+use contract.Lifetimes.{Lfts}
+use denote.Ref.{now}
+use denote.Triple.Clauses.{AtExit}
+use borrow.Fn.Kinds.{Dens, resT, endedOf}
+use lib.IntN.{ℤ}
+use Rattle.model.specs.State.{State, stateOf}
+use Rattle.model.specs.Record.{Timestamp}
+use Rattle.model.specs.Promises.{WritePromise, ReadPromise}
+use Rattle.model.specs.declared.ReadAnswer.{ReadAnswer}
+use Rattle.model.specs.declared.WriteAnswer.{WriteAnswer}
+use Rattle.record_write.proofs.write.Kinds as write-kinds
+use Rattle.record_write.proofs.write.Reads as write-reads
+use Rattle.record_read.proofs.read.Kinds as read-kinds
+use Rattle.record_read.proofs.read.Reads as read-reads
+
+-- ---- `read`
+
+pub record ReadCall : Type 0 where
+  pub rec : List ℕ
+  pub h : List ℤ
+  pub b : List ℤ
+  pub u : List ℤ
+  pub v : List ℤ
+  pub h′ : List ℤ
+  pub b′ : List ℤ
+  pub u′ : List ℤ
+  pub v′ : List ℤ
+  pub answer : ReadAnswer
+  pub promise : ReadPromise rec h b u v answer h′ b′ u′ v′
+
+module _ (κs : Lfts 5) (a : Dens κs read-kinds.ps) (answer : resT read-kinds.r κs .Denot) (e : AtExit (endedOf 5 read-kinds.ps read-kinds.r) κs) where
+  abbrev pub read-call : read-reads.Learnt κs a answer e → ReadCall
+  read-call told =
+      let (rec, (h, (b, (u, (v, _))))) = a in
+      let (_, (h′, (b′, (u′, (v′, _))))) = e in
+      record { rec = now rec; h = now h; b = now b; u = now u; v = now v; h′ = now h′; b′ = now b′; u′ = now u′; v′ = now v′; answer = answer; promise = told }
+
+-- ---- `write`
+
+pub record WriteCall : Type 0 where
+  pub state : State
+  pub timestamp : Timestamp
+  pub d : List ℕ
+  pub d′ : List ℕ
+  pub answer : WriteAnswer
+  pub promise : WritePromise state timestamp d answer d′
+
+module _ (κs : Lfts 5) (a : Dens κs write-kinds.ps) (answer : resT write-kinds.r κs .Denot) (e : AtExit (endedOf 5 write-kinds.ps write-kinds.r) κs) where
+  abbrev pub write-call : write-reads.Learnt κs a answer e → WriteCall
+  write-call told =
+      let (p, (h, (b, (u, (v, (timestamp, (d, _))))))) = a in
+      let (_, (_, (_, (_, (_, (_, (d′, _))))))) = e in
+      record { state = stateOf p (now h) (now b) (now u) (now v); timestamp = timestamp; d = now d; d′ = now d′; answer = answer; promise = told }

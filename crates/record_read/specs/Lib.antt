@@ -1,0 +1,2 @@
+-- the room of the four destinations
+pub mod ReadRooms

@@ -1,0 +1,2 @@
+-- what is read of a record, and what its tests find
+pub mod RecordTested
