@@ -1,6 +1,7 @@
 // The C interface: thin functions over the proved calls, for Rust and C (include/basin.h). A slice crosses as pointer and length. What is
-// told crosses as a pointer alone, to one number, three or eight, so that no call has too little room for it. Any numbers and any lengths
-// may come in.
+// told crosses as a pointer alone, to one number, three or eight, so that no call has too little room for it. Of the eight numbers of an
+// answer the first is the refusal's number, 0 for none, which is also returned; the values that belong to it follow, and 0 in the other
+// places. Any numbers and any lengths may come in.
 ghost use mathlib.Core.Path.{_≡_};
 ghost use Rattle.model.specs.State.{before, after};
 ghost use Rattle.model.specs.Promises.{TotalDepthPromise, TotalEnergyPromise};
@@ -26,7 +27,7 @@ fn parameters(w: usize, n: usize, kind: u8, g: i64, c: i64, r: i64) -> Parameter
 
 // ---- potential vorticity and tendencies
 
-// Each is the proved call, its answer told as above. They rule out, for instance: done told as 1; du and dv swapped.
+// Each is the proved call, its answer told in eight numbers. They rule out, for instance: done told as 1; du and dv swapped.
 
 #[no_mangle]
 pub extern "C" fn basin_potential_vorticity(
@@ -84,8 +85,8 @@ pub extern "C" fn basin_tendencies(
 
 // ---- step and run
 
-// Each is the proved call, on the lent state, its answer told as above. They rule out, for instance: the cell of a refusal 6 told
-// before its field; the steps done told before the pass, field and cell of the 6 that stopped the run.
+// Each is the proved call, on the lent state, its answer told in eight numbers. They rule out, for instance: the cell of a refusal 6
+// told before its field; the steps done told before the pass, field and cell of the 6 that stopped the run.
 
 #[no_mangle]
 pub extern "C" fn basin_step(
@@ -142,8 +143,8 @@ pub extern "C" fn basin_run(
 
 // ---- totals
 
-// Each is the proved call: an accepted total goes into the lent number and 0 is told; a refusal is told as above, and leaves the lent
-// number. They rule out, for instance: 0 told and no total; the total of b.
+// Each is the proved call: an accepted total goes into the lent number and 0 is told; a refusal is told in eight numbers, and leaves the
+// lent number. They rule out, for instance: 0 told and no total; the total of b.
 
 #[no_mangle]
 pub extern "C" fn basin_total_depth(
@@ -199,7 +200,7 @@ pub extern "C" fn basin_total_energy(
 
 // ---- the record
 
-// Each is the proved call, its answer told as above: the writer's with the number of bytes; the reader's with w, n, kind and the
+// Each is the proved call, its answer told in eight numbers: the writer's with the number of bytes; the reader's with w, n, kind and the
 // timestamp, while G, c and R, which have a sign, go into three lent numbers, which a refusal leaves; the comparison's with 0 same,
 // 1 first newer, 2 second newer, 3 conflict, or which record is refused. They rule out, for instance: the fields of a record swapped;
 // the records swapped; G told in the place of c.

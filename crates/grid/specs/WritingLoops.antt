@@ -7,7 +7,7 @@ use native.Mathlib.Nat.{le-antisymm, zero-add, zero-mul, mul-comm, mul-le-mul-ri
 use native.Mathlib.Numerals.{add-one}
 use native.Mathlib.Omega.{arith}
 use lib.ListN.{length, take, drop, getD, set, length-set}
-use lib.Seq.{length-take-le, take-append-seam, drop-at, getD-drop, paste, paste-zero, paste-suc, drop-paste, take-length}
+use lib.Seq.{length-take-le, take-append-seam, drop-at, paste, paste-zero, paste-suc, take-length}
 use Rattle.model.specs.Grid.{byCell, filled}
 use Rattle.grid.specs.Cells.{cell-lt, row-end, by-index}
 use Rattle.grid.specs.CellFields.{length-byCell, any-byCell}
@@ -92,20 +92,6 @@ module _ {A : Type 0} (w n : ℕ) (g : ℕ → ℕ → A) where
 
   pub rows-filled : {j : ℕ} {e d : List A} → Writing 0 field e (j * w) d → n ≤ j → d ≡ filled (w * n) field e
   rows-filled {j} h l = filling-done h (length-byCell w n g) (rw (mul-comm w n) (mul-le-mul-right w l))
-
--- ---- what a loop that writes leaves to read
-
-module _ {A : Type 0} {a : ℕ} {l d₀ : List A} where
-  -- from the place that is written next on, all is as it was
-  rest-kept : {k : ℕ} {d : List A} → Writing a l d₀ k d → a ≤ length d₀ → drop (a + k) d ≡ drop (a + k) d₀
-  rest-kept {k} h r = ap (drop (a + k)) (h .holds) ∙ drop-paste d₀ a l k r (h .so-far)
-
-  -- an element that is not written yet
-  pub ahead : {k : ℕ} {d : List A} (x : ℕ) (z : A) → Writing a l d₀ k d → a + k ≤ x → a ≤ length d₀ → getD d x z ≡ getD d₀ x z
-  ahead {k} {d} x z h p r =
-      let e : x ≡ (a + k) + (x - (a + k)) = omega arith in
-      ap (λ y. getD d y z) e ∙ sym (getD-drop (a + k) d (x - (a + k)) z) ∙ ap (λ f. getD f (x - (a + k)) z) (rest-kept h r) ∙ getD-drop (a + k) d₀ (x - (a + k)) z
-      ∙ sym (ap (λ y. getD d₀ y z) e)
 
 -- the part written, once it is
 pub part-written : {A : Type 0} (a : ℕ) (l d₀ : List A) → a ≤ length d₀ → part a (length l) (replaced a l d₀) ≡ l

@@ -1,6 +1,6 @@
 -- The theorems, as statements: of the promises of the public calls, and of the definitions behind them. The crate `theorems` proves each.
 use mathlib.Core.Path.{_≡_}
-use mathlib.Core.Bool.{Bool, false, _&&_}
+use mathlib.Core.Bool.{Bool, false}
 use mathlib.Core.Logic.{_↔_, _⊎_}
 use mathlib.Core.List.{List, [], _∷_, _++_}
 use mathlib.Core.Option.{Option, none, some}
@@ -9,9 +9,9 @@ use lib.Dec.{T}
 use lib.IntN.{ℤ, pos, negℤ, natAbs, _+ℤ_, _-ℤ_, _*ℤ_}
 use lib.ListN.{length, getD, take, drop, replicate}
 use lib.Signed.{_≤ℤ_}
-use Rattle.model.specs.Numbers.{rnd, vorticityLimits, inflowLimits, longestRun, tendencyScale, divergenceScale, all}
+use Rattle.model.specs.Numbers.{rnd, vorticityLimits, inflowLimits, longestRun, tendencyScale, divergenceScale}
 use Rattle.model.specs.Grid.{at, byCell, filled, firstFrom}
-use Rattle.model.specs.State.{State, stateOf, parametersOf, withFlow, cells, closedWest, closedSouth, WithinLimits, FieldWithin, OpenEverywhere}
+use Rattle.model.specs.State.{State, stateOf, parametersOf, withFlow, cells, WithinLimits, FieldWithin, OpenEverywhere}
 use Rattle.model.specs.Answers.{number}
 use Rattle.model.specs.Tests.{Test, asks, seeks, firstFound}
 use Rattle.model.specs.Refusals.{Taken, workLength, stateTests, callTests}

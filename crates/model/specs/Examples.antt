@@ -281,6 +281,7 @@ orders =
     ∷ tends (one (pos 2000)) (just (pos 2000001)) (zeros 1) (zeros 1) (zeros 1) (pos 4 ∷ pos 4 ∷ pos 0 ∷ []) (zeros 1) (zeros 1) (zeros 1)
     ∷ tends (one (pos 2000)) [] (zeros 1) (zeros 1) (zeros 1) (just (pos 2)) (zeros 1) (zeros 1) (zeros 1)
     ∷ steps (one (pos 2000)) (just (pos 1001)) (sevens 8) (pos 4 ∷ pos 5 ∷ pos 0 ∷ []) (just (pos 2000)) (just (pos 100)) (just (minus 50)) (zeros 8)
+    ∷ runs (one (pos 2000)) (zeros 1) 1 (sevens 7) (just (pos 2)) (just (pos 2000)) (just (pos 100)) (just (minus 50)) (sevens 7)
     ∷ runs (one (pos 2000)) [] 10001 [] (just (pos 1)) (just (pos 2000)) (just (pos 100)) (just (minus 50)) []
     ∷ runs (one (pos 999)) (zeros 1) 10000 (sevens 7) (just (pos 2)) (just (pos 999)) (just (pos 100)) (just (minus 50)) (sevens 7)
     ∷ runs (one (pos 999)) (just (pos 1001)) 10000 (sevens 8) (pos 4 ∷ pos 0 ∷ pos 0 ∷ []) (just (pos 999)) (just (pos 100)) (just (minus 50)) (zeros 8)
@@ -301,7 +302,6 @@ orders =
     -- 1 of a run before 2; 2 of the work space before 3; a run refused with 4
     ∷ runs (faulty 1 (pos 1) (just (pos 1000)) [] (zeros 1) (zeros 1)) (zeros 1) 10001 (sevens 8) (just (pos 1)) (just (pos 1000)) (zeros 1) (zeros 1) (sevens 8)
     ∷ runs (one (pos 100000)) (just (pos 1)) 10001 (sevens 7) (just (pos 1)) (just (pos 100000)) (just (pos 100)) (just (minus 50)) (sevens 7)
-    ∷ runs (one (pos 2000)) (zeros 1) 1 (sevens 7) (just (pos 2)) (just (pos 2000)) (just (pos 100)) (just (minus 50)) (sevens 7)
     ∷ steps (faulty 1 (pos 0) (just (pos 1000)) (zeros 1) (zeros 1) (zeros 1)) (zeros 1) (sevens 7) (just (pos 2)) (just (pos 1000)) (zeros 1) (zeros 1) (sevens 7)
     ∷ runs (faulty 1 (pos 1) (just (pos 999)) (zeros 1) (zeros 1) (zeros 1)) (zeros 1) 1 (sevens 8) (pos 4 ∷ pos 0 ∷ pos 0 ∷ []) (just (pos 999)) (zeros 1) (zeros 1) (zeros 8)
     -- a run that its third step stops, at cell 0 and at cell 1

@@ -111,7 +111,8 @@ pub fn print_step(
     }
 }
 
-// What the step program prints for an input, over arrays of its own: fields for up to 1,024 cells, so that a larger grid is an 8.
+// What the step program prints for an input, over arrays of its own: fields for up to 1,024 cells, so that a larger grid is an 8. It
+// rules out, for instance: a grid of 1,024 cells refused; an inflow of 1 in every cell.
 pub fn output(input: &[u8], out: &mut [u8]) -> usize
     ensures { λ r. ⌜ Printed (programOutput (now (input .entry))) (now (out .entry)) r (now (out .exit)) ⌝ }
 {

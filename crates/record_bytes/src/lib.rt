@@ -1,5 +1,5 @@
 // Numbers as bytes, big-endian, negative ones in two's complement (01: Record): read from and written to slices of bytes, once for
-// every count of bytes.
+// every count of bytes. And the table of the record's tags, by which its writer, reader and comparison go.
 ghost use mathlib.Core.Path.{_≡_};
 ghost use Prim.Native.Nat.{_+_, _*_, _^_, _≤_, _<_};
 ghost use lib.ListN.{length, take, drop};

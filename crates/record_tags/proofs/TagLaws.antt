@@ -5,15 +5,15 @@ use mathlib.Core.List.{List}
 use mathlib.Core.Option.{none}
 use Prim.Native.Nat.{ℕ, _+_, _≤_, _<_}
 use native.Mathlib.Omega.{arith}
-use lib.Dec.{T, ltb}
+use lib.Dec.{ltb}
 use lib.ListN.{length, getD}
 use borrow.Author.Tests.{ltb-true, ltb-false, lt-ltb, le-ltb}
 use Rattle.model.specs.Record.{Part, has, tagTest, missingTest}
 use Rattle.model.specs.Promises.{answerOf}
-use Rattle.model.specs.Claims.{Among, BadTag, Missing}
+use Rattle.model.specs.Claims.{Among, BadTag}
 use Rattle.model.specs.declared.Refusal.the-variants.{Record}
 use Rattle.model.specs.declared.Answer.the-variants.{Accepted, Refused}
-use Rattle.theorems.specs.Truth.{T-true, true-T}
+use Rattle.theorems.specs.Truth.{true-T}
 use Rattle.theorems.specs.Walks.{Sound, sound-iff}
 use Rattle.theorems.specs.TagLaws.{told, tag-judged, end-judged, none-missing, none-absent, among-iff, absent}
 use Rattle.record_bytes.specs.TagSizes.{lastTag}
@@ -35,9 +35,6 @@ module _ {rec at : List ℕ} {parts : List Part} (s : Seen rec parts at) (t : �
 
   pub not-seen : length rec ≤ getD at t 0 → has t parts ≡ false
   not-seen l = s .found t h ∙ le-ltb (getD at t 0) (length rec) l
-
-  pub among-seen : Among t parts → getD at t 0 < length rec
-  among-seen a = ltb-true (getD at t 0) (length rec) (sym (s .found t h) ∙ T-true (has t parts) (among-iff t parts .1 a))
 
 -- ---- at the end
 

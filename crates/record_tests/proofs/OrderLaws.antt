@@ -2,15 +2,14 @@
 use mathlib.Core.Path.{_≡_, refl, sym, ap, _∙_}
 use mathlib.Core.Bool.{Bool, true, false}
 use mathlib.Core.List.{List, [], _∷_, _++_}
-use mathlib.Core.Option.{Option, none, some}
 use Prim.Native.Nat.{ℕ, _*_}
 use lib.Dec.{T}
 use lib.IntN.{ℤ}
 use Rattle.model.specs.State.{State, stateOf, parametersOf, cells}
 use Rattle.model.specs.Tests.{Test, must, _then_, firstFound}
-use Rattle.model.specs.Refusals.{Taken, taken, fieldsOf, gridKnown, gridTest, edgeTests, contentTests, roomTests}
+use Rattle.model.specs.Refusals.{taken, fieldsOf, gridKnown, edgeTests, contentTests, roomTests}
 use Rattle.model.specs.Fields.{limitsOf}
-use Rattle.model.specs.Record.{tagTable, Part, bytesTests, recordTests, recordTest, Walked, damaged, whole, walked, stateIn, timestampIn, judged, readBy, decode, refused}
+use Rattle.model.specs.Record.{tagTable, Part, bytesTests, recordTest, Walked, damaged, whole, walked, stateIn, timestampIn, judged, readBy, decode}
 use Rattle.model.specs.Promises.{answerOf}
 use Rattle.model.specs.Claims.{BytesOf}
 use Rattle.model.specs.declared.Parameters.{Parameters}

@@ -1,15 +1,13 @@
 -- From the tests of a call, as the code makes them, to its promise. Assumes nothing.
-use mathlib.Core.Path.{_≡_, refl, sym, ap, _∙_}
+use mathlib.Core.Path.{_≡_, sym, ap, _∙_}
 use mathlib.Core.List.{List, [], _∷_}
-use mathlib.Core.Option.{Option, none, some}
+use mathlib.Core.Option.{Option, none}
 use Prim.Native.Nat.{ℕ, _≤_}
 use lib.IntN.{ℤ}
 use lib.ListN.{length}
-use Rattle.model.specs.Grid.{filled}
-use Rattle.model.specs.State.{State, parametersOf, cells, WithinLimits}
+use Rattle.model.specs.State.{State, cells, WithinLimits}
 use Rattle.model.specs.Answers.{toldAnswer}
-use Rattle.model.specs.Tests.{Test, firstFound}
-use Rattle.model.specs.Refusals.{Taken, taken, fieldsOf, lengthTests, contentTests, stateTests, roomTests}
+use Rattle.model.specs.Refusals.{taken}
 use Rattle.model.specs.Promises.{answerOf, Filling, filledBy, Fills, vorticityTests, vorticityTest, tendenciesTests, tendenciesTest}
 use Rattle.model.specs.Claims.{held}
 use Rattle.model.specs.declared.Field.the-variants.{Vorticity}
@@ -20,7 +18,7 @@ use Rattle.theorems.specs.Truth.{_⟫_}
 use Rattle.theorems.specs.TestLaws.{passes}
 use Rattle.theorems.specs.Limits.{accepted}
 use Rattle.theorems.specs.Causes.{kept}
-use Rattle.tests.specs.Links.{after, accepted-none, refused-some}
+use Rattle.tests.specs.Links.{accepted-none, refused-some}
 use Rattle.scheme.specs.Ready.{TendenciesReady}
 use Rattle.scheme_tendencies.specs.Rooms.{Room}
 

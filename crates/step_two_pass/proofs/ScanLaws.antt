@@ -9,7 +9,7 @@ use lib.ListN.{getD}
 use Rattle.model.specs.Numbers.{Limits, within}
 use Rattle.model.specs.Grid.{firstFrom}
 use Rattle.model.specs.Fields.{limitsOf}
-use Rattle.model.specs.Tests.{Test, found, foundAt, _then_, firstFound}
+use Rattle.model.specs.Tests.{Test, foundAt, _then_, firstFound}
 use Rattle.model.specs.Step.{Place, place}
 use Rattle.model.specs.declared.Field.{Field}
 use Rattle.integers.specs.declared.Range.{Range}

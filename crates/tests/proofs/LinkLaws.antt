@@ -1,7 +1,7 @@
 -- What a link that seeks answers, by what its scan found. Assumes nothing.
 use mathlib.Core.Path.{_≡_, refl, sym, ap, _∙_}
 use mathlib.Core.Bool.{Bool}
-use mathlib.Core.List.{List, [], _∷_}
+use mathlib.Core.List.{[], _∷_}
 use mathlib.Core.Option.{Option, none, some}
 use Prim.Native.Nat.{ℕ}
 use Rattle.model.specs.Grid.{firstFrom}
@@ -9,7 +9,7 @@ use Rattle.model.specs.Tests.{_then_, foundAt, seeks}
 use Rattle.model.specs.Promises.{answerOf}
 use Rattle.model.specs.declared.Refusal.{Refusal}
 use Rattle.model.specs.declared.Answer.{Answer}
-use Rattle.model.specs.declared.Answer.the-variants.{Accepted, Refused}
+use Rattle.model.specs.declared.Answer.the-variants.{Accepted}
 use Rattle.tests.specs.declared.Found.{Found}
 use Rattle.tests.specs.Sought.{foundBy, answerBy}
 use Rattle.tests.specs.Links.{after}

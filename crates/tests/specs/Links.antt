@@ -85,7 +85,7 @@ pub counted : {e a r : Answer} {l : List (Test Refusal)} {m n : ℕ} (k : ℕ �
     → r ≡ after a (k m) → Chain e r (l ++ k n)
 counted {a = a} {m = m} {n = n} k c h e = more (k n) c (e ∙ idle a (k m) (k n) (λ q. ap k (h q)))
 
--- where the lengths of a state's own fields have been tested, first of all, after one test, or after two
+-- where the lengths of a state's own fields have been tested, after one test or after two
 long-by : (s : State) (k : List (Test Refusal)) → EachPasses (lengthTests (fieldsOf s) ++ k) → FieldsLong s
 long-by s k t =
     record {
@@ -94,9 +94,6 @@ long-by s k t =
       u = eqb→eq (length (s .u)) (cells s) (t .1 .1 .0);
       v = eqb→eq (length (s .v)) (cells s) (t .1 .1 .1 .0);
     }
-
-pub fields-long : (s : State) {e a : Answer} {k : List (Test Refusal)} → Chain e a (lengthTests (fieldsOf s) ++ k) → a ≡ Accepted → FieldsLong s
-fields-long s {k = k} c h = long-by s k (passed c h)
 
 pub fields-long-after : (s : State) {e a : Answer} {t : Test Refusal} {k : List (Test Refusal)} → Chain e a (t ∷ (lengthTests (fieldsOf s) ++ k)) → a ≡ Accepted → FieldsLong s
 fields-long-after s {k = k} c h = long-by s k (passed c h .1)

@@ -12,7 +12,7 @@ ghost use Rattle.model.specs.Grid.{firstFrom};
 ghost use Rattle.model.specs.State.{stateOf, lent, before};
 ghost use Rattle.model.specs.Fields.{fieldNumber, limitsOf};
 ghost use Rattle.model.specs.Tests.{asks, firstFound};
-ghost use Rattle.model.specs.Refusals.{taken, fieldsOf, gridKnown, gridTest, runLengthTest, lengthTest, lengthTests, workTest};
+ghost use Rattle.model.specs.Refusals.{taken, fieldsOf, gridKnown, gridTest, runLengthTest, lengthTest, workTest};
 ghost use Rattle.model.specs.Refusals.{constantsWithin, constantsTest, valueTest, valueTests, edgeTests, roomTest, stateTests};
 ghost use Rattle.model.specs.Promises.{answerOf};
 ghost use Rattle.model.specs.declared.Answer.the-variants.{Accepted};

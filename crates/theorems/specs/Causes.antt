@@ -1,15 +1,15 @@
 -- Each call on a state is refused exactly where a cause holds in the list of its tests. A call answers by cases on what its tests find; so
 -- an answer `Refused r` says that they found r, and `finds` says where they do. Assumes nothing.
-use mathlib.Core.Path.{_≡_, refl, sym, ap, subst, _∙_}
+use mathlib.Core.Path.{_≡_, refl, sym, ap, _∙_}
 use mathlib.Core.Logic.{_↔_}
 use mathlib.Core.List.{List, [], _∷_}
 use mathlib.Core.Option.{Option, none, some}
-use Prim.Native.Nat.{ℕ, zero, suc, _≤_}
+use Prim.Native.Nat.{ℕ, zero, suc}
 use lib.IntN.{ℤ}
 use lib.ListN.{length}
 use Rattle.model.specs.State.{State}
 use Rattle.model.specs.Answers.{toldAnswer, toldWrite, toldTotal, toldStep, toldRun}
-use Rattle.model.specs.Step.{place, Outcome, moved, stuck, Ran, runOn, twoPass, stepTests, stepTest, outcomeAnswer, afterStep, stepAnswerBy, stepStateBy, stepAnswer, stepState, runFrom, runTests, runTest, runBy, runOf, workLeft, cleared}
+use Rattle.model.specs.Step.{place, Outcome, moved, stuck, Ran, runOn, twoPass, stepTests, stepTest, afterStep, stepAnswerBy, stepStateBy, stepAnswer, stepState, runFrom, runTests, runTest, runBy, runOf, workLeft}
 use Rattle.model.specs.Totals.{totalDepth, energy4}
 use Rattle.model.specs.Record.{recordLength}
 use Rattle.model.specs.Promises.{answerOf, Filling, filledBy, Fills, vorticityTests, vorticityTest, tendenciesTests, tendenciesTest, totalTests, totalTest, totalAnswer, writeTests, writeTest, writeAnswer, StepPromise}

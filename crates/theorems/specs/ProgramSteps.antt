@@ -1,13 +1,11 @@
 -- The step program's own step passes every test. Assumes nothing.
 use mathlib.Core.Path.{_≡_, refl, sym, ap, subst}
-use mathlib.Core.Option.{none}
 use Prim.Native.Nat.{ℕ, zero, suc, _≤_}
 use native.Mathlib.Omega.{arith}
 use lib.IntN.{pos}
 use lib.ListN.{length, getD, replicate}
 use Rattle.model.specs.Numbers.{Within, inflowLimits}
 use Rattle.model.specs.State.{FieldWithin, cells}
-use Rattle.model.specs.Step.{stepTest}
 use Rattle.model.specs.Program.{programWork}
 use Rattle.model.specs.Claims.{ProgramClaim}
 use Rattle.theorems.specs.Limits.{step-taken}

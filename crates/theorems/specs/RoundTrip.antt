@@ -15,7 +15,6 @@ use mir.Val.{SFits, hbits}
 use Rattle.model.specs.Numbers.{Limits, Within, depthLimits, bottomLimits, velocityLimits, gravityLimits, coriolisLimits, ratioLimits}
 use Rattle.model.specs.Grid.{filled}
 use Rattle.model.specs.State.{State, stateOf, parametersOf, cells, FieldWithin, WithinLimits}
-use Rattle.model.specs.Tests.{firstFound}
 use Rattle.model.specs.Refusals.{fieldsOf, lengthTests, contentTests, roomTests}
 use Rattle.model.specs.Record.{tagTable, bytes4, bytes2, signed4, signed2, eachBy, numbers, Part, valueOf, partsOf, encode, recordLength, missingTest, walked, whole, stateIn, timestampIn, bytesTests, recordTests, recordTest, accepted, judged, readBy, decode}
 use Rattle.model.specs.Promises.{_into_, filledBy, writeTests, writeTest, writeAnswer, WritePromise, readAnswer, readInto, readOf}

@@ -1,16 +1,15 @@
 -- A run with nothing wrong finishes, or stops with 6, exactly where its steps do. That it then ends so is RunClaim; here the way back: a
 -- run from a state that k steps lead on is what is left of the run, from the state that they lead to. Assumes nothing.
 use mathlib.Core.Path.{_≡_, refl, sym, ap, subst, _∙_}
-use mathlib.Core.Logic.{_↔_}
 use mathlib.Core.List.{List}
 use mathlib.Core.Option.{Option, none, some}
-use Prim.Native.Nat.{ℕ, zero, suc, _+_, _-_, _<_}
+use Prim.Native.Nat.{ℕ, suc, _+_, _-_, _<_}
 use native.Mathlib.Omega.{arith}
 use lib.IntN.{ℤ}
 use lib.ListN.{length}
 use Rattle.model.specs.State.{State}
 use Rattle.model.specs.Answers.{toldRun}
-use Rattle.model.specs.Step.{place, moved, stuck, Ran, twoPass, runOn, runFrom, runTest, runBy, runOf, workLeft, cleared}
+use Rattle.model.specs.Step.{place, stuck, Ran, twoPass, runOn, runFrom, runTest, runBy, runOf, workLeft, cleared}
 use Rattle.model.specs.Promises.{RunPromise}
 use Rattle.model.specs.Claims.{Steps, start, onward, RunEndsClaim}
 use Rattle.model.specs.declared.Field.{Field}

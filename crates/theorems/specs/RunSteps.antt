@@ -2,11 +2,11 @@
 use mathlib.Core.Path.{_≡_, refl, sym, ap, ap₂, subst, _∙_}
 use mathlib.Core.List.{List}
 use mathlib.Core.Option.{Option, none, some}
-use Prim.Native.Nat.{ℕ, _*_, _≤_}
+use Prim.Native.Nat.{ℕ, _≤_}
 use lib.IntN.{ℤ}
 use lib.ListN.{length, replicate}
 use Rattle.model.specs.Numbers.{inflowLimits}
-use Rattle.model.specs.State.{State, cells, WithinLimits, FieldWithin}
+use Rattle.model.specs.State.{State, FieldWithin}
 use Rattle.model.specs.Answers.{toldStep}
 use Rattle.model.specs.Refusals.{workFor, workLength}
 use Rattle.model.specs.Step.{place, Outcome, moved, stuck, Ran, twoPass, stepTest, stepAnswerBy, stepStateBy, stepAnswer, stepState, runFrom, runTest, runBy, runOf, workLeft}

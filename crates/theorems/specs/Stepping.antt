@@ -1,14 +1,14 @@
 -- A pass takes the tendencies that the public calls fill in; a step leads within the limits, and adds the inflow to total depth.
 -- Assumes nothing.
 use mathlib.Core.Path.{_≡_, refl, sym, ap, ap₂, subst, _∙_}
-use mathlib.Core.Bool.{Bool, true, false, cond, _&&_}
+use mathlib.Core.Bool.{Bool, true, false, cond}
 use mathlib.Core.List.{List, [], _∷_}
 use mathlib.Core.Option.{Option, none, some}
 use Prim.Native.Nat.{ℕ, _*_, _<_}
 use lib.Dec.{T, eqb}
 use lib.IntN.{ℤ, pos, _+ℤ_, _*ℤ_}
 use lib.ListN.{length, take}
-use Rattle.model.specs.Numbers.{rnd, total, all}
+use Rattle.model.specs.Numbers.{rnd, total}
 use Rattle.model.specs.Grid.{at, byCell}
 use Rattle.model.specs.State.{State, cells, closedWest, closedSouth, WithinLimits}
 use Rattle.model.specs.Refusals.{Taken, taken, lengthTests}

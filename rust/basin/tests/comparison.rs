@@ -510,7 +510,7 @@ enum Cause {
     Length(usize, usize),
     Gravity(i64),
     Coriolis(i64),
-    SpacingRate(i64),
+    Ratio(i64),
     /// A number outside, in this field at this cell.
     Value(usize, usize, i64),
     /// A velocity on a closed edge, in this field at this cell.
@@ -532,7 +532,7 @@ impl Cause {
         }
         causes.extend([0, 10_001].map(Cause::Gravity));
         causes.extend([-10_001, 10_001].map(Cause::Coriolis));
-        causes.extend([999, 1_000_001].map(Cause::SpacingRate));
+        causes.extend([999, 1_000_001].map(Cause::Ratio));
         for (field, (low, high)) in BOUNDS.into_iter().enumerate() {
             for cell in [0, 2, 5] {
                 causes.extend([low - 1, high + 1].map(|x| Cause::Value(field, cell, x)));
@@ -563,7 +563,7 @@ impl Cause {
             Cause::Length(field, length) => case.fields[field].resize(length, BOUNDS[field].0),
             Cause::Gravity(g) => case.p.g = g,
             Cause::Coriolis(c) => case.p.c = c,
-            Cause::SpacingRate(r) => case.p.r = r,
+            Cause::Ratio(r) => case.p.r = r,
             Cause::Value(field, cell, x) => put(field, cell, x),
             Cause::Edge(field, cell) => put(field, cell, 1),
             Cause::Destination(which, length) => case.destinations[which] = length,
@@ -580,7 +580,7 @@ impl Cause {
             Cause::Steps => (call.has_run_length(), vec![1]),
             Cause::Length(field, _) => (taken(&field), vec![2]),
             Cause::Work => (call.has_work_space(), vec![2]),
-            Cause::Gravity(_) | Cause::Coriolis(_) | Cause::SpacingRate(_) => (true, vec![3]),
+            Cause::Gravity(_) | Cause::Coriolis(_) | Cause::Ratio(_) => (true, vec![3]),
             Cause::Value(field, cell, _) => (taken(&field), vec![4, field as u64, cell as u64]),
             Cause::Edge(field, cell) => (taken(&field), vec![5, field as u64, cell as u64]),
             Cause::Destination(which, _) => (which < call.destinations(), vec![8]),

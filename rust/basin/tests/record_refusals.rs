@@ -610,7 +610,7 @@ enum Cause {
     Destination(usize, usize),
     Gravity(i64),
     Coriolis(i64),
-    SpacingRate(i64),
+    Ratio(i64),
     /// A number outside, in this field at this cell.
     Value(usize, usize, i64),
     /// A velocity on a closed edge, in this field at this cell.
@@ -632,7 +632,7 @@ impl Cause {
         }
         causes.extend([0, 10_001].map(Cause::Gravity));
         causes.extend([-10_001, 10_001].map(Cause::Coriolis));
-        causes.extend([999, 1_000_001].map(Cause::SpacingRate));
+        causes.extend([999, 1_000_001].map(Cause::Ratio));
         for (which, (low, high)) in BOUNDS[..4].iter().enumerate() {
             for cell in [0, 2, 5] {
                 causes.extend([low - 1, high + 1].map(|x| Cause::Value(which, cell, x)));
@@ -662,7 +662,7 @@ impl Cause {
             Cause::Destination(which, length) => lent.fields[which] = length,
             Cause::Gravity(g) => state.parameters.g = g,
             Cause::Coriolis(c) => state.parameters.c = c,
-            Cause::SpacingRate(r) => state.parameters.r = r,
+            Cause::Ratio(r) => state.parameters.r = r,
         }
     }
 }
@@ -747,7 +747,7 @@ fn every_cause_of_a_basin_goes_in_the_order_7_1_2_8_3_4_5() {
         (Cause::Columns(0), vec![1]),
         (Cause::Length(3, 7), vec![2]),
         (Cause::Destination(3, 5), vec![8]),
-        (Cause::SpacingRate(999), vec![3]),
+        (Cause::Ratio(999), vec![3]),
         (Cause::Value(0, 5, 100_001), vec![4, 0, 5]),
         (Cause::Value(1, 4, -1), vec![4, 1, 4]),
         (Cause::Value(2, 1, 5_001), vec![4, 2, 1]),

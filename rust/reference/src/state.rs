@@ -21,7 +21,7 @@ pub const GRAVITY: RangeInclusive<i64> = 1..=10_000;
 /// c, mm/s
 pub const CORIOLIS: RangeInclusive<i64> = -10_000..=10_000;
 /// R, mm/s
-pub const SPACING_RATE: RangeInclusive<i64> = 1_000..=1_000_000;
+pub const RATIO: RangeInclusive<i64> = 1_000..=1_000_000;
 /// Most steps of one run.
 pub const MAX_STEPS: u64 = 10_000;
 /// Work space of a step or run, in numbers per cell.
@@ -277,7 +277,7 @@ pub(crate) fn test_values(
     fields: Fields,
     extra: Extra,
 ) -> Result<(), Refusal> {
-    if !(GRAVITY.contains(&p.g) && CORIOLIS.contains(&p.c) && SPACING_RATE.contains(&p.r)) {
+    if !(GRAVITY.contains(&p.g) && CORIOLIS.contains(&p.c) && RATIO.contains(&p.r)) {
         return Err(Refusal::Constants);
     }
     let state = [

@@ -1,7 +1,7 @@
 -- `basin::basin_rnd` meets its contract. The test of the range is the model's, and what passes it is what `integers::rnd` asks for. The
 -- arguments come in as bits, and `toZ-ofZ` reads them back. Assumes nothing.
 use mathlib.Core.Path.{_≡_, sym, ap, _∙_}
-use mathlib.Core.Bool.{true, false, cond}
+use mathlib.Core.Bool.{true, cond}
 use borrow.Author.Needs.{needs}
 use borrow.Author.Tests.{not-true, not-false}
 use lib.IntN.{ℤ, pos, negℤ}
@@ -12,7 +12,7 @@ use Rattle.integers.specs.Bounds.{held-is, abs-within}
 use Rattle.integers.specs.Rounding.{Roundable, mostDividend, mostDivisor}
 use Rattle.theorems.specs.Truth.{true-T, and-iff}
 use Rattle.theorems.specs.Limits.{within-iff}
-use Rattle.basin.specs.FromC.{roundable, Rounded}
+use Rattle.basin.specs.FromC.{roundable}
 use Rattle.basin.proofs.basin_rnd.Statement.{statement}
 use Rattle.basin.proofs.basin_rnd.Tie as tie
 

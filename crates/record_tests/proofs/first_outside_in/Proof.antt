@@ -1,12 +1,10 @@
 -- `record_tests::first_outside_in` meets its contract: the loop has passed the numbers before k. Assumes nothing.
-use mathlib.Core.Path.{_≡_, refl, sym, ap, subst, _∙_}
+use mathlib.Core.Path.{_≡_, sym, ap, subst, _∙_}
 use mathlib.Core.Bool.{not}
-use mathlib.Core.List.{List}
 use Prim.Native.Nat.{_+_, _*_, _-_, _≤_, _<_}
 use native.Mathlib.Omega.{arith}
 use lib.IntN.{ℤ, pos}
 use lib.ListN.{length, getD, take, drop}
-use borrow.Author.Needs.{needs}
 use mir.Syntax.{w64}
 use Rattle.model.specs.Numbers.{within}
 use Rattle.integers.specs.Ranges.{between}
@@ -14,7 +12,7 @@ use Rattle.integers.specs.Bounds.{held-is}
 use Rattle.grid.specs.Scanning.{Scanned, scanned-none, scanned-more, scanned-bad, scanned-all}
 use Rattle.tests.specs.Sought.{foundBy, outsideIn}
 use Rattle.record_bytes.specs.NumberSizes.{sizeOf, signedBy, numbersBy}
-use Rattle.record_bytes.specs.ByteLoops.{number-within, number-is, place-least}
+use Rattle.record_bytes.specs.ByteLoops.{number-within, number-is}
 use Rattle.record_tests.proofs.first_outside_in.Statement.{statement}
 use Rattle.record_tests.proofs.first_outside_in.Tie as tie
 

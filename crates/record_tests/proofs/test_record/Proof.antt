@@ -1,7 +1,7 @@
 -- `record_tests::test_record` meets its contract: link by link, the chain is the model's list. Assumes nothing.
-use mathlib.Core.Path.{_≡_, ap, _∙_}
+use mathlib.Core.Path.{ap, _∙_}
 use mathlib.Core.List.{List, [], _∷_, _++_}
-use Prim.Native.Nat.{ℕ, _*_}
+use Prim.Native.Nat.{_*_}
 use borrow.Author.Needs.{needs}
 use Rattle.model.specs.State.{State}
 use Rattle.model.specs.Tests.{Test}

@@ -1,6 +1,6 @@
 -- `record_tests::then_edges_in` meets its contract: the two scans, of u along west edges and of v along south edges, are those of the state
 -- that the bytes mean. Assumes nothing.
-use mathlib.Core.Path.{_≡_, ap, _∙_}
+use mathlib.Core.Path.{ap, _∙_}
 use mathlib.Core.List.{[], _∷_}
 use Prim.Native.Nat.{ℕ, _*_}
 use borrow.Author.Needs.{needs}

@@ -12,10 +12,8 @@ use Rattle.model.specs.declared.Field.the-variants.{Depth, Bottom, VelocityU, V
 use Rattle.model.specs.declared.Refusal.the-variants.{Value}
 use Rattle.tests.specs.Sought.{bare}
 use Rattle.tests.specs.Links.{after, Chain, start, more, begun}
-use Rattle.record_bytes.specs.declared.Size.{Size}
 use Rattle.record_bytes.specs.declared.Size.the-variants.{Two, Four}
-use Rattle.record_bytes.specs.NumberSizes.{numbersBy}
-use Rattle.record_tests.specs.RecordTested.{stateRead, Meant}
+use Rattle.record_tests.specs.RecordTested.{stateRead}
 use Rattle.record_tests.proofs.ValueLaws.{h-is, b-is, u-is, v-is, value-long, value-numbers}
 use Rattle.record_tests.proofs.OrderLaws.{cells-are, own-taken}
 use Rattle.record_tests.proofs.then_fields_in.Statement.{statement}

@@ -6,7 +6,7 @@ use borrow.Author.Needs.{needs}
 use Rattle.record_bytes.specs.NumberSizes.{valueBy}
 use Rattle.record_bytes.specs.declared.Size.the-variants.{Two, Four}
 use Rattle.record_bytes.specs.Stores.{puts-then, room-first, room-rest}
-use Rattle.record_write.specs.FieldBytes.{fieldOf, fieldsOf}
+use Rattle.record_write.specs.FieldBytes.{fieldOf}
 use Rattle.record_write.proofs.put_fields.Statement.{statement}
 use Rattle.record_write.proofs.put_fields.Tie as tie
 

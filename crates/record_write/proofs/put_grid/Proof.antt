@@ -1,6 +1,5 @@
 -- `record_write::put_grid` meets its contract. Assumes nothing.
 use mathlib.Core.Path.{refl}
-use native.Mathlib.Omega.{arith}
 use lib.ListN.{length-set}
 use borrow.Author.Needs.{needs}
 use Rattle.record_write.specs.WriteLaws.{field-put, three-put}

@@ -1,7 +1,5 @@
 -- `scheme_tendencies::test_vorticity` meets its contract: link by link, the chain is the model's list. Assumes nothing.
-use mathlib.Core.Path.{_≡_}
 use mathlib.Core.List.{List, [], _∷_, _++_}
-use Prim.Native.Nat.{ℕ}
 use lib.Dec.{eqb→eq}
 use lib.ListN.{length}
 use borrow.Author.Needs.{needs}

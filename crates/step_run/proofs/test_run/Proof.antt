@@ -11,7 +11,7 @@ use Rattle.model.specs.declared.Answer.the-variants.{Accepted}
 use Rattle.model.specs.declared.Field.the-variants.{Inflow}
 use Rattle.model.specs.declared.Refusal.{Refusal}
 use Rattle.model.specs.declared.Refusal.the-variants.{Value}
-use Rattle.tests.specs.Links.{Chain, start, more, counted, passed, ownLengths, FieldsLong, fields-long-after-two}
+use Rattle.tests.specs.Links.{Chain, start, more, counted, passed, ownLengths, fields-long-after-two}
 use Rattle.step_run.proofs.test_run.Statement.{statement}
 use Rattle.step_run.proofs.test_run.Tie as tie
 

@@ -1,11 +1,10 @@
 -- `tests::first_outside` meets its contract. The loop has passed the numbers before k. Assumes nothing.
 use mathlib.Core.Path.{_≡_, refl, sym, ap, _∙_}
 use mathlib.Core.Bool.{not}
-use Prim.Native.Nat.{_-_, _≤_, _<_, zero-le}
+use Prim.Native.Nat.{_-_, _<_}
 use native.Mathlib.Omega.{arith}
 use lib.IntN.{ℤ, pos}
 use lib.ListN.{length, getD}
-use borrow.Author.Needs.{needs}
 use mir.Syntax.{w64}
 use Rattle.model.specs.Numbers.{within}
 use Rattle.integers.specs.Ranges.{between}

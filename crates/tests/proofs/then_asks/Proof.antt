@@ -1,5 +1,4 @@
 -- `tests::then_asks` meets its contract. Assumes nothing.
-use mathlib.Core.Path.{_≡_, sym, ap, _∙_}
 use borrow.Author.Needs.{needs}
 use Rattle.tests.proofs.then_asks.Statement.{statement}
 use Rattle.tests.proofs.then_asks.Tie as tie
