@@ -3,10 +3,10 @@ use mathlib.Core.Bool.{Bool, cond}
 use mathlib.Core.List.{List, [], _∷_}
 use mathlib.Core.Option.{Option, none, some}
 use Prim.Native.Nat.{ℕ, zero, suc}
-use lib.Dec.{leb}
+use lib.Dec.{eqb}
 use lib.IntN.{ℤ, pos, _+ℤ_, _-ℤ_, _*ℤ_}
 use lib.ListN.{replicate}
-use Rattle.model.specs.Numbers.{rnd, tendencyScale}
+use Rattle.model.specs.Numbers.{rnd, tendencyScale, any}
 use Rattle.model.specs.Grid.{at, byCell, filled}
 use Rattle.model.specs.State.{State, withFlow, cells}
 use Rattle.model.specs.Answers.{number}
@@ -151,9 +151,10 @@ runOf s inflow m room = let r = runFrom m 0 s inflow in runBy (runTest s inflow 
 
 -- ---- the work space: once the length test has passed, its first 8w·n numbers are zero after the call, accepted or not
 
--- 1 and 2 leave it as it was, by the table's last column
+-- the refusals that leave everything as it was, by the table's last column; step and run know 1 and 2 alone of them. All others, and
+-- those added later, leave all but the work space
 abbrev pub leavesAll : Refusal → Bool
-leavesAll r = leb (number r) 2
+leavesAll r = any (eqb (number r)) (1 ∷ 2 ∷ 7 ∷ 8 ∷ [])
 
 abbrev pub cleared : State → List ℤ → List ℤ
 cleared s work = filled (workLength s) (replicate (workLength s) (pos 0)) work

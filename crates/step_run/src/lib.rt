@@ -35,13 +35,15 @@ fn clear_used(p: Parameters, work: &mut [i64])
     grid::clear(work, 8 * (p.w * p.n));
 }
 
-// Whether a refusal leaves the work space as it was: 1 and 2 do, all others clear it.
+// Whether a refusal leaves the work space as it was: 1 and 2 do, and 7 and 8, which no step has; all others clear it.
 fn leaves_all(refusal: Refusal) -> bool
     ensures { λ r. ⌜ r ≡ leavesAll refusal ⌝ }
 {
     match refusal {
         Refusal::Grid => true,
         Refusal::Lengths => true,
+        Refusal::Record { offset: _ } => true,
+        Refusal::Destination => true,
         _ => false,
     }
 }

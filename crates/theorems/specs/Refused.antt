@@ -1,30 +1,29 @@
 -- What a refused call leaves, and what every step and run leaves in its work space. Assumes nothing.
-use mathlib.Core.Path.{_≡_, refl, sym, ap, subst, _∙_}
-use mathlib.Core.Bool.{cond}
+use mathlib.Core.Path.{_≡_, refl, sym, subst, _∙_}
 use mathlib.Core.List.{List, [], _∷_, _++_}
 use mathlib.Core.Option.{Option, none, some}
 use Prim.Native.Nat.{ℕ, zero, suc, _≤_}
-use lib.Dec.{leb, le→leb, lit≤}
+use native.Mathlib.Omega.{arith}
+use lib.Dec.{lit≤}
 use lib.IntN.{ℤ}
 use lib.ListN.{length}
-use borrow.Author.Tests.{lt-leb}
 use Rattle.model.specs.State.{State, cells}
 use Rattle.model.specs.Answers.{number}
 use Rattle.model.specs.Tests.{Test}
 use Rattle.model.specs.Refusals.{Taken, taken, fieldsOf, runLengthTest, workTest, lengthTests, valueTests, stateTests}
-use Rattle.model.specs.Step.{Outcome, moved, stuck, twoPass, stepTests, stepTest, stepAnswerBy, stepStateBy, stepAnswer, stepState, Ran, runOn, runFrom, runTests, runTest, runBy, runOf, cleared, workLeft}
+use Rattle.model.specs.Step.{Outcome, moved, stuck, twoPass, stepTests, stepTest, stepAnswerBy, stepStateBy, stepAnswer, stepState, Ran, runOn, runFrom, runTests, runTest, runBy, runOf, workLeft}
 use Rattle.model.specs.Record.{Decoded, accepted, refused}
 use Rattle.model.specs.Promises.{readAnswer, readInto, readOf}
 use Rattle.model.specs.Claims.{FillRefused, RefusedClaim, WorkClaim, RefusedWork, StepWork, RunWork}
 use Rattle.model.specs.declared.Field.{Field}
 use Rattle.model.specs.declared.Field.the-variants.{Inflow}
 use Rattle.model.specs.declared.Refusal.{Refusal}
-use Rattle.model.specs.declared.Refusal.the-variants.{Value}
+use Rattle.model.specs.declared.Refusal.the-variants.{Grid, Lengths, Constants, Value, ClosedEdge, Record, Destination}
 use Rattle.model.specs.declared.RunAnswer.{RunAnswer}
 use Rattle.model.specs.declared.StepAnswer.the-variants as StepAnswer
 use Rattle.model.specs.declared.RunAnswer.the-variants as RunAnswer
 use Rattle.model.specs.declared.ReadAnswer.the-variants as ReadAnswer
-use Rattle.theorems.specs.Truth.{T-true, differ}
+use Rattle.theorems.specs.Truth.{differ}
 use Rattle.theorems.specs.TestLaws.{Only, EachOnly, only-append, found-only}
 use Rattle.theorems.specs.Causes.{kept}
 
@@ -117,11 +116,13 @@ run-only s inflow m room = found-only UpTo5 (runTests s inflow m room) (state-on
 -- what each of them leaves
 refused-work : (r : Refusal) (s : State) (work : List ℤ) → UpTo5 r → RefusedWork r s work (workLeft (some r) s work)
 unfolding workLeft
-refused-work r s work h = (
-  h,
-  λ l. ap (λ b. cond b work (cleared s work)) (T-true (leb (number r) 2) (le→leb (number r) 2 l)),
-  λ l. ap (λ b. cond b work (cleared s work)) (lt-leb (number r) 2 l),
-)
+refused-work Grid s work h = (h, λ l. refl, λ l. absurd (omega arith))
+refused-work Lengths s work h = (h, λ l. refl, λ l. absurd (omega arith))
+refused-work Constants s work h = (h, λ l. absurd (omega arith), λ l. refl)
+refused-work (Value f k) s work h = (h, λ l. absurd (omega arith), λ l. refl)
+refused-work (ClosedEdge f k) s work h = (h, λ l. absurd (omega arith), λ l. refl)
+refused-work (Record k) s work h = absurd (omega arith)
+refused-work Destination s work h = absurd (omega arith)
 
 step-work : (s : State) (work : List ℤ) (x : Option Refusal) (o : Outcome) → Only UpTo5 x → StepWork (stepAnswerBy x o) s work (workLeft x s work)
 unfolding workLeft

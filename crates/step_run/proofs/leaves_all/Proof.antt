@@ -13,14 +13,14 @@ use Rattle.step_run.proofs.leaves_all.Statement.{statement}
 use Rattle.step_run.proofs.leaves_all.Tie as tie
 
 -- the arm of all others
-others : (r : Refusal) → OneOf (2 ∷ 3 ∷ 4 ∷ 5 ∷ 6 ∷ []) (tagOf the-type r) → false ≡ leavesAll r
-others Grid k = absurd (miss (2 ∷ 3 ∷ 4 ∷ 5 ∷ 6 ∷ []) 0 tt k)
-others Lengths k = absurd (miss (2 ∷ 3 ∷ 4 ∷ 5 ∷ 6 ∷ []) 1 tt k)
+others : (r : Refusal) → OneOf (2 ∷ 3 ∷ 4 ∷ []) (tagOf the-type r) → false ≡ leavesAll r
+others Grid k = absurd (miss (2 ∷ 3 ∷ 4 ∷ []) 0 tt k)
+others Lengths k = absurd (miss (2 ∷ 3 ∷ 4 ∷ []) 1 tt k)
 others Constants k = refl
 others (Value f c) k = refl
 others (ClosedEdge f c) k = refl
-others (Record c) k = refl
-others Destination k = refl
+others (Record c) k = absurd (miss (2 ∷ 3 ∷ 4 ∷ []) 5 tt k)
+others Destination k = absurd (miss (2 ∷ 3 ∷ 4 ∷ []) 6 tt k)
 
 pub leaves-all-spec : {M : Type 1} → statement M
 leaves-all-spec =
@@ -28,6 +28,10 @@ leaves-all-spec =
     (tie.spec
     (λ c. search needs)
     (λ c. search needs)
+    (λ c. search needs)
+    (λ c. search needs)
     (λ c. sym (ap leavesAll (c .enum-told .given .1)))
     (λ c. sym (ap leavesAll (c .enum-told2 .given .1)))
-    (λ c. others (c .before .args .refusal) (c .match .keys3)))
+    (λ c. sym (ap leavesAll (c .enum-told3 .given .1)))
+    (λ c. sym (ap leavesAll (c .enum-told4 .given .1)))
+    (λ c. others (c .before .args .refusal) (c .match .keys5)))
