@@ -15,7 +15,7 @@ use Rattle.model.specs.Answers.{toldRead}
 use Rattle.model.specs.Promises.{readAnswer, readInto, readOf, ReadPromise}
 use Rattle.model.specs.Claims.{Among, WholeIn, Bytes, Reordered, empty, ahead, swap, chain, AnyOrderClaim}
 use Rattle.model.specs.declared.ReadAnswer.{ReadAnswer}
-use Rattle.theorems.specs.Walks.{Fine, AllFine, walks, unwalk}
+use Rattle.theorems.specs.Walks.{Fine, AllFine, walks, whole-record}
 use Rattle.theorems.specs.TagLaws.{none-missing}
 use Rattle.theorems.specs.Damage.{whole-iff}
 use Rattle.theorems.specs.Rewrite.{all-bytes}
@@ -139,13 +139,7 @@ count (p ∷ ps) = let n = count ps in simp length-append (omega arith)
 
 module _ (rec : List ℕ) (parts other : List Part) (plain : Bytes rec) (w : WholeIn rec parts) (r : Reordered parts other) where
   fine : AllFine [] parts
-  unfolding walked
-  fine =
-      let u = unwalk rec (all-bytes rec plain) (length rec) 0 [] parts (start (length rec)) (whole-iff rec parts .1 w) in
-      subst (AllFine []) (sym (u .parts)) (u .fine)
-    where
-      start : (n : ℕ) → n ≤ 0 + n
-      start n = omega arith
+  fine = whole-record rec (all-bytes rec plain) parts (whole-iff rec parts .1 w) .fine
 
   other-walked : walked (joined other) ≡ whole other
   unfolding walked

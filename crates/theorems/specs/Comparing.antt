@@ -8,7 +8,7 @@ use native.Mathlib.Nat.{le-antisymm, le-refl}
 use native.Mathlib.Omega.{arith}
 use lib.Dec.{T, eqb, ltb, eqb→eq, eqb-refl}
 use lib.IntN.{ℤ, pos, negsuc}
-use borrow.Author.Tests.{ltb-true, ltb-false, lt-ltb, le-ltb}
+use borrow.Author.Tests.{ltb-true, ltb-false, le-ltb}
 use Rattle.model.specs.Numbers.{eqℤ, sameBy}
 use Rattle.model.specs.State.{State}
 use Rattle.model.specs.Record.{Decoded, accepted, refused, decode, sameState, compared, compareSecond, compareBy, compareAnswer}
@@ -16,7 +16,7 @@ use Rattle.model.specs.Claims.{CompareClaim, BothAre, swapped}
 use Rattle.model.specs.declared.Refusal.{Refusal}
 use Rattle.model.specs.declared.CompareAnswer.{CompareAnswer}
 use Rattle.model.specs.declared.CompareAnswer.the-variants.{Same, FirstNewer, SecondNewer, Conflict, FirstRefused, SecondRefused}
-use Rattle.theorems.specs.Truth.{_⟫_, and-iff, true-T, T-true, same-by, by-same, differ}
+use Rattle.theorems.specs.Truth.{_⟫_, and-iff, lt-iff, T-true, same-by, by-same, differ}
 
 -- ---- the same state
 
@@ -154,9 +154,6 @@ picked-conflict true q r = (λ h. differ (cc h), λ x. absurd (x .0 tt))
 picked-conflict false true r = (λ h. differ (cc h), λ x. absurd (x .1 tt))
 picked-conflict false false true = (λ h. differ (cc h), λ x. absurd (x .2 tt))
 picked-conflict false false false = (λ h. (λ t. t, λ t. t, λ t. t), λ x. refl)
-
-lt-iff : (a b : ℕ) → T (ltb a b) ↔ (a < b)
-lt-iff a b = (λ t. ltb-true a b (T-true (ltb a b) t), λ l. true-T (lt-ltb a b l))
 
 compared-tells : (s t : State) (a b : ℕ)
     → ((compared s a t b ≡ FirstNewer) ↔ (b < a)) × ((compared s a t b ≡ SecondNewer) ↔ (a < b)) × ((compared s a t b ≡ Conflict) ↔ ((a ≡ b) × (s ≡ t → ⊥)))

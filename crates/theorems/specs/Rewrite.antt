@@ -19,7 +19,7 @@ use Rattle.model.specs.declared.ReadAnswer.the-variants as Answer
 use Rattle.model.specs.declared.WriteAnswer.the-variants.{Written}
 use Rattle.theorems.specs.Truth.{and-iff, eq-iff, same-by}
 use Rattle.theorems.specs.NumbersAsBytes.{AllBytes, back-bytes, put-numbers}
-use Rattle.theorems.specs.Walks.{Read, AllRead, unwalk}
+use Rattle.theorems.specs.Walks.{Read, AllRead, whole-record}
 use Rattle.theorems.specs.TagLaws.{follow}
 use Rattle.theorems.specs.Damage.{whole-iff}
 use Rattle.theorems.specs.RoundTrip.{length-encode, written, read-part}
@@ -130,24 +130,14 @@ pub all-bytes : (l : List ℕ) → ((k : ℕ) → getD l k 0 < 256) → AllBytes
 all-bytes [] h = tt
 all-bytes (x ∷ l) h = (h 0, all-bytes l (λ k. h (suc k)))
 
--- the fields found are all of the record
-whole-record : (rec : List ℕ) → AllBytes rec → (parts : List Part) → walked rec ≡ whole parts → (joined parts ≡ rec) × AllRead parts
-unfolding walked
-whole-record rec plain parts e =
-    let u = unwalk rec plain (length rec) 0 [] parts (start (length rec)) e in
-    (ap joined (u .parts) ∙ sym (u .rest), subst AllRead (sym (u .parts)) (u .each))
-  where
-    start : (n : ℕ) → n ≤ 0 + n
-    start n = omega arith
-
--- and what the writer makes of them
+-- what the writer makes of its fields
 encoded : (rec rooms : List ℕ) → AllBytes rec → T (rising rec) → (s : State) (t : ℕ) → Readable rec rooms s t → encode s t ≡ rec
 unfolding encode rising
 encoded rec rooms plain r s t f =
     let e = whole-iff rec (f .parts) .1 (f .whole) in
     let w = whole-record rec plain (f .parts) e in
     let b = subst (λ (s : State). BytesOf (cells s) (f .parts)) (sym (f .state)) (f .bytes) in
-    ap₂ (λ s t. joined (partsOf s t)) (sym (f .state)) (sym (f .timestamp)) ∙ ap joined (fields-back (f .parts) (subst (λ w. T (risingBy w)) e r) (w .1) b) ∙ w .0
+    ap₂ (λ s t. joined (partsOf s t)) (sym (f .state)) (sym (f .timestamp)) ∙ ap joined (fields-back (f .parts) (subst (λ w. T (risingBy w)) e r) (w .each) b) ∙ w .joins
 
 pub rewritten : RewriteClaim
 rewritten rec d d′ h b u v h′ b′ u′ v′ p t written′ plain r rp wp room =

@@ -1,7 +1,7 @@
 -- What test 7 asks at a tag, and at the record's end: by the table of tags, whatever its rows. Assumes nothing.
 use mathlib.Core.Path.{_≡_, refl, sym, ap, subst, _∙_}
 use mathlib.Core.Logic.{_↔_, _⊎_, inl, inr, ⊎-elim}
-use mathlib.Core.Bool.{Bool, true, false, not, cond, _&&_, _||_}
+use mathlib.Core.Bool.{Bool, true, false, not, cond, _&&_}
 use mathlib.Core.List.{List, [], _∷_, map}
 use mathlib.Core.Option.{Option, none, some}
 use Prim.Native.Nat.{ℕ, zero, suc, _+_, _≤_, _<_, suc-le-suc}
@@ -16,7 +16,7 @@ use Rattle.model.specs.Record.{Size, fixed, perCell, TagRow, tagTable, Part, ha
 use Rattle.model.specs.Claims.{Among, WrongLength, BadTag, Missing}
 use Rattle.model.specs.declared.Refusal.{Refusal}
 use Rattle.model.specs.declared.Refusal.the-variants.{Record}
-use Rattle.theorems.specs.Truth.{_⟫_, eq-iff, not-iff, and-iff, same, either, differ, some≢}
+use Rattle.theorems.specs.Truth.{_⟫_, eq-iff, not-iff, and-iff, or-iff, same, either, differ, some≢}
 
 -- ---- tests that have one refusal
 
@@ -50,10 +50,6 @@ untold j n = ⊎-elim (λ p. absurd (n (p .1))) (λ p. p .0) j
 
 short-iff : (a b : ℕ) → (leb a b ≡ false) ↔ (b < a)
 short-iff a b = (leb-false a b, lt-leb a b)
-
-or-iff : (a b : Bool) → T (a || b) ↔ (T a ⊎ T b)
-or-iff true b = (λ t. inl tt, λ c. tt)
-or-iff false b = (λ t. inr t, ⊎-elim (λ t. absurd t) (λ t. t))
 
 absent-iff : (b : Bool) {A : Type 0} → T b ↔ A → (b ≡ false) ↔ (A → ⊥)
 absent-iff true i = (λ e. true≢ e, λ n. absurd (n (i .0 tt)))

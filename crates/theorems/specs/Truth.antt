@@ -1,13 +1,13 @@
 -- Truth of tests that compute, and how equivalences are put together. Assumes nothing.
 use mathlib.Core.Path.{_≡_, refl, sym, ap₂, subst, _∙_}
 use mathlib.Core.Logic.{_↔_, _⊎_, inl, inr, ⊎-elim}
-use mathlib.Core.Bool.{Bool, true, false, not, _&&_}
+use mathlib.Core.Bool.{Bool, true, false, not, _&&_, _||_}
 use mathlib.Core.List.{List, [], _∷_}
 use mathlib.Core.Option.{none, some}
-use Prim.Native.Nat.{ℕ, _≤_}
+use Prim.Native.Nat.{ℕ, _≤_, _<_}
 use native.Mathlib.Omega.{arith}
-use lib.Dec.{T, eqb, leb, eqb→eq, leb→le, le→leb}
-use borrow.Author.Tests.{eq-eqb}
+use lib.Dec.{T, eqb, leb, ltb, eqb→eq, leb→le, le→leb}
+use borrow.Author.Tests.{eq-eqb, ltb-true, lt-ltb}
 use Rattle.model.specs.Numbers.{sameBy}
 
 pub true-T : {b : Bool} → b ≡ true → T b
@@ -24,6 +24,15 @@ pub and-iff : (a b : Bool) → T (a && b) ↔ (T a × T b)
 and-iff true b = (λ t. (tt, t), λ p. p .1)
 and-iff false b = (λ t. absurd t, λ p. absurd (p .0))
 
+pub or-iff : (a b : Bool) → T (a || b) ↔ (T a ⊎ T b)
+or-iff true b = (λ t. inl tt, λ c. tt)
+or-iff false b = (λ t. inr t, ⊎-elim (λ t. absurd t) (λ t. t))
+
+-- what does not hold of a test is told by it
+pub not-T : (b : Bool) → (T b → ⊥) → b ≡ false
+not-T true n = absurd (n tt)
+not-T false n = refl
+
 pub not-iff : (b : Bool) → (not b ≡ false) ↔ T b
 not-iff true = (λ e. tt, λ t. refl)
 not-iff false = (λ e. absurd (contradiction {b = true} refl e), λ t. absurd t)
@@ -33,6 +42,9 @@ le-iff m n = (leb→le m n, le→leb m n)
 
 pub eq-iff : (m n : ℕ) → T (eqb m n) ↔ (m ≡ n)
 eq-iff m n = (eqb→eq m n, λ e. true-T (eq-eqb m n e))
+
+pub lt-iff : (a b : ℕ) → T (ltb a b) ↔ (a < b)
+lt-iff a b = (λ t. ltb-true a b (T-true (ltb a b) t), λ l. true-T (lt-ltb a b l))
 
 -- one after the other
 infixr 30 _⟫_

@@ -13,7 +13,7 @@ use lib.ListN.{length, take, drop, getD, length-append, length-take, length-drop
 use lib.Seq.{getD-append-add, drop-drop, drop-at, take-at, drop-cons}
 use borrow.Author.Tests.{le-leb, lt-leb, leb-true, not-true}
 use Rattle.model.specs.Tests.{Test, asks}
-use Rattle.model.specs.Record.{bytes, unsigned, Part, joined, has, tagAt, sizeAt, partAt, knownTag, rightSize, tagTest, missingTest, Walked, damaged, whole, unless, walk}
+use Rattle.model.specs.Record.{bytes, unsigned, Part, joined, has, tagAt, sizeAt, partAt, knownTag, rightSize, tagTest, missingTest, Walked, damaged, whole, unless, walk, walked}
 use Rattle.model.specs.declared.Refusal.{Refusal}
 use Rattle.model.specs.declared.Refusal.the-variants.{Record}
 use Rattle.theorems.specs.Truth.{_⟫_, le-iff, and-iff, true-T, T-true, differ}
@@ -252,10 +252,25 @@ by-tests rec plain k seen ps more h true o p q e = ended rec k seen ps (leb-true
 by-tests rec plain k seen ps more h false none p q e = onward rec plain k seen ps (sound-iff rec k seen .0 q) (h e)
 by-tests rec plain k seen ps more h false (some r) p q e = damaged≢ e
 
-pub unwalk : (rec : List ℕ) → AllBytes rec → (m k : ℕ) (seen ps : List Part) → length rec ≤ k + m → walk rec m k seen ≡ whole ps → Undone rec k seen ps
+unwalk : (rec : List ℕ) → AllBytes rec → (m k : ℕ) (seen ps : List Part) → length rec ≤ k + m → walk rec m k seen ≡ whole ps → Undone rec k seen ps
 unfolding walk
 unwalk rec plain zero k seen ps l e = ended rec k seen ps (omega arith) e
 unwalk rec plain (suc m) k seen ps l e =
     by-tests rec plain k seen ps (walk rec m (k + 3 + sizeAt rec k) (seen ++ (partAt rec k ∷ [])))
     (unwalk rec plain m (k + 3 + sizeAt rec k) (seen ++ (partAt rec k ∷ [])) ps (omega arith))
     (leb (length rec) k) (tagTest rec k seen) refl refl e
+
+-- all of a record that passes test 7
+pub record Whole (rec : List ℕ) (parts : List Part) : Type 0 where
+  pub joins : joined parts ≡ rec
+  pub each : AllRead parts
+  pub fine : AllFine [] parts
+
+pub whole-record : (rec : List ℕ) → AllBytes rec → (parts : List Part) → walked rec ≡ whole parts → Whole rec parts
+unfolding walked
+whole-record rec plain parts e =
+    let u = unwalk rec plain (length rec) 0 [] parts (start (length rec)) e in
+    record { joins = ap joined (u .parts) ∙ sym (u .rest); each = subst AllRead (sym (u .parts)) (u .each); fine = subst (AllFine []) (sym (u .parts)) (u .fine) }
+  where
+    start : (n : ℕ) → n ≤ 0 + n
+    start n = omega arith
