@@ -1,4 +1,4 @@
--- What each answer means: 01's number, then the values returned with it in 01's order, as one list. 0 stands for no refusal.
+-- What each answer means: the number of 01 or 02, then the values returned with it in 01's order, as one list. 0 stands for no refusal.
 -- 01 leaves open how a comparison's answer and the refused record are numbered: the numbers here are ours.
 use mathlib.Core.List.{List, [], _∷_, _++_, map}
 use Prim.Native.Nat.{ℕ}
@@ -6,7 +6,7 @@ use lib.IntN.{ℤ, pos}
 use lib.ListN.{getD, drop}
 use Rattle.model.specs.Fields.{fieldNumber}
 use Rattle.model.specs.declared.Refusal.{Refusal}
-use Rattle.model.specs.declared.Refusal.the-variants.{Grid, Lengths, Constants, Value, ClosedEdge, Record, Destination}
+use Rattle.model.specs.declared.Refusal.the-variants.{Grid, Lengths, Constants, Value, ClosedEdge, Record, Destination, Milliseconds}
 use Rattle.model.specs.declared.Answer.{Answer}
 use Rattle.model.specs.declared.StepAnswer.{StepAnswer}
 use Rattle.model.specs.declared.RunAnswer.{RunAnswer}
@@ -32,6 +32,7 @@ refusalNumbers (Value f k) = 4 ∷ fieldNumber f ∷ k ∷ []
 refusalNumbers (ClosedEdge f k) = 5 ∷ fieldNumber f ∷ k ∷ []
 refusalNumbers (Record k) = 7 ∷ k ∷ []
 refusalNumbers Destination = 8 ∷ []
+refusalNumbers Milliseconds = 9 ∷ []
 
 abbrev pub number : Refusal → ℕ
 number r = getD (refusalNumbers r) 0 0
@@ -93,18 +94,19 @@ writeNumbers (WriteAnswer.Refused r) = refusalNumbers r
 abbrev pub toldWrite : WriteAnswer → List ℤ
 toldWrite a = whole (writeNumbers a)
 
--- w, n, kind and the timestamp; G, c and R have a sign, so they stand beside the numbers, as a total does
+-- w, n, kind, seconds and milliseconds; G, c and R have a sign, so they stand beside the numbers, as a total does
 abbrev pub readNumbers : ReadAnswer → List ℕ
-readNumbers (ReadAnswer.Read p t) = 0 ∷ p .w ∷ p .n ∷ p .kind ∷ t ∷ []
+readNumbers (ReadAnswer.Read p t) = 0 ∷ p .w ∷ p .n ∷ p .kind ∷ t .seconds ∷ t .milliseconds ∷ []
 readNumbers (ReadAnswer.Refused r) = refusalNumbers r
 
 abbrev pub constantsIn : ReadAnswer → List ℤ
 constantsIn (ReadAnswer.Read p t) = p .g ∷ p .c ∷ p .r ∷ []
 constantsIn (ReadAnswer.Refused r) = []
 
--- in 01's order: w, n, kind, G, c, R and the timestamp
+-- in 01's order: w, n, kind, G, c, R and the timestamp; its milliseconds come last
 abbrev pub toldRead : ReadAnswer → List ℤ
-toldRead (ReadAnswer.Read p t) = pos 0 ∷ pos (p .w) ∷ pos (p .n) ∷ pos (p .kind) ∷ p .g ∷ p .c ∷ p .r ∷ pos t ∷ []
+toldRead (ReadAnswer.Read p t) =
+    pos 0 ∷ pos (p .w) ∷ pos (p .n) ∷ pos (p .kind) ∷ p .g ∷ p .c ∷ p .r ∷ pos (t .seconds) ∷ pos (t .milliseconds) ∷ []
 toldRead (ReadAnswer.Refused r) = told r
 
 -- which record is refused stands straight after the number

@@ -9,7 +9,7 @@ use lib.Dec.{T}
 use lib.IntN.{ℤ, pos, negℤ, natAbs, _+ℤ_, _-ℤ_, _*ℤ_}
 use lib.ListN.{length, getD, take, drop, replicate}
 use lib.Signed.{_≤ℤ_}
-use Rattle.model.specs.Numbers.{rnd, vorticityLimits, inflowLimits, longestRun, tendencyScale, divergenceScale}
+use Rattle.model.specs.Numbers.{rnd, vorticityLimits, inflowLimits, longestRun, mostMilliseconds, tendencyScale, divergenceScale}
 use Rattle.model.specs.Grid.{at, byCell, filled, firstFrom}
 use Rattle.model.specs.State.{State, stateOf, parametersOf, withFlow, cells, WithinLimits, FieldWithin, OpenEverywhere}
 use Rattle.model.specs.Answers.{number}
@@ -19,11 +19,12 @@ use Rattle.model.specs.Scheme.{vorticityAt, vorticity, D, tendencyU, ten
 use Rattle.model.specs.Rates.{energyRate, enstrophyRate}
 use Rattle.model.specs.Totals.{totalDepth, energy4}
 use Rattle.model.specs.Step.{Place, place, pass, leaves, moved, stuck, twoPass, stepTests, stepTest, runTests, stepAnswer, cleared, workLeft}
-use Rattle.model.specs.Record.{Timestamp, Part, joined, valueOf, tagAt, sizeAt, partAt, stateIn, timestampIn, recordLength, rising, recordTests, decode, accepted, refused}
+use Rattle.model.specs.Record.{Part, joined, valueOf, tagAt, sizeAt, partAt, stateIn, timestampIn, recordLength, rising, restored, kept, recordTests, decode, accepted, refused}
 use Rattle.model.specs.Program.{programCells, programWork, outputRoom, programOutput}
 use Rattle.model.specs.Promises.{Filling, Fills, vorticityTests, tendenciesTests, totalTests, writeTests, VorticityPromise, TendenciesPromise, StepPromise, RunPromise, TotalDepthPromise, TotalEnergyPromise, WritePromise, ReadPromise, ComparePromise}
 use Rattle.model.specs.Histories.{Call, step, History, inflowDue, runCount}
 use Rattle.model.specs.declared.Parameters.{Parameters}
+use Rattle.model.specs.declared.Timestamp.{Timestamp}
 use Rattle.model.specs.declared.Field.{Field}
 use Rattle.model.specs.declared.Refusal.{Refusal}
 use Rattle.model.specs.declared.Refusal.the-variants.{Record}
@@ -110,7 +111,7 @@ pub record CausesClaim : Type 0 where
       → TendenciesPromise s q dh du dv (Answer.Refused r) dh′ du′ dv′
       ↔ (Cause (tendenciesTests s q (length dh) (length du) (length dv)) r × (dh′ ≡ dh) × (du′ ≡ du) × (dv′ ≡ dv))
   pub write : (s : State) (t : Timestamp) (d d′ : List ℕ) (r : Refusal)
-      → WritePromise s t d (WriteAnswer.Refused r) d′ ↔ (Cause (writeTests s (length d)) r × (d′ ≡ d))
+      → WritePromise s t d (WriteAnswer.Refused r) d′ ↔ (Cause (writeTests s t (length d)) r × (d′ ≡ d))
   pub depth : (s : State) (r : Refusal) → TotalDepthPromise s (TotalAnswer.Refused r) ↔ Cause (totalTests s) r
   pub energy : (s : State) (r : Refusal) → TotalEnergyPromise s (TotalAnswer.Refused r) ↔ Cause (totalTests s) r
   pub step : (s s′ : State) (inflow work work′ : List ℤ) (r : Refusal)
@@ -125,23 +126,24 @@ pub record CausesClaim : Type 0 where
   pub step-done : (s s′ : State) (inflow work work′ : List ℤ)
       → StepPromise s inflow work StepAnswer.Done s′ work′ ↔ (StepTaken s inflow (length work) × (twoPass s inflow ≡ moved s′) × (work′ ≡ cleared s work))
 
--- ---- why a record is refused: 7, then 1, 2, 8, 3, 4, 5
+-- ---- why a record is refused: 7, then 1, 2, 8, 3, 9, 4, 5
 
 -- one of these fields of a record has tag t
 abbrev pub Among : ℕ → List Part → Type 0
 Among t [] = ⊥
 Among t (p ∷ l) = (p .tag ≡ t) ⊎ Among t l
 
--- not 3 bytes for tag 1, 12 for tag 2, 8 for tag 3; for tags 4 to 7 no length is wrong here
+-- not 3 bytes for tag 1, 12 for tag 2, 8 for tag 3, 2 for tag 8; for tags 4 to 7 no length is wrong here
 abbrev pub WrongLength : (tag size : ℕ) → Type 0
-WrongLength tag size = ((tag ≡ 1) × (size ≡ 3 → ⊥)) ⊎ ((tag ≡ 2) × (size ≡ 12 → ⊥)) ⊎ ((tag ≡ 3) × (size ≡ 8 → ⊥))
+WrongLength tag size =
+    ((tag ≡ 1) × (size ≡ 3 → ⊥)) ⊎ ((tag ≡ 2) × (size ≡ 12 → ⊥)) ⊎ ((tag ≡ 3) × (size ≡ 8 → ⊥)) ⊎ ((tag ≡ 8) × (size ≡ 2 → ⊥))
 
 -- 7, at the tag at offset k, where a byte is left, and past the fields `parts`. Line by line:
--- 1 or 2 bytes left; unknown tag; repeated tag; value past the end; tag 1, 2, 3 of wrong length
+-- 1 or 2 bytes left; unknown tag; repeated tag; value past the end; tag 1, 2, 3, 8 of wrong length
 abbrev pub BadTag : List ℕ → ℕ → List Part → Type 0
 BadTag rec k parts =
     (length rec < k + 3)
-    ⊎ ((tagAt rec k < 1) ⊎ (7 < tagAt rec k))
+    ⊎ ((tagAt rec k < 1) ⊎ (8 < tagAt rec k))
     ⊎ Among (tagAt rec k) parts
     ⊎ (length rec < k + 3 + sizeAt rec k)
     ⊎ WrongLength (tagAt rec k) (sizeAt rec k)
@@ -172,9 +174,10 @@ BytesOf m parts = (length (valueOf 4 parts) ≡ 4 * m) × (length (valueOf 5 par
 
 -- why a record is refused with r: a 7; or no 7, and the cause in the list of its fields' tests
 abbrev pub ReadCause : List ℕ → (rooms : List ℕ) → Refusal → Type 0
-ReadCause rec rooms r = Damaged rec r ⊎ ((parts : List Part) × WholeIn rec parts × Cause (recordTests (stateIn parts) parts rooms) r)
+ReadCause rec rooms r = Damaged rec r ⊎ ((parts : List Part) × WholeIn rec parts × Cause (recordTests (stateIn parts) (timestampIn parts) parts rooms) r)
 
--- no cause holds of a record: no 7, the bytes of w·n numbers, room, and a state within the limits. s and t are what its fields mean
+-- no cause holds of a record: no 7, the bytes of w·n numbers, room, at most 999 milliseconds, and a state within the limits. s and t are
+-- what its fields mean
 pub record Readable (rec rooms : List ℕ) (s : State) (t : Timestamp) : Type 0 where
   pub parts : List Part
   pub whole : WholeIn rec parts
@@ -182,6 +185,7 @@ pub record Readable (rec rooms : List ℕ) (s : State) (t : Timestamp) : Type 0 
   pub timestamp : timestampIn parts ≡ t
   pub bytes : BytesOf (cells s) parts
   pub room : EachRoom (cells s) rooms
+  pub time : t .milliseconds ≤ mostMilliseconds
   pub inside : WithinLimits s
 
 -- a record is refused with r exactly where r's cause holds, and read exactly where none does. The reader's promise says the same; where
@@ -386,10 +390,16 @@ pub record TotalsClaim : Type 0 where
 
 -- ---- the record
 
+-- the writer accepts any state within the limits, at most 999 milliseconds and a destination that has room, and these alone
+abbrev pub WriteAcceptedClaim : Type 0
+WriteAcceptedClaim = (s : State) (t : Timestamp) (d d′ : List ℕ) (answer : WriteAnswer) → WritePromise s t d answer d′
+    → (answer ≡ WriteAnswer.Written (recordLength s))
+    ↔ (WithinLimits s × (t .milliseconds ≤ mostMilliseconds) × (recordLength s ≤ length d))
+
 -- written, then read into destinations that have room: the same state and timestamp
 abbrev pub RoundTripClaim : Type 0
-RoundTripClaim = (s : State) (t : ℕ) (d d′ : List ℕ) (written : WriteAnswer) (h b u v h′ b′ u′ v′ : List ℤ) (answer : ReadAnswer)
-    → WithinLimits s → t < 2 ^ 64
+RoundTripClaim = (s : State) (t : Timestamp) (d d′ : List ℕ) (written : WriteAnswer) (h b u v h′ b′ u′ v′ : List ℤ) (answer : ReadAnswer)
+    → WithinLimits s → t .seconds < 2 ^ 64 → t .milliseconds ≤ mostMilliseconds
     → recordLength s ≤ length d → WritePromise s t d written d′
     → cells s ≤ length h → cells s ≤ length b → cells s ≤ length u → cells s ≤ length v
     → ReadPromise (take (recordLength s) d′) h b u v answer h′ b′ u′ v′
@@ -398,7 +408,7 @@ RoundTripClaim = (s : State) (t : ℕ) (d d′ : List ℕ) (written : WriteAnswe
 
 -- what an accepted read fills in is a state within the limits
 abbrev pub ReadClaim : Type 0
-ReadClaim = (rec : List ℕ) (h b u v h′ b′ u′ v′ : List ℤ) (p : Parameters) (t : ℕ)
+ReadClaim = (rec : List ℕ) (h b u v h′ b′ u′ v′ : List ℤ) (p : Parameters) (t : Timestamp)
     → ReadPromise rec h b u v (ReadAnswer.Read p t) h′ b′ u′ v′
     → let m = p .w * p .n in WithinLimits (stateOf p (take m h′) (take m b′) (take m u′) (take m v′))
 
@@ -415,12 +425,26 @@ OutputClaim = (input : List ℕ) → length (programOutput input) ≤ outputRoom
 abbrev pub Bytes : List ℕ → Type 0
 Bytes rec = (k : ℕ) → getD rec k 0 < 256
 
--- an accepted record whose tags rise, read and written again: the same bytes
+-- an accepted record, read and written again: its fields by rising tag, and each that it lacks of zeros. Where its tags rise, its bytes
+-- return up to the first field that it lacks
 abbrev pub RewriteClaim : Type 0
-RewriteClaim = (rec d d′ : List ℕ) (h b u v h′ b′ u′ v′ : List ℤ) (p : Parameters) (t : ℕ) (written : WriteAnswer)
-    → Bytes rec → T (rising rec) → ReadPromise rec h b u v (ReadAnswer.Read p t) h′ b′ u′ v′
+RewriteClaim = (rec d d′ : List ℕ) (h b u v h′ b′ u′ v′ : List ℤ) (p : Parameters) (t : Timestamp) (written : WriteAnswer)
+    → Bytes rec → ReadPromise rec h b u v (ReadAnswer.Read p t) h′ b′ u′ v′
     → let m = p .w * p .n in WritePromise (stateOf p (take m h′) (take m b′) (take m u′) (take m v′)) t d written d′
-    → length rec ≤ length d → (written ≡ WriteAnswer.Written (length rec)) × (take (length rec) d′ ≡ rec)
+    → length (restored rec) ≤ length d
+    → (written ≡ WriteAnswer.Written (length (restored rec))) × (take (length (restored rec)) d′ ≡ restored rec)
+    × (T (rising rec) → take (kept rec) d′ ≡ take (kept rec) rec)
+
+-- a record with tag 8 of zeros after it
+abbrev pub withZero : List ℕ → List ℕ
+withZero rec = rec ++ (8 ∷ 0 ∷ 2 ∷ 0 ∷ 0 ∷ [])
+
+-- so all bytes of a record whose tags rise return, and after them tag 8, of zeros, where it has none
+pub record RestoredClaim : Type 0 where
+  pub with-8 : (rec : List ℕ) (parts : List Part) → Bytes rec → WholeIn rec parts → T (rising rec) → Among 8 parts → restored rec ≡ rec
+  pub without-8 : (rec : List ℕ) (parts : List Part) → Bytes rec → WholeIn rec parts → T (rising rec) → (Among 8 parts → ⊥)
+      → restored rec ≡ withZero rec
+  pub kept : (rec : List ℕ) → Bytes rec → T (rising rec) → kept rec ≡ length rec
 
 -- the same fields in another order
 pub data Reordered : List Part → List Part → Type 0 where
@@ -438,10 +462,19 @@ pub record AnyOrderClaim : Type 0 where
       → Reordered parts other
       → ReadPromise rec h b u v answer h′ b′ u′ v′ → ReadPromise (joined other) h b u v answer h′ b′ u′ v′
 
+-- a record without tag 8 means 0 milliseconds: with tag 8 of zeros after it, it is read as the same state and timestamp, or refused with the
+-- same refusal, and the reader's promise says the same of both
+pub record AbsentClaim : Type 0 where
+  pub decoded : (rec rooms : List ℕ) (parts : List Part) → Bytes rec → WholeIn rec parts → (Among 8 parts → ⊥)
+      → decode (withZero rec) rooms ≡ decode rec rooms
+  pub read : (rec : List ℕ) (parts : List Part) (h b u v h′ b′ u′ v′ : List ℤ) (answer : ReadAnswer) → Bytes rec → WholeIn rec parts
+      → (Among 8 parts → ⊥)
+      → ReadPromise rec h b u v answer h′ b′ u′ v′ → ReadPromise (withZero rec) h b u v answer h′ b′ u′ v′
+
 -- same exactly where both records are accepted, with one state and one timestamp
 pub record BothAre (first second : List ℕ) : Type 0 where
   pub state : State
-  pub timestamp : ℕ
+  pub timestamp : Timestamp
   pub in-first : decode first [] ≡ accepted state timestamp
   pub in-second : decode second [] ≡ accepted state timestamp
 
@@ -454,19 +487,23 @@ swapped Conflict = Conflict
 swapped (FirstRefused r) = SecondRefused r
 swapped (SecondRefused r) = FirstRefused r
 
+-- x is later than y: by second, then millisecond
+abbrev pub Later : Timestamp → Timestamp → Type 0
+Later x y = (y .seconds < x .seconds) ⊎ ((y .seconds ≡ x .seconds) × (y .milliseconds < x .milliseconds))
+
 pub record CompareClaim : Type 0 where
   pub same : (first second : List ℕ) (answer : CompareAnswer) → ComparePromise first second answer → (answer ≡ Same) ↔ BothAre first second
   -- two accepted records: the newer timestamp tells, and under one timestamp different states conflict
-  pub newer : (first second : List ℕ) (answer : CompareAnswer) (s t : State) (x y : ℕ) → decode first [] ≡ accepted s x
+  pub newer : (first second : List ℕ) (answer : CompareAnswer) (s t : State) (x y : Timestamp) → decode first [] ≡ accepted s x
       → decode second [] ≡ accepted t y
       → ComparePromise first second answer
-      → ((answer ≡ FirstNewer) ↔ (y < x)) × ((answer ≡ SecondNewer) ↔ (x < y)) × ((answer ≡ Conflict) ↔ ((x ≡ y) × (s ≡ t → ⊥)))
+      → ((answer ≡ FirstNewer) ↔ Later x y) × ((answer ≡ SecondNewer) ↔ Later y x) × ((answer ≡ Conflict) ↔ ((x ≡ y) × (s ≡ t → ⊥)))
   -- the first record is refused before the second is looked at
   pub first-refused : (first second : List ℕ) (answer : CompareAnswer) (r : Refusal) → ComparePromise first second answer
       → (answer ≡ FirstRefused r) ↔ (decode first [] ≡ refused r)
-  pub second-refused : (first second : List ℕ) (answer : CompareAnswer) (r : Refusal) (s : State) (x : ℕ) → decode first [] ≡ accepted s x
+  pub second-refused : (first second : List ℕ) (answer : CompareAnswer) (r : Refusal) (s : State) (x : Timestamp) → decode first [] ≡ accepted s x
       → ComparePromise first second answer → (answer ≡ SecondRefused r) ↔ (decode second [] ≡ refused r)
-  pub swap : (first second : List ℕ) (answer back : CompareAnswer) (s t : State) (x y : ℕ) → decode first [] ≡ accepted s x
+  pub swap : (first second : List ℕ) (answer back : CompareAnswer) (s t : State) (x y : Timestamp) → decode first [] ≡ accepted s x
       → decode second [] ≡ accepted t y
       → ComparePromise first second answer → ComparePromise second first back → back ≡ swapped answer
 

@@ -14,9 +14,10 @@ use Rattle.model.specs.Scheme.{vorticity, hTendencies, uTendencies, vTen
 use Rattle.model.specs.Rates.{energyRate, enstrophyRate}
 use Rattle.model.specs.Totals.{totalDepth, energy4}
 use Rattle.model.specs.Step.{stepTest, stepAnswer, stepState, Ran, runTest, runOf, workLeft}
-use Rattle.model.specs.Record.{bytes, Decoded, sameState, encode, recordLength, compareAnswer}
+use Rattle.model.specs.Record.{bytes, Decoded, sameState, encode, recordLength, restored, kept, compareAnswer}
 use Rattle.model.specs.Program.{text, programOutput}
 use Rattle.model.specs.Promises.{answerOf, leftBy, totalTest, totalAnswer, writeAnswer, readAnswer, readInto, vorticityTest, tendenciesTest, writeTest, readOf}
+use Rattle.model.specs.declared.Timestamp.{Timestamp}
 use Rattle.model.specs.Opened.{everything}
 
 -- ---- an example: what a call takes, then what it answers (01's number and values) and what it leaves in each lent slice
@@ -30,8 +31,9 @@ pub data Example : Type 0 where
   runs : State → (inflow : List ℤ) (m : ℕ) (work : List ℤ) → (answer h′ u′ v′ work′ : List ℤ) → Example
   depth : State → (answer : List ℤ) → Example
   energy : State → (answer : List ℤ) → Example
-  writes : State → (t : ℕ) (d : List ℕ) → (answer : List ℤ) (d′ : List ℕ) → Example
+  writes : State → (t : Timestamp) (d : List ℕ) → (answer : List ℤ) (d′ : List ℕ) → Example
   reads : (rec : List ℕ) (h b u v : List ℤ) → (answer h′ b′ u′ v′ : List ℤ) → Example
+  rewrites : (rec : List ℕ) → (back : List ℕ) (own : ℕ) → Example
   compares : (first second : List ℕ) → (answer : List ℤ) → Example
   prints : (input : List ℕ) → (output : String) → Example
 
@@ -70,9 +72,10 @@ holds (runs s inflow m work a h u v work′) =
 holds (depth s a) = toldTotal (totalAnswer (totalTest s) (totalDepth s)) is a
 holds (energy s a) = toldTotal (totalAnswer (totalTest s) (energy4 s)) is a
 holds (writes s t d a d′) =
-    toldWrite (writeAnswer (recordLength s) (writeTest s (length d))) is a
-    && sameBy eqb (leftBy (writeTest s (length d)) (filled (recordLength s) (encode s t) d) d) d′
+    toldWrite (writeAnswer (recordLength s) (writeTest s t (length d))) is a
+    && sameBy eqb (leftBy (writeTest s t (length d)) (filled (recordLength s) (encode s t) d) d) d′
 holds (reads rec h b u v a h′ b′ u′ v′) = readIs (readOf rec h b u v) h b u v a h′ b′ u′ v′
+holds (rewrites rec back own) = sameBy eqb (restored rec) back && eqb (kept rec) own
 holds (compares x y a) = toldCompare (compareAnswer x y) is a
 holds (prints input output) = sameBy eqb (programOutput input) (text output)
 
@@ -144,7 +147,10 @@ sides w n = record { w = w; n = n; kind = 0; G = pos 1; c = pos 0; R = pos 1000;
 
 -- ---- records
 
--- case 10's record, and the same with a timestamp and a depth of its own
+abbrev pub timeOf : (seconds milliseconds : ℕ) → Timestamp
+timeOf s ms = record { seconds = s; milliseconds = ms }
+
+-- case 10's record, which has no tag 8, and the same with seconds and a depth of its own
 abbrev pub dock : List ℕ
 dock =
     1 ∷ 0 ∷ 3 ∷ 1 ∷ 1 ∷ 0
@@ -159,7 +165,20 @@ dock =
 abbrev timestamped : ℕ → ℕ → List ℕ
 timestamped t h = take 24 dock ++ bytes 8 t ++ (4 ∷ 0 ∷ 4 ∷ []) ++ bytes 4 h ++ drop 39 dock
 
--- read into four fields of one number, a record is refused with 7 and this offset
+-- tag 8 of so many milliseconds
+abbrev tag8 : ℕ → List ℕ
+tag8 ms = 8 ∷ 0 ∷ 2 ∷ bytes 2 ms
+
+-- case 10's record read: its state at this second and millisecond
+abbrev readsDock : List ℕ → (seconds milliseconds : ℕ) → Example
+readsDock rec s ms =
+    reads rec (sevens 2) (zeros 1) (zeros 1) (zeros 1)
+    (pos 0 ∷ pos 1 ∷ pos 1 ∷ pos 0 ∷ pos 9810 ∷ pos 10 ∷ pos 1000 ∷ pos s ∷ pos ms ∷ []) (pos 2000 ∷ pos 7 ∷ []) (zeros 1) (just (pos 100)) (just (minus 50))
+
+-- read into four fields of one number, a record is refused with this number alone, and with 7 and this offset
+abbrev refusesDock : List ℕ → ℕ → Example
+refusesDock rec k = reads rec (zeros 1) (zeros 1) (zeros 1) (zeros 1) (just (pos k)) (zeros 1) (zeros 1) (zeros 1) (zeros 1)
+
 abbrev breaksAt : List ℕ → ℕ → Example
 breaksAt rec k = reads rec (zeros 1) (zeros 1) (zeros 1) (zeros 1) (pos 7 ∷ pos k ∷ []) (zeros 1) (zeros 1) (zeros 1) (zeros 1)
 
@@ -243,10 +262,10 @@ workedExamples =
     ∷ runs (one (pos 100000)) (just (pos 1)) 10000 (sevens 7) (just (pos 2)) (just (pos 100000)) (just (pos 100)) (just (minus 50)) (sevens 7)
     -- 10: the program, and its input as a record
     ∷ prints dock "total 2000\n0 0 2000 99 -51\n"
-    ∷ writes (one (pos 2000)) 0 (replicate 57 7) (pos 0 ∷ pos 56 ∷ []) (dock ++ (7 ∷ []))
-    ∷ reads dock (sevens 2) (zeros 1) (zeros 1) (zeros 1) (pos 0 ∷ pos 1 ∷ pos 1 ∷ pos 0 ∷ pos 9810 ∷ pos 10 ∷ pos 1000 ∷ pos 0 ∷ []) (pos 2000 ∷ pos 7 ∷ []) (zeros 1) (just (pos 100)) (just (minus 50))
+    ∷ writes (one (pos 2000)) (timeOf 0 0) (replicate 62 7) (pos 0 ∷ pos 61 ∷ []) (dock ++ tag8 0 ++ (7 ∷ []))
+    ∷ readsDock dock 0 0
     -- and in another order, v first: the same
-    ∷ reads (drop 51 dock ++ take 51 dock) (sevens 2) (zeros 1) (zeros 1) (zeros 1) (pos 0 ∷ pos 1 ∷ pos 1 ∷ pos 0 ∷ pos 9810 ∷ pos 10 ∷ pos 1000 ∷ pos 0 ∷ []) (pos 2000 ∷ pos 7 ∷ []) (zeros 1) (just (pos 100)) (just (minus 50))
+    ∷ readsDock (drop 51 dock ++ take 51 dock) 0 0
     ∷ []
 
 -- ---- what 01's cases leave open: which of two causes is told, and what a refusal leaves
@@ -274,7 +293,7 @@ orders =
     ∷ tends (faulty 1 (pos 1) (just (pos 1000)) (zeros 1) (zeros 1) (zeros 1)) (zeros 1) [] (zeros 1) (zeros 1) (just (pos 8)) [] (zeros 1) (zeros 1)
     ∷ tends (faulty 1 (pos 1) (just (pos 1000)) (zeros 1) (zeros 1) (zeros 1)) (zeros 1) (zeros 1) [] (zeros 1) (just (pos 8)) (zeros 1) [] (zeros 1)
     ∷ tends (faulty 1 (pos 1) (just (pos 1000)) (zeros 1) (zeros 1) (zeros 1)) (zeros 1) (zeros 1) (zeros 1) [] (just (pos 8)) (zeros 1) (zeros 1) []
-    ∷ writes (one (pos 2000)) 0 (replicate 55 7) (just (pos 8)) (replicate 55 7)
+    ∷ writes (one (pos 2000)) (timeOf 0 0) (replicate 60 7) (just (pos 8)) (replicate 60 7)
     -- a state alone, with a potential vorticity, with an inflow and a work space, and with a run length too
     ∷ depth (one (pos 2000)) (pos 0 ∷ pos 2000 ∷ [])
     ∷ depth (two 2 (pos 1000)) (pos 5 ∷ pos 2 ∷ pos 0 ∷ [])
@@ -310,7 +329,7 @@ orders =
     -- 7 at a tag: 1 or 2 bytes left; unknown tag; repeated tag; value past the end; wrong length; then a tag missing
     ∷ breaksAt (dock ++ (1 ∷ [])) 56
     ∷ breaksAt (dock ++ (1 ∷ 0 ∷ [])) 56
-    ∷ breaksAt (dock ++ (8 ∷ 0 ∷ 0 ∷ [])) 56
+    ∷ breaksAt (dock ++ (9 ∷ 0 ∷ 0 ∷ [])) 56
     ∷ breaksAt (dock ++ (0 ∷ 0 ∷ 0 ∷ [])) 56
     ∷ breaksAt (dock ++ (7 ∷ 0 ∷ 2 ∷ 0 ∷ 0 ∷ [])) 56
     ∷ breaksAt (take 55 dock) 51
@@ -324,8 +343,8 @@ orders =
     ∷ reads (take 9 dock ++ replicate 12 0 ++ drop 21 dock) (zeros 1) (zeros 1) (zeros 1) [] (just (pos 8)) (zeros 1) (zeros 1) (zeros 1) []
     ∷ reads (take 9 dock ++ replicate 12 0 ++ drop 21 dock) (zeros 1) (zeros 1) (zeros 1) (zeros 1) (just (pos 3)) (zeros 1) (zeros 1) (zeros 1) (zeros 1)
     -- a record of six cells, written and read
-    ∷ writes sixState 258 (replicate 117 7) (pos 0 ∷ pos 116 ∷ []) (six ++ (7 ∷ []))
-    ∷ reads six (sevens 7) (sevens 7) (sevens 7) (sevens 7) (pos 0 ∷ pos 3 ∷ pos 2 ∷ pos 1 ∷ pos 9810 ∷ pos 10 ∷ pos 1000000 ∷ pos 258 ∷ [])
+    ∷ writes sixState (timeOf 258 772) (replicate 122 7) (pos 0 ∷ pos 121 ∷ []) (six ++ tag8 772 ++ (7 ∷ []))
+    ∷ reads six (sevens 7) (sevens 7) (sevens 7) (sevens 7) (pos 0 ∷ pos 3 ∷ pos 2 ∷ pos 1 ∷ pos 9810 ∷ pos 10 ∷ pos 1000000 ∷ pos 258 ∷ pos 0 ∷ [])
     (sixState .h ++ sevens 1) (sixState .b ++ sevens 1) (sixState .u ++ sevens 1) (sixState .v ++ sevens 1)
     -- the newer timestamp tells; under one timestamp the states do
     ∷ compares dock dock (pos 0 ∷ pos 0 ∷ [])
@@ -335,10 +354,57 @@ orders =
     ∷ compares [] (take 51 dock) (pos 7 ∷ pos 1 ∷ pos 0 ∷ [])
     ∷ compares dock (take 51 dock) (pos 7 ∷ pos 2 ∷ pos 51 ∷ [])
     -- the program on six cells, each in its line; its refusals carry the number alone
-    ∷ prints (encode lake 0) "total 6210\n0 0 1010 0 0\n1 0 1020 0 0\n2 0 1030 0 0\n0 1 1040 0 0\n1 1 1050 0 0\n2 1 1060 0 0\n"
-    ∷ prints (encode (cell 0 (pos 1) (pos 10000) (pos 1000) (pos 1000) (pos 0) (pos 5000) (pos 5000)) 0) "refused 6\n"
+    ∷ prints (encode lake (timeOf 0 0)) "total 6210\n0 0 1010 0 0\n1 0 1020 0 0\n2 0 1030 0 0\n0 1 1040 0 0\n1 1 1050 0 0\n2 1 1060 0 0\n"
+    ∷ prints (encode (cell 0 (pos 1) (pos 10000) (pos 1000) (pos 1000) (pos 0) (pos 5000) (pos 5000)) (timeOf 0 999)) "refused 6\n"
     ∷ prints [] "refused 7\n"
     ∷ prints (timestamped 0 999) "refused 4\n"
+    ∷ []
+
+-- ---- timestamps to the millisecond (02: U1)
+
+abbrev pub timestamps : List Example
+timestamps =
+    -- written, big-endian, after tag 7
+    writes (one (pos 2000)) (timeOf 5 999) (replicate 61 7) (pos 0 ∷ pos 61 ∷ []) (timestamped 5 2000 ++ (8 ∷ 0 ∷ 2 ∷ 3 ∷ 0xe7 ∷ []))
+    -- 9 after 3, and before 4, 5 and 8; at full width, so that 65,536 is no 0
+    ∷ writes (one (pos 999)) (timeOf 0 1000) [] (just (pos 9)) []
+    ∷ writes (one (pos 999)) (timeOf 0 65536) [] (just (pos 9)) []
+    ∷ writes (one (pos 999)) (timeOf 0 999) [] (pos 4 ∷ pos 0 ∷ pos 0 ∷ []) []
+    ∷ writes (faulty 1 (pos 1) (just (pos 1000)) (zeros 1) (just (pos 1)) (zeros 1)) (timeOf 0 1000) [] (just (pos 9)) []
+    ∷ writes (faulty 1 (pos 0) (just (pos 999)) (zeros 1) (just (pos 1)) (zeros 1)) (timeOf 0 1000) [] (just (pos 3)) []
+    ∷ writes (faulty 1 (pos 0) (just (pos 999)) [] (just (pos 1)) (zeros 1)) (timeOf 0 1000) [] (just (pos 2)) []
+    ∷ writes (faulty 65 (pos 0) (just (pos 999)) [] (just (pos 1)) (zeros 1)) (timeOf 0 1000) [] (just (pos 1)) []
+    -- read: 8, then 3, then 9, then 4
+    ∷ refusesDock (timestamped 0 999 ++ tag8 1000) 9
+    ∷ refusesDock (timestamped 0 2000 ++ tag8 65535) 9
+    ∷ reads (timestamped 0 999 ++ tag8 1000) (zeros 1) (zeros 1) (zeros 1) [] (just (pos 8)) (zeros 1) (zeros 1) (zeros 1) []
+    ∷ refusesDock (take 9 dock ++ replicate 12 0 ++ drop 21 dock ++ tag8 1000) 3
+    ∷ reads (timestamped 0 999 ++ tag8 999) (zeros 1) (zeros 1) (zeros 1) (zeros 1) (pos 4 ∷ pos 0 ∷ pos 0 ∷ []) (zeros 1) (zeros 1) (zeros 1) (zeros 1)
+    -- anywhere, once, of two bytes; the other seven are still required
+    ∷ readsDock (tag8 250 ++ dock) 0 250
+    ∷ readsDock (take 6 dock ++ tag8 999 ++ drop 6 dock) 0 999
+    ∷ breaksAt (dock ++ (8 ∷ 0 ∷ 0 ∷ [])) 56
+    ∷ breaksAt (dock ++ (8 ∷ 0 ∷ 1 ∷ 0 ∷ [])) 56
+    ∷ breaksAt (dock ++ (8 ∷ 0 ∷ 3 ∷ 0 ∷ 0 ∷ 0 ∷ [])) 56
+    ∷ breaksAt (dock ++ tag8 0 ++ tag8 0) 61
+    ∷ breaksAt (take 51 dock ++ tag8 0) 56
+    -- read and written again
+    ∷ rewrites dock (dock ++ tag8 0) 56
+    ∷ rewrites (dock ++ tag8 250) (dock ++ tag8 250) 61
+    ∷ rewrites (tag8 250 ++ dock) (dock ++ tag8 250) 61
+    ∷ rewrites (take 51 dock) [] 0
+    -- by second, then millisecond; same and conflict need both equal
+    ∷ compares (timestamped 5 2001 ++ tag8 250) (timestamped 5 2000 ++ tag8 249) (pos 0 ∷ pos 1 ∷ [])
+    ∷ compares (timestamped 5 2000 ++ tag8 249) (timestamped 5 2000 ++ tag8 250) (pos 0 ∷ pos 2 ∷ [])
+    ∷ compares (timestamped 4 2000 ++ tag8 999) (timestamped 5 2000) (pos 0 ∷ pos 2 ∷ [])
+    ∷ compares (timestamped 5 2000) (timestamped 4 2001 ++ tag8 999) (pos 0 ∷ pos 1 ∷ [])
+    ∷ compares (timestamped 5 2000) (timestamped 5 2000 ++ tag8 0) (pos 0 ∷ pos 0 ∷ [])
+    ∷ compares (timestamped 5 2000 ++ tag8 7) (timestamped 5 2001 ++ tag8 7) (pos 0 ∷ pos 3 ∷ [])
+    ∷ compares (timestamped 5 2000 ++ tag8 1000) [] (pos 9 ∷ pos 1 ∷ [])
+    ∷ compares dock (timestamped 5 2000 ++ tag8 1000) (pos 9 ∷ pos 2 ∷ [])
+    -- the step program takes both kinds
+    ∷ prints (dock ++ tag8 250) "total 2000\n0 0 2000 99 -51\n"
+    ∷ prints (dock ++ tag8 1000) "refused 9\n"
     ∷ []
 
 -- ---- each bound at both ends, and one past
@@ -395,6 +461,6 @@ bounds =
     ∷ steps (cell 0 (pos 1) (pos 0) (pos 1000) (pos 50000) (pos 0) (pos 0) (pos 0)) (just (pos 1001)) (sevens 8) (pos 4 ∷ pos 5 ∷ pos 0 ∷ []) (just (pos 50000)) (zeros 1) (zeros 1) (zeros 8)
     ∷ []
 
-pub all-hold : T (all holds (workedExamples ++ (bounds ++ orders)))
+pub all-hold : T (all holds (workedExamples ++ (timestamps ++ (bounds ++ orders))))
 unfolding everything
 all-hold = tt

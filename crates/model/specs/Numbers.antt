@@ -64,6 +64,10 @@ longestSide = 64
 abbrev pub longestRun : ℕ
 longestRun = 10000
 
+-- milliseconds of a timestamp, from 0 on
+abbrev pub mostMilliseconds : ℕ
+mostMilliseconds = 999
+
 -- a number meets its bound: as a test, and as a fact
 unfoldable pub within : Limits → ℤ → Bool
 within l x = leZ (l .least) x && leZ x (l .most)

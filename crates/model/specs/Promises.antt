@@ -5,7 +5,7 @@
 -- here; that of the step program is in Program.antt. Every other `pub fn` serves a crate above it.
 -- A call's tests stand as a list (`…Tests`); its test (`…Test`) is what this list finds first.
 use mathlib.Core.Path.{_≡_}
-use mathlib.Core.List.{List, [], _∷_}
+use mathlib.Core.List.{List, [], _∷_, _++_}
 use mathlib.Core.Option.{Option, none, some}
 use Prim.Native.Nat.{ℕ}
 use lib.IntN.{ℤ}
@@ -14,11 +14,12 @@ use Rattle.model.specs.Grid.{filled}
 use Rattle.model.specs.State.{State, parametersOf, cells}
 use Rattle.model.specs.Answers.{toldAnswer, toldStep, toldRun, toldTotal, toldWrite, toldRead, toldCompare}
 use Rattle.model.specs.Tests.{Test, firstFound}
-use Rattle.model.specs.Refusals.{taken, stateTests, callTests}
+use Rattle.model.specs.Refusals.{taken, roomTests, stateTests, timedTests, callTests}
 use Rattle.model.specs.Scheme.{vorticity, hTendencies, uTendencies, vTendencies}
 use Rattle.model.specs.Totals.{totalDepth, energy4}
 use Rattle.model.specs.Step.{stepTest, stepAnswer, stepState, runTest, runOf, workLeft}
-use Rattle.model.specs.Record.{Timestamp, Decoded, accepted, refused, decode, encode, recordLength, compareAnswer}
+use Rattle.model.specs.Record.{Decoded, accepted, refused, decode, encode, recordLength, compareAnswer}
+use Rattle.model.specs.declared.Timestamp.{Timestamp}
 use Rattle.model.specs.declared.Field.the-variants.{Vorticity}
 use Rattle.model.specs.declared.Refusal.{Refusal}
 use Rattle.model.specs.declared.Answer.{Answer}
@@ -127,24 +128,24 @@ pub record TotalEnergyPromise (s : State) (answer : TotalAnswer) : Type 0 where
   pub answers : answer ≡ totalAnswer (totalTest s) (energy4 s)
   pub tells : toldTotal answer ≡ toldTotal (totalAnswer (totalTest s) (energy4 s))
 
--- ---- record writer, into d: 1, 2, 3, 4, 5, 8
+-- ---- record writer, into d: 1, 2, 3, 9, 4, 5, 8
 
-abbrev pub writeTests : State → (room : ℕ) → List (Test Refusal)
-writeTests s room = callTests s [] (recordLength s) (room ∷ [])
+abbrev pub writeTests : State → Timestamp → (room : ℕ) → List (Test Refusal)
+writeTests s t room = timedTests s t ++ roomTests (recordLength s) (room ∷ [])
 
-unfoldable pub writeTest : State → ℕ → Option Refusal
-writeTest s room = firstFound (writeTests s room)
+unfoldable pub writeTest : State → Timestamp → ℕ → Option Refusal
+writeTest s t room = firstFound (writeTests s t room)
 
 abbrev pub writeAnswer : ℕ → Option Refusal → WriteAnswer
 writeAnswer m none = WriteAnswer.Written m
 writeAnswer m (some r) = WriteAnswer.Refused r
 
--- It rules out: a field little-endian; a byte written past the record.
+-- It rules out: a field little-endian; a byte written past the record; milliseconds cut to two bytes before test 9.
 abbrev pub WritePromise : State → Timestamp → (d : List ℕ) (answer : WriteAnswer) (d′ : List ℕ) → Type 0
-WritePromise s timestamp d answer d′ =
-    Fills (writeAnswer (recordLength s)) toldWrite (writeTest s (length d)) (recordLength s) (encode s timestamp into d ∷ []) answer (d′ ∷ [])
+WritePromise s t d answer d′ =
+    Fills (writeAnswer (recordLength s)) toldWrite (writeTest s t (length d)) (recordLength s) (encode s t into d ∷ []) answer (d′ ∷ [])
 
--- ---- record reader, into h, b, u, v: 7, 1, 2, 8, 3, 4, 5
+-- ---- record reader, into h, b, u, v: 7, 1, 2, 8, 3, 9, 4, 5
 
 abbrev pub readAnswer : Decoded → ReadAnswer
 readAnswer (accepted s t) = ReadAnswer.Read (parametersOf s) t
@@ -158,7 +159,7 @@ readInto f (refused r) d = d
 unfoldable pub readOf : List ℕ → List ℤ → List ℤ → List ℤ → List ℤ → Decoded
 readOf rec h b u v = decode rec (length h ∷ length b ∷ length u ∷ length v ∷ [])
 
--- It rules out: fields filled before test 5; the sign of a velocity lost.
+-- It rules out: fields filled before test 5; the sign of a velocity lost; a record without tag 8 refused.
 pub record ReadPromise (rec : List ℕ) (h b u v : List ℤ) (answer : ReadAnswer) (h′ b′ u′ v′ : List ℤ) : Type 0 where
   pub answers : answer ≡ readAnswer (readOf rec h b u v)
   pub tells : toldRead answer ≡ toldRead (readAnswer (readOf rec h b u v))
@@ -167,9 +168,10 @@ pub record ReadPromise (rec : List ℕ) (h b u v : List ℤ) (answer : ReadAnswe
   pub fills-u : u′ ≡ readInto (λ s. s .u) (readOf rec h b u v) u
   pub fills-v : v′ ≡ readInto (λ s. s .v) (readOf rec h b u v) v
 
--- ---- comparison: 7, 1, 2, 3, 4, 5 of the first record, then of the second
+-- ---- comparison: 7, 1, 2, 3, 9, 4, 5 of the first record, then of the second
 
--- It rules out: an answer by timestamp before the second record is tested; same where only the states are the same.
+-- It rules out: an answer by timestamp before the second record is tested; same where only the states are the same; a conflict where
+-- the milliseconds differ.
 pub record ComparePromise (first second : List ℕ) (answer : CompareAnswer) : Type 0 where
   pub answers : answer ≡ compareAnswer first second
   pub tells : toldCompare answer ≡ toldCompare (compareAnswer first second)

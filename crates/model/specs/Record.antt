@@ -5,14 +5,15 @@ use mathlib.Core.Option.{Option, none, some}
 use Prim.Native.Nat.{ℕ, zero, suc, _+_, _*_, _/_, _%_, _^_}
 use lib.Dec.{eqb, leb, ltb}
 use lib.IntN.{ℤ}
-use lib.ListN.{length, getD, take, drop}
+use lib.ListN.{length, getD, take, drop, replicate}
 use mir.Syntax.{w16, w32}
 use mir.Val.{toZ, ofZ}
 use Rattle.model.specs.Numbers.{all, any, eqℤ, sameBy}
 use Rattle.model.specs.Grid.{tabulate}
 use Rattle.model.specs.State.{State, parametersOf, cells}
 use Rattle.model.specs.Tests.{Test, asks, found, firstFound}
-use Rattle.model.specs.Refusals.{fieldsOf, gridTest, lengthTest, roomTests, contentTests}
+use Rattle.model.specs.Refusals.{fieldsOf, gridTest, lengthTest, roomTests, timedContentTests}
+use Rattle.model.specs.declared.Timestamp.{Timestamp}
 use Rattle.model.specs.declared.Refusal.{Refusal}
 use Rattle.model.specs.declared.Refusal.the-variants.{Record}
 use Rattle.model.specs.declared.CompareAnswer.{CompareAnswer}
@@ -57,7 +58,7 @@ pub record TagRow : Type 0 where
   pub size : Size
   pub required : Bool
 
--- tag 1: w, n, kind. 2: G, c, R. 3: the timestamp. 4 to 7: h, b, u, v
+-- tag 1: w, n, kind. 2: G, c, R. 3: the timestamp's seconds. 4 to 7: h, b, u, v. 8: its milliseconds, of which absence means 0
 abbrev pub tagTable : List TagRow
 tagTable =
     record { tag = 1; size = fixed 3; required = true }
@@ -67,6 +68,7 @@ tagTable =
     ∷ record { tag = 5; size = perCell 4; required = true }
     ∷ record { tag = 6; size = perCell 2; required = true }
     ∷ record { tag = 7; size = perCell 2; required = true }
+    ∷ record { tag = 8; size = fixed 2; required = false }
     ∷ []
 
 -- ---- the writer: by rising tag
@@ -84,37 +86,31 @@ abbrev pub joined : List Part → List ℕ
 joined [] = []
 joined (p ∷ l) = p .tag ∷ (bytes 2 (length (p .value)) ++ (p .value ++ joined l))
 
--- the timestamp (01: stamp): whole seconds since 2000-01-01 00:00, below 2⁶⁴
-abbrev pub Timestamp : Type 0
-Timestamp = ℕ
-
-abbrev pub newer : Timestamp → Timestamp → Bool
-newer a b = ltb b a
-
 unfoldable pub partsOf : State → Timestamp → List Part
-partsOf s timestamp =
+partsOf s t =
     record { tag = 1; value = s .w ∷ s .n ∷ s .kind ∷ [] }
     ∷ record { tag = 2; value = bytes4 (s .G) ++ (bytes4 (s .c) ++ bytes4 (s .R)) }
-    ∷ record { tag = 3; value = bytes 8 timestamp }
+    ∷ record { tag = 3; value = bytes 8 (t .seconds) }
     ∷ record { tag = 4; value = eachBy bytes4 (s .h) }
     ∷ record { tag = 5; value = eachBy bytes4 (s .b) }
     ∷ record { tag = 6; value = eachBy bytes2 (s .u) }
     ∷ record { tag = 7; value = eachBy bytes2 (s .v) }
+    ∷ record { tag = 8; value = bytes 2 (t .milliseconds) }
     ∷ []
 
 unfoldable pub encode : State → Timestamp → List ℕ
-encode s timestamp = joined (partsOf s timestamp)
+encode s t = joined (partsOf s t)
 
 -- its length
 abbrev pub recordLength : State → ℕ
-recordLength s = 44 + 12 * cells s
+recordLength s = 49 + 12 * cells s
 
 -- ---- the reader: fields in any order
 
 abbrev pub has : ℕ → List Part → Bool
 has t parts = any (λ p. eqb (p .tag) t) parts
 
--- the value of a tag
+-- the value of a tag; none where it is absent, which stands for 0
 abbrev pub valueOf : ℕ → List Part → List ℕ
 valueOf t [] = []
 valueOf t (p ∷ l) = cond (eqb (p .tag) t) (p .value) (valueOf t l)
@@ -146,7 +142,7 @@ abbrev pub rightSize : ℕ → ℕ → Bool
 rightSize t size = allows (sizeIn tagTable t) size
 
 -- 7, at the tag at offset k, past the fields found so far:
--- 1 or 2 bytes left; unknown tag; repeated tag; value past the end; tag 1, 2, 3 of wrong length
+-- 1 or 2 bytes left; unknown tag; repeated tag; value past the end; tag 1, 2, 3, 8 of wrong length
 unfoldable pub tagTest : List ℕ → ℕ → List Part → Option Refusal
 tagTest rec k parts =
     firstFound
@@ -205,7 +201,7 @@ stateIn parts =
     }
 
 unfoldable pub timestampIn : List Part → Timestamp
-timestampIn parts = unsigned (valueOf 3 parts)
+timestampIn parts = record { seconds = unsigned (valueOf 3 parts); milliseconds = unsigned (valueOf 8 parts) }
 
 -- 2, in a record of m cells: the value of a tag has other than the bytes of m numbers
 abbrev pub bytesTest : ℕ → List ℕ → Size → List (Test Refusal)
@@ -216,7 +212,7 @@ abbrev pub bytesTests : ℕ → List Part → List TagRow → List (Test Refusal
 bytesTests m parts [] = []
 bytesTests m parts (row ∷ l) = bytesTest m (valueOf (row .tag) parts) (row .size) ++ bytesTests m parts l
 
--- ---- a record read: 7, then 1, 2, 8, 3, 4, 5
+-- ---- a record read: 7, then 1, 2, 8, 3, 9, 4, 5
 
 pub data Decoded : Type 0 where
   accepted : State → Timestamp → Decoded
@@ -226,30 +222,72 @@ abbrev pub judged : Option Refusal → State → Timestamp → Decoded
 judged none s t = accepted s t
 judged (some r) s t = refused r
 
-abbrev pub recordTests : State → List Part → (rooms : List ℕ) → List (Test Refusal)
-recordTests s parts rooms =
-    gridTest (parametersOf s) ∷ (bytesTests (cells s) parts tagTable ++ (roomTests (cells s) rooms ++ contentTests s (fieldsOf s)))
+abbrev pub recordTests : State → Timestamp → List Part → (rooms : List ℕ) → List (Test Refusal)
+recordTests s t parts rooms =
+    gridTest (parametersOf s) ∷ (bytesTests (cells s) parts tagTable ++ (roomTests (cells s) rooms ++ timedContentTests s t (fieldsOf s)))
 
-unfoldable pub recordTest : State → List Part → List ℕ → Option Refusal
-recordTest s parts rooms = firstFound (recordTests s parts rooms)
+unfoldable pub recordTest : State → Timestamp → List Part → List ℕ → Option Refusal
+recordTest s t parts rooms = firstFound (recordTests s t parts rooms)
 
 abbrev pub readBy : List ℕ → Walked → Decoded
 readBy rooms (damaged r) = refused r
-readBy rooms (whole parts) = judged (recordTest (stateIn parts) parts rooms) (stateIn parts) (timestampIn parts)
+readBy rooms (whole parts) = let s = stateIn parts in let t = timestampIn parts in judged (recordTest s t parts rooms) s t
 
 -- `rooms` are the lengths of the destinations: none in a comparison
 unfoldable pub decode : List ℕ → List ℕ → Decoded
 decode rec rooms = readBy rooms (walked rec)
 
+-- ---- a record read and written again
+
+-- each number is above the one before
+abbrev pub rises : List ℕ → Bool
+rises [] = true
+rises (x ∷ []) = true
+rises (x ∷ y ∷ l) = ltb x y && rises (y ∷ l)
+
 -- whether the tags of a record that passes test 7 rise
 abbrev pub risingBy : Walked → Bool
 risingBy (damaged r) = false
-risingBy (whole parts) = sameBy eqb (map (λ p. p .tag) parts) (map (λ row. row .tag) tagTable)
+risingBy (whole parts) = rises (map (λ p. p .tag) parts)
 
 unfoldable pub rising : List ℕ → Bool
 rising rec = risingBy (walked rec)
 
+-- how many bytes a value has, in a record of m cells
+abbrev pub bytesFor : ℕ → Size → ℕ
+bytesFor m (fixed k) = k
+bytesFor m (perCell k) = k * m
+
+-- a field of the table: the record's own, or zeros where it has none
+abbrev pub ownOrZeros : ℕ → List Part → TagRow → Part
+ownOrZeros m parts row =
+    record { tag = row .tag; value = cond (has (row .tag) parts) (valueOf (row .tag) parts) (replicate (bytesFor m (row .size)) 0) }
+
+-- what comes back of a record: every field of the table, by rising tag
+abbrev pub restoredBy : Walked → List ℕ
+restoredBy (damaged r) = []
+restoredBy (whole parts) = joined (map (ownOrZeros (cells (stateIn parts)) parts) tagTable)
+
+unfoldable pub restored : List ℕ → List ℕ
+restored rec = restoredBy (walked rec)
+
+-- its fields before the first one that it lacks, and how many bytes they have: where its tags rise, so many of its bytes return
+abbrev pub leading : List Part → List TagRow → List Part
+leading parts [] = []
+leading parts (row ∷ l) = cond (has (row .tag) parts) (record { tag = row .tag; value = valueOf (row .tag) parts } ∷ leading parts l) []
+
+abbrev pub keptBy : Walked → ℕ
+keptBy (damaged r) = 0
+keptBy (whole parts) = length (joined (leading parts tagTable))
+
+unfoldable pub kept : List ℕ → ℕ
+kept rec = keptBy (walked rec)
+
 -- ---- comparison
+
+-- by second, then millisecond
+unfoldable pub newer : Timestamp → Timestamp → Bool
+newer a b = ltb (b .seconds) (a .seconds) || (eqb (b .seconds) (a .seconds) && ltb (b .milliseconds) (a .milliseconds))
 
 -- tags 1, 2 and 4 to 7 mean the same
 unfoldable pub sameState : State → State → Bool

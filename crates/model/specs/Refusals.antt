@@ -1,19 +1,20 @@
--- 01's table of refusals, as tests: 1 to 5 and 8. Test 6 is in Step.antt, test 7 in Record.antt.
+-- The table of refusals, as tests: 01's 1 to 5 and 8, and 02's 9. Test 6 is in Step.antt, test 7 in Record.antt.
 use mathlib.Core.Bool.{Bool, not, _&&_}
 use mathlib.Core.List.{List, [], _∷_, _++_}
 use Prim.Native.Nat.{ℕ, _*_, _/_, _%_}
 use lib.Dec.{eqb, leb}
 use lib.IntN.{ℤ, pos}
 use lib.ListN.{length, getD}
-use Rattle.model.specs.Numbers.{Limits, within, eqℤ, gravityLimits, coriolisLimits, ratioLimits, longestSide, longestRun}
+use Rattle.model.specs.Numbers.{Limits, within, eqℤ, gravityLimits, coriolisLimits, ratioLimits, longestSide, longestRun, mostMilliseconds}
 use Rattle.model.specs.Fields.{limitsOf}
 use Rattle.model.specs.State.{State, parametersOf, cells, known, boundaryOf, closedWest, closedSouth}
 use Rattle.model.specs.Tests.{Test, asks, seeks}
 use Rattle.model.specs.declared.Parameters.{Parameters}
+use Rattle.model.specs.declared.Timestamp.{Timestamp}
 use Rattle.model.specs.declared.Field.{Field}
 use Rattle.model.specs.declared.Field.the-variants.{Depth, Bottom, VelocityU, VelocityV}
 use Rattle.model.specs.declared.Refusal.{Refusal}
-use Rattle.model.specs.declared.Refusal.the-variants.{Grid, Lengths, Constants, Value, ClosedEdge, Destination}
+use Rattle.model.specs.declared.Refusal.the-variants.{Grid, Lengths, Constants, Value, ClosedEdge, Destination, Milliseconds}
 
 -- ---- fields that a call takes
 
@@ -70,6 +71,10 @@ constantsWithin p = within gravityLimits (p .g) && within coriolisLimits (p .c) 
 abbrev pub constantsTest : Parameters → Test Refusal
 constantsTest p = asks (constantsWithin p) Constants
 
+-- 9: milliseconds above 999
+abbrev pub timeTest : Timestamp → Test Refusal
+timeTest t = asks (leb (t .milliseconds) mostMilliseconds) Milliseconds
+
 -- 4: a value outside. What is found names the field and the cell; test 6 seeks the same and finds a place
 abbrev pub outside : Taken → ℕ → Bool
 outside f k = not (within (f .limits) (getD (f .numbers) k (pos 0)))
@@ -99,17 +104,25 @@ abbrev pub roomTests : ℕ → List ℕ → List (Test Refusal)
 roomTests m [] = []
 roomTests m (room ∷ l) = roomTest m room ∷ roomTests m l
 
--- ---- in number order
+-- ---- in order
 
 -- tests 3 to 5
 abbrev pub contentTests : State → List Taken → List (Test Refusal)
 contentTests s fields = constantsTest (parametersOf s) ∷ (valueTests Value fields ++ edgeTests s)
+
+-- the same with a timestamp: 9 stands straight after 3
+abbrev pub timedContentTests : State → Timestamp → List Taken → List (Test Refusal)
+timedContentTests s t fields = constantsTest (parametersOf s) ∷ timeTest t ∷ (valueTests Value fields ++ edgeTests s)
 
 -- tests 1 to 5 of a state and of further fields; `run` and `work` are the tests of what else falls under 1 and 2
 abbrev pub stateTests : State → List Taken → (run work : List (Test Refusal)) → List (Test Refusal)
 stateTests s further run work =
     let fields = fieldsOf s ++ further in
     gridTest (parametersOf s) ∷ (run ++ (lengthTests fields ++ (work ++ contentTests s fields)))
+
+-- tests 1, 2, 3, 9, 4, 5 of a state and its timestamp
+abbrev pub timedTests : State → Timestamp → List (Test Refusal)
+timedTests s t = gridTest (parametersOf s) ∷ (lengthTests (fieldsOf s) ++ timedContentTests s t (fieldsOf s))
 
 -- tests 1 to 5, then 8, of a call that fills destinations of m numbers
 abbrev pub callTests : State → List Taken → ℕ → (rooms : List ℕ) → List (Test Refusal)

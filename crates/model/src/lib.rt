@@ -11,6 +11,13 @@ pub struct Parameters {
     pub r: i64,
 }
 
+// When a record's state holds (01: stamp): whole seconds since 2000-01-01 00:00, and milliseconds (02: U1). Taken at full width: any
+// numbers may come in, and milliseconds above 999 are refused.
+pub struct Timestamp {
+    pub seconds: u64,
+    pub milliseconds: u64,
+}
+
 // The boundary (01: seam): doubly periodic (kind 0); a channel, walled along the south edges of row 0 (kind 1); a closed
 // basin, walled along the west edges of column 0 too (kind 2).
 pub enum Boundary {
@@ -35,7 +42,7 @@ pub enum Field {
     Inflow,
 }
 
-// What the tests of a call find before anything is worked out: 01's refusals 1, 2, 3, 4, 5, 7 and 8, listed by number.
+// What the tests of a call find before anything is worked out: 01's refusals 1, 2, 3, 4, 5, 7 and 8, and 02's 9, listed by number.
 pub enum Refusal {
     Grid,
     Lengths,
@@ -44,6 +51,7 @@ pub enum Refusal {
     ClosedEdge { field: Field, cell: usize },
     Record { offset: usize },
     Destination,
+    Milliseconds,
 }
 
 // The answer of tests, and of a call that fills lent fields (potential vorticity, tendencies): accepted, or the first refusal.
@@ -89,7 +97,7 @@ pub enum WriteAnswer {
 pub enum ReadAnswer {
     Read {
         parameters: Parameters,
-        timestamp: u64,
+        timestamp: Timestamp,
     },
     Refused(Refusal),
 }

@@ -11,7 +11,7 @@ use Rattle.model.specs.State.{State}
 use Rattle.model.specs.Weights.{conditions}
 use Rattle.model.specs.Record.{bytes, encode}
 use Rattle.model.specs.Opened.{everything}
-use Rattle.model.specs.Examples.{Example, vorticities, tends, rates, energy, steps, runs, prints, holds, minus, done, sevens, zeros, dock}
+use Rattle.model.specs.Examples.{Example, vorticities, tends, rates, energy, steps, runs, prints, holds, minus, done, sevens, zeros, timeOf, dock}
 
 -- nine cells, deep and shallow, at rest along a wall in the west and in the south; an inflow and a q to lend
 abbrev unless : Bool → ℤ → ℤ
@@ -117,8 +117,8 @@ lengthened m = take 32 dock ++ (4 ∷ []) ++ bytes 2 m ++ replicate m 0 ++ drop 
 -- room for 1,024 cells and no more, told before a value outside; 65,535 bytes and no more
 abbrev pub programLimits : List Example
 programLimits =
-    prints (encode (shallow 32 32) 0) "refused 4\n"
-    ∷ prints (encode (shallow 41 25) 0) "refused 8\n"
+    prints (encode (shallow 32 32) (timeOf 0 0)) "refused 4\n"
+    ∷ prints (encode (shallow 41 25) (timeOf 0 0)) "refused 8\n"
     ∷ prints (lengthened 65483) "refused 2\n"
     ∷ prints (lengthened 65484) "refused 7\n"
     ∷ []
