@@ -1,35 +1,20 @@
 -- The reader takes any order: a record whose fields are put into another order is read as the same, or refused with the same. Assumes nothing.
-use mathlib.Core.Path.{_≡_, refl, sym, ap, ap₂, subst, _∙_}
+use mathlib.Core.Path.{_≡_, refl, sym, ap, ap₂, _∙_}
 use mathlib.Core.Logic.{inl, inr}
 use mathlib.Core.Bool.{Bool, true, false, cond, _||_, true≢false}
 use mathlib.Core.List.{List, [], _∷_, _++_, append-assoc}
-use Prim.Native.Nat.{ℕ, _+_, _≤_, zero-le}
-use native.Mathlib.Omega.{arith}
+use Prim.Native.Nat.{ℕ, _+_}
 use lib.Dec.{eqb}
-use lib.IntN.{ℤ}
-use lib.ListN.{length, length-append}
 use borrow.Author.Tests.{eqb-true, eqb-false, ne-eqb}
-use Rattle.model.specs.State.{State}
-use Rattle.model.specs.Record.{Part, joined, has, valueOf, whole, unless, walked, stateIn, timestampIn, recordTest, judged, readBy, decode}
-use Rattle.model.specs.Answers.{toldRead}
-use Rattle.model.specs.Promises.{readAnswer, readInto, readOf, ReadPromise}
+use Rattle.model.specs.Record.{unsigned, Part, joined, has, valueOf, decode}
 use Rattle.model.specs.Claims.{Among, WholeIn, Bytes, Reordered, empty, ahead, swap, chain, AnyOrderClaim}
-use Rattle.model.specs.declared.ReadAnswer.{ReadAnswer}
-use Rattle.theorems.specs.Walks.{Fine, AllFine, walks, whole-record}
-use Rattle.theorems.specs.TagLaws.{none-missing}
+use Rattle.theorems.specs.Walks.{Fine, AllFine, whole-record}
 use Rattle.theorems.specs.Damage.{whole-iff}
-use Rattle.theorems.specs.Rewrite.{all-bytes}
+use Rattle.theorems.specs.Written.{all-bytes}
+use Rattle.theorems.specs.OneFieldMore.{has-more}
+use Rattle.theorems.specs.ReadAlike.{read-alike, promise-alike}
 
 -- ---- fields that may stand in one order may stand in any
-
--- whether a tag is among the fields seen
-has-more : (t : ℕ) (a b : List Part) → has t (a ++ b) ≡ has t a || has t b
-has-more t [] b = refl
-has-more t (p ∷ a) b = ap (λ x. eqb (p .tag) t || x) (has-more t a b) ∙ grouped (eqb (p .tag) t) (has t a) (has t b)
-  where
-    grouped : (x y z : Bool) → x || (y || z) ≡ x || y || z
-    grouped true y z = refl
-    grouped false y z = refl
 
 either-first : (x y z : Bool) → x || (y || z) ≡ y || (x || z)
 either-first true true z = refl
@@ -103,23 +88,6 @@ same-value (ahead {p} r) seen f t = ap (cond (eqb (p .tag) t) (p .value)) (same-
 same-value (swap {p} {q} {a}) seen f t = sym (value-swapped t p q a (new-of (q .tag) seen p (f .1 .0 .new) .apart))
 same-value (chain r s) seen f t = same-value s seen (all-fine r seen f) t ∙ same-value r seen f t
 
--- nor does what the fields mean
-module _ (a b : List Part) (v : (t : ℕ) → valueOf t b ≡ valueOf t a) where
-  same-state : stateIn b ≡ stateIn a
-  unfolding stateIn
-  same-state = rw (v 1, v 2, v 4, v 5, v 6, v 7)
-
-  same-timestamp : timestampIn b ≡ timestampIn a
-  unfolding timestampIn
-  same-timestamp = rw (v 3)
-
-  same-test : (s : State) (rooms : List ℕ) → recordTest s b rooms ≡ recordTest s a rooms
-  unfolding recordTest
-  same-test s rooms = rw (v 4, v 5, v 6, v 7)
-
-  same-read : (rooms : List ℕ) → readBy rooms (whole b) ≡ readBy rooms (whole a)
-  same-read rooms = ap₂ (λ s t. judged (recordTest s b rooms) s t) same-state same-timestamp ∙ ap (λ o. judged o (stateIn a) (timestampIn a)) (same-test (stateIn a) rooms)
-
 -- ---- the record in another order
 
 -- a tag that is there in one order is there in any
@@ -132,41 +100,18 @@ still-among swap t (inr (inl e)) = inl e
 still-among swap t (inr (inr m)) = inr (inr m)
 still-among (chain r s) t m = still-among s t (still-among r t m)
 
--- each field has a byte at least
-count : (ps : List Part) → length ps ≤ length (joined ps)
-count [] = zero-le
-count (p ∷ ps) = let n = count ps in simp length-append (omega arith)
-
 module _ (rec : List ℕ) (parts other : List Part) (plain : Bytes rec) (w : WholeIn rec parts) (r : Reordered parts other) where
   fine : AllFine [] parts
   fine = whole-record rec (all-bytes rec plain) parts (whole-iff rec parts .1 w) .fine
 
-  other-walked : walked (joined other) ≡ whole other
-  unfolding walked
-  other-walked =
-      walks other (joined other) [] 0 (length (joined other)) [] refl refl (all-fine r [] fine) (count other)
-      ∙ ap (λ o. unless o (whole other)) (none-missing (joined other) other (λ m. w .1 (m .0, m .1, m .2, λ x. m .3 (still-among r (m .0) x))))
-
   same-decoded : (rooms : List ℕ) → decode (joined other) rooms ≡ decode rec rooms
-  unfolding decode
-  same-decoded rooms = ap (readBy rooms) other-walked ∙ same-read parts other (same-value r [] fine) rooms ∙ ap (readBy rooms) (sym (whole-iff rec parts .1 w))
-
-  same-promise : (h b u v h′ b′ u′ v′ : List ℤ) (answer : ReadAnswer) → ReadPromise rec h b u v answer h′ b′ u′ v′ → ReadPromise (joined other) h b u v answer h′ b′ u′ v′
-  unfolding readOf
-  same-promise h b u v h′ b′ u′ v′ answer p =
-      let e : readOf rec h b u v ≡ readOf (joined other) h b u v = sym (same-decoded (length h ∷ length b ∷ length u ∷ length v ∷ [])) in
-      record {
-        answers = p .answers ∙ ap readAnswer e;
-        tells = p .tells ∙ ap (λ x. toldRead (readAnswer x)) e;
-        fills-h = p .fills-h ∙ ap (λ x. readInto (λ s. s .h) x h) e;
-        fills-b = p .fills-b ∙ ap (λ x. readInto (λ s. s .b) x b) e;
-        fills-u = p .fills-u ∙ ap (λ x. readInto (λ s. s .u) x u) e;
-        fills-v = p .fills-v ∙ ap (λ x. readInto (λ s. s .v) x v) e;
-      }
+  same-decoded rooms =
+      let v = same-value r [] fine in
+      read-alike rec parts other w (all-fine r [] fine) (λ t m. still-among r t m) (λ t n. v t) (ap unsigned (v 8)) rooms
 
 pub any-order : AnyOrderClaim
 any-order =
     record {
       decoded = λ rec rooms parts other plain w r. same-decoded rec parts other plain w r rooms;
-      read = λ rec parts other h b u v h′ b′ u′ v′ answer plain w r p. same-promise rec parts other plain w r h b u v h′ b′ u′ v′ answer p;
+      read = λ rec parts other h b u v h′ b′ u′ v′ answer plain w r p. promise-alike rec (joined other) (same-decoded rec parts other plain w r) h b u v h′ b′ u′ v′ answer p;
     }

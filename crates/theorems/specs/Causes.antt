@@ -120,7 +120,7 @@ causes = record {
       fill-iff answerOf toldAnswer _ _ _ _ r (answer-some _ r)
       ⟫ (λ p. (finds l r .0 (p .0), cc (p .1), cc (p .1), cc (p .1)), λ c. (finds l r .1 (c .0), λ i. c .1 i ∷ c .2 i ∷ c .3 i ∷ []));
   write = λ s t d d′ r.
-      let l = writeTests s (length d) in
+      let l = writeTests s t (length d) in
       fill-iff (writeAnswer (recordLength s)) toldWrite _ _ _ _ r (write-some (recordLength s) _ r)
       ⟫ (λ p. (finds l r .0 (p .0), cc (p .1)), λ c. (finds l r .1 (c .0), ap (λ x. x ∷ []) (c .1)));
   depth = λ s r.

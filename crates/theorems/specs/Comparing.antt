@@ -3,20 +3,19 @@ use mathlib.Core.Path.{_≡_, refl, sym, ap, ap₂, subst, _∙_}
 use mathlib.Core.Logic.{_↔_}
 use mathlib.Core.Bool.{Bool, true, false, cond, _&&_}
 use mathlib.Core.List.{List, []}
-use Prim.Native.Nat.{ℕ, _<_}
-use native.Mathlib.Nat.{le-antisymm, le-refl}
-use native.Mathlib.Omega.{arith}
-use lib.Dec.{T, eqb, ltb, eqb→eq, eqb-refl}
+use Prim.Native.Nat.{ℕ}
+use lib.Dec.{T, eqb, eqb→eq, eqb-refl}
 use lib.IntN.{ℤ, pos, negsuc}
-use borrow.Author.Tests.{ltb-true, ltb-false, le-ltb}
 use Rattle.model.specs.Numbers.{eqℤ, sameBy}
 use Rattle.model.specs.State.{State}
-use Rattle.model.specs.Record.{Decoded, accepted, refused, decode, sameState, compared, compareSecond, compareBy, compareAnswer}
-use Rattle.model.specs.Claims.{CompareClaim, BothAre, swapped}
+use Rattle.model.specs.Record.{newer, Decoded, accepted, refused, decode, sameState, compared, compareSecond, compareBy, compareAnswer}
+use Rattle.model.specs.Claims.{CompareClaim, BothAre, Later, swapped}
+use Rattle.model.specs.declared.Timestamp.{Timestamp}
 use Rattle.model.specs.declared.Refusal.{Refusal}
 use Rattle.model.specs.declared.CompareAnswer.{CompareAnswer}
 use Rattle.model.specs.declared.CompareAnswer.the-variants.{Same, FirstNewer, SecondNewer, Conflict, FirstRefused, SecondRefused}
-use Rattle.theorems.specs.Truth.{_⟫_, and-iff, lt-iff, T-true, same-by, by-same, differ}
+use Rattle.theorems.specs.Truth.{_⟫_, and-iff, T-true, same-by, by-same, differ}
+use Rattle.theorems.specs.Timestamps.{newer-iff, not-itself, neither, never, not-newer}
 
 -- ---- the same state
 
@@ -91,15 +90,17 @@ picked-same false true r h = differ (cc h)
 picked-same false false true h = (refl, refl, refl)
 picked-same false false false h = differ (cc h)
 
-same-means : (s t : State) (a b : ℕ) → compared s a t b ≡ Same → (s ≡ t) × (a ≡ b)
+same-means : (s t : State) (a b : Timestamp) → compared s a t b ≡ Same → (s ≡ t) × (a ≡ b)
 unfolding compared
 same-means s t a b h =
-    let p = picked-same (ltb b a) (ltb a b) (sameState s t) h in
-    (same-state s t (subst T (sym (p .2)) tt), le-antisymm (ltb-false b a (p .0)) (ltb-false a b (p .1)))
+    let p = picked-same (newer a b) (newer b a) (sameState s t) h in (
+      same-state s t (subst T (sym (p .2)) tt),
+      neither a b (λ l. subst T (p .0) (newer-iff a b .1 l)) (λ l. subst T (p .1) (newer-iff b a .1 l)),
+    )
 
-same-there : (s : State) (a : ℕ) → compared s a s a ≡ Same
+same-there : (s : State) (a : Timestamp) → compared s a s a ≡ Same
 unfolding compared
-same-there s a = rw (le-ltb a a (le-refl a), T-true (sameState s s) (same-self s))
+same-there s a = ap₂ (λ p r. pick p p r) (not-newer a) (T-true (sameState s s) (same-self s))
 
 -- by what is found in the two records
 both-by : (first second : List ℕ) (x y : Decoded) → decode first [] ≡ x → decode second [] ≡ y → compareBy x y ≡ Same → BothAre first second
@@ -123,14 +124,11 @@ swapped-pick false false false false n f g = refl
 other-way : (s t : State) → T (sameState s t) → T (sameState t s)
 other-way s t h = subst (λ x. T (sameState x s)) (same-state s t h) (same-self s)
 
-compared-swapped : (s t : State) (a b : ℕ) → compared t b s a ≡ swapped (compared s a t b)
+compared-swapped : (s t : State) (a b : Timestamp) → compared t b s a ≡ swapped (compared s a t b)
 unfolding compared
-compared-swapped s t a b = swapped-pick (ltb b a) (ltb a b) (sameState s t) (sameState t s) never (other-way s t) (other-way t s)
-  where
-    never : T (ltb b a) → T (ltb a b) → ⊥
-    never p q = let x = ltb-true b a (T-true (ltb b a) p) in let y = ltb-true a b (T-true (ltb a b) q) in omega arith
+compared-swapped s t a b = swapped-pick (newer a b) (newer b a) (sameState s t) (sameState t s) (never a b) (other-way s t) (other-way t s)
 
-by-decoded : (first second : List ℕ) (s t : State) (x y : ℕ) → decode first [] ≡ accepted s x → decode second [] ≡ accepted t y → compareAnswer first second ≡ compared s x t y
+by-decoded : (first second : List ℕ) (s t : State) (x y : Timestamp) → decode first [] ≡ accepted s x → decode second [] ≡ accepted t y → compareAnswer first second ≡ compared s x t y
 unfolding compareAnswer
 by-decoded first second s t x y p q = rw (p, q)
 
@@ -155,33 +153,24 @@ picked-conflict false true r = (λ h. differ (cc h), λ x. absurd (x .1 tt))
 picked-conflict false false true = (λ h. differ (cc h), λ x. absurd (x .2 tt))
 picked-conflict false false false = (λ h. (λ t. t, λ t. t, λ t. t), λ x. refl)
 
-compared-tells : (s t : State) (a b : ℕ)
-    → ((compared s a t b ≡ FirstNewer) ↔ (b < a)) × ((compared s a t b ≡ SecondNewer) ↔ (a < b)) × ((compared s a t b ≡ Conflict) ↔ ((a ≡ b) × (s ≡ t → ⊥)))
+compared-tells : (s t : State) (a b : Timestamp)
+    → ((compared s a t b ≡ FirstNewer) ↔ Later a b) × ((compared s a t b ≡ SecondNewer) ↔ Later b a) × ((compared s a t b ≡ Conflict) ↔ ((a ≡ b) × (s ≡ t → ⊥)))
 unfolding compared
 compared-tells s t a b =
-    let p = lt-iff b a in
-    let q = lt-iff a b in
-    let c = picked-conflict (ltb b a) (ltb a b) (sameState s t) in (
-      picked-first (ltb b a) (ltb a b) (sameState s t) ⟫ p,
-      picked-second (ltb b a) (ltb a b) (sameState s t) (λ x y. never (p .0 x) (q .0 y)) ⟫ q,
+    let p = newer-iff a b in
+    let q = newer-iff b a in
+    let c = picked-conflict (newer a b) (newer b a) (sameState s t) in (
+      picked-first (newer a b) (newer b a) (sameState s t) ⟫ p,
+      picked-second (newer a b) (newer b a) (sameState s t) (never a b) ⟫ q,
       (
-        λ h. let x = c .0 h in (equal (λ l. x .0 (p .1 l)) (λ l. x .1 (q .1 l)), λ e. x .2 (subst (λ z. T (sameState s z)) e (same-self s))),
-        λ x. c .1 (λ l. never2 (x .0) (p .0 l), λ l. never2 (sym (x .0)) (q .0 l), λ l. x .1 (same-state s t l)),
+        λ h. let x = c .0 h in (neither a b (λ l. x .0 (p .1 l)) (λ l. x .1 (q .1 l)), λ e. x .2 (subst (λ z. T (sameState s z)) e (same-self s))),
+        λ x. c .1 (λ l. not-itself a (subst (Later a) (sym (x .0)) (p .0 l)), λ l. not-itself b (subst (Later b) (x .0) (q .0 l)), λ l. x .1 (same-state s t l)),
       ),
     )
-  where
-    never : b < a → a < b → ⊥
-    never x y = omega arith
-
-    never2 : {a b : ℕ} → a ≡ b → b < a → ⊥
-    never2 e l = omega arith
-
-    equal : (b < a → ⊥) → (a < b → ⊥) → a ≡ b
-    equal x y = omega arith
 
 -- ---- refused
 
-accepted≢ : {A : Type 0} {s : State} {t : ℕ} {r : Refusal} → accepted s t ≡ refused r → A
+accepted≢ : {A : Type 0} {s : State} {t : Timestamp} {r : Refusal} → accepted s t ≡ refused r → A
 accepted≢ h = differ (cc h)
 
 compared-not : (p q r : Bool) (x : Refusal) → (pick p q r ≡ FirstRefused x → ⊥) × (pick p q r ≡ SecondRefused x → ⊥)
@@ -192,13 +181,13 @@ compared-not false false false x = (λ h. differ (cc h), λ h. differ (cc h))
 
 first-by : (x y : Decoded) (r : Refusal) → (compareBy x y ≡ FirstRefused r) ↔ (x ≡ refused r)
 unfolding compared
-first-by (accepted s a) (accepted t b) r = (λ h. absurd (compared-not (ltb b a) (ltb a b) (sameState s t) r .0 h), λ h. accepted≢ h)
+first-by (accepted s a) (accepted t b) r = (λ h. absurd (compared-not (newer a b) (newer b a) (sameState s t) r .0 h), λ h. accepted≢ h)
 first-by (accepted s a) (refused q) r = (λ h. differ (cc h), λ h. accepted≢ h)
 first-by (refused q) y r = (λ h. cc h, λ h. cc h)
 
-second-by : (s : State) (a : ℕ) (y : Decoded) (r : Refusal) → (compareSecond s a y ≡ SecondRefused r) ↔ (y ≡ refused r)
+second-by : (s : State) (a : Timestamp) (y : Decoded) (r : Refusal) → (compareSecond s a y ≡ SecondRefused r) ↔ (y ≡ refused r)
 unfolding compared
-second-by s a (accepted t b) r = (λ h. absurd (compared-not (ltb b a) (ltb a b) (sameState s t) r .1 h), λ h. accepted≢ h)
+second-by s a (accepted t b) r = (λ h. absurd (compared-not (newer a b) (newer b a) (sameState s t) r .1 h), λ h. accepted≢ h)
 second-by s a (refused q) r = (λ h. cc h, λ h. cc h)
 
 -- an equation of an answer, read as one of what it is

@@ -29,9 +29,15 @@ pub mod TagLaws
 pub mod Damage
 pub mod RoundTrip
 pub mod ReadCauses
+pub mod Written
+pub mod Rising
 pub mod Rewrite
+pub mod OneFieldMore
+pub mod ReadAlike
 pub mod AnyOrder
+pub mod AbsentTag
 pub mod ProgramSteps
 pub mod Output
+pub mod Timestamps
 pub mod Comparing
 pub mod Theorems

@@ -1,10 +1,10 @@
--- Tests 1 to 5 pass exactly the states within the limits, with what else a call takes. Assumes nothing.
+-- Tests 1 to 5 pass exactly the states within the limits, with what else a call takes; test 9 the milliseconds up to 999. Assumes nothing.
 use mathlib.Core.Path.{_≡_, refl, ap, subst}
 use mathlib.Core.Logic.{_↔_}
 use mathlib.Core.Bool.{Bool, true, false, not, _&&_}
 use mathlib.Core.List.{List, [], _∷_, _++_}
 use mathlib.Core.Option.{none}
-use Prim.Native.Nat.{ℕ, _*_, _+_, _/_, _%_, _<_}
+use Prim.Native.Nat.{ℕ, _*_, _+_, _/_, _%_, _≤_, _<_}
 use native.Mathlib.Nat.{div-add-mod', mod-lt, div-lt-iff-lt-mul, mul-comm}
 use lib.Arith.{digits-lt, digits-div, digits-mod}
 use lib.Dec.{T, leb, eqb→eq}
@@ -12,15 +12,17 @@ use lib.IntN.{ℤ, pos, negsuc}
 use lib.ListN.{length, getD}
 use lib.Signed.{leZ}
 use borrow.Author.Tests.{eq-eqb}
-use Rattle.model.specs.Numbers.{Limits, within, Within, eqℤ, gravityLimits, coriolisLimits, ratioLimits, longestSide, longestRun}
+use Rattle.model.specs.Numbers.{Limits, within, Within, eqℤ, gravityLimits, coriolisLimits, ratioLimits, longestSide, longestRun, mostMilliseconds}
 use Rattle.model.specs.Grid.{at}
 use Rattle.model.specs.State.{State, parametersOf, cells, known, boundaryOf, closedWest, closedSouth, Side, WithinLimits}
 use Rattle.model.specs.Tests.{Test}
-use Rattle.model.specs.Refusals.{Taken, taken, fieldsOf, runLengthTest, workLength, workTest, outside, moving, gridKnown, constantsWithin, lengthTests, valueTests, edgeTests, contentTests, roomTests, stateTests, callTests}
+use Rattle.model.specs.Refusals.{Taken, taken, fieldsOf, runLengthTest, workLength, workTest, outside, moving, gridKnown, constantsWithin, lengthTests, valueTests, edgeTests, contentTests, timedContentTests, roomTests, stateTests, timedTests, callTests}
 use Rattle.model.specs.Step.{stepTests, stepTest, runTests, runTest}
-use Rattle.model.specs.Promises.{totalTests, totalTest}
+use Rattle.model.specs.Record.{recordLength}
+use Rattle.model.specs.Promises.{totalTests, totalTest, writeTests}
 use Rattle.model.specs.Claims.{Clean, EachPasses, LimitsClaim, EachWithin, EachRoom, AcceptedClaim, StepTaken, RunTaken}
 use Rattle.model.specs.declared.Parameters.{Parameters}
+use Rattle.model.specs.declared.Timestamp.{Timestamp}
 use Rattle.model.specs.declared.Field.{Field}
 use Rattle.model.specs.declared.Field.the-variants.{Inflow}
 use Rattle.model.specs.declared.Refusal.{Refusal}
@@ -213,6 +215,28 @@ call-iff s further m l =
 
 pub accepted : AcceptedClaim
 accepted = record { state = accepted-iff; call = call-iff }
+
+-- ---- with a timestamp
+
+pub timed-iff : (s : State) (t : Timestamp) (fields : List Taken)
+    → EachPasses (timedContentTests s t fields) ↔ (EachPasses (contentTests s fields) × (t .milliseconds ≤ mostMilliseconds))
+timed-iff s t fields = let i = le-iff (t .milliseconds) mostMilliseconds in (λ p. ((p .0, p .1 .1), i .0 (p .1 .0)), λ p. (p .0 .0, (i .1 (p .1), p .0 .1)))
+
+pub write-iff : (s : State) (t : Timestamp) (room : ℕ)
+    → EachPasses (writeTests s t room) ↔ (WithinLimits s × (t .milliseconds ≤ mostMilliseconds) × (recordLength s ≤ room))
+write-iff s t room =
+    let i = tested-iff s [] in
+    let r = passes-append (timedTests s t) (roomTests (recordLength s) (room ∷ [])) in
+    let l = passes-append (lengthTests (fieldsOf s)) (timedContentTests s t (fieldsOf s)) in
+    let c = timed-iff s t (fieldsOf s) in
+    let k = le-iff (recordLength s) room in (
+      λ p.
+          let x = r .0 p in
+          let y = l .0 (x .0 .1) in
+          let z = c .0 (y .1) in
+          (i .0 (record { grid = x .0 .0; lengths = y .0; content = z .0 }) .0, z .1, k .0 (x .1 .0)),
+      λ p. let x = i .1 (p .0, tt) in r .1 ((x .grid, l .1 (x .lengths, c .1 (x .content, p .1))), (k .1 (p .2), tt)),
+    )
 
 -- ---- totals, step and run
 

@@ -19,8 +19,9 @@ use Rattle.model.specs.Step.{stepAnswer, stepState}
 use Rattle.model.specs.Record.{Decoded, accepted, refused, decode}
 use Rattle.model.specs.Program.{text, digitsOnto, decimal, line, refusedLine, totalLine, cellLine, lines, stateLines, stepLines, inflowFor, steppedLines, inputLimit, programRead, programCells, programWork, programOutput}
 use Rattle.model.specs.Claims.{OutputClaim}
+use Rattle.model.specs.declared.Timestamp.{Timestamp}
 use Rattle.model.specs.declared.Refusal.{Refusal}
-use Rattle.model.specs.declared.Refusal.the-variants.{Grid, Lengths, Constants, Value, ClosedEdge, Record, Destination}
+use Rattle.model.specs.declared.Refusal.the-variants.{Grid, Lengths, Constants, Value, ClosedEdge, Record, Destination, Milliseconds}
 use Rattle.model.specs.declared.StepAnswer.{StepAnswer}
 use Rattle.model.specs.declared.StepAnswer.the-variants as StepAnswer
 use Rattle.integers.specs.Laws.{abs-add}
@@ -84,6 +85,7 @@ two-digits (Value f k) = omega arith
 two-digits (ClosedEdge f k) = omega arith
 two-digits (Record k) = omega arith
 two-digits Destination = omega arith
+two-digits Milliseconds = omega arith
 
 total-long : (x : ℤ) → natAbs x < 10 ^ 9 → length (totalLine x) ≤ 17
 total-long x h = subst (λ m. m ≤ 17) (sym (two-long (text "total") (decimal x))) (omega (arith, decimal-long 8 x h))
@@ -124,7 +126,7 @@ step-long StepAnswer.Done s l p = state-long s l p
 step-long (StepAnswer.Refused r) s l p = le-trans (refused-long (number r) (two-digits r)) (omega arith)
 step-long (StepAnswer.OutOfBounds p f k) s l q = le-trans (refused-long 6 (omega arith)) (omega arith)
 
-stepped-long : (inflow : List ℤ) (room : ℕ) (x : Decoded) → ((s : State) (t : ℕ) → x ≡ accepted s t → WithinLimits s × (cells s ≤ programCells))
+stepped-long : (inflow : List ℤ) (room : ℕ) (x : Decoded) → ((s : State) (t : Timestamp) → x ≡ accepted s t → WithinLimits s × (cells s ≤ programCells))
     → length (steppedLines inflow room x) ≤ 30737
 stepped-long inflow room (refused r) h = le-trans (refused-long (number r) (two-digits r)) (omega arith)
 stepped-long inflow room (accepted s t) h =
@@ -133,11 +135,11 @@ stepped-long inflow room (accepted s t) h =
     step-long (stepAnswer s (inflowFor s inflow) room) (stepState s (inflowFor s inflow) room) (k .0) (omega (arith, k .1, a .1))
 
 -- what is read of a short input is what the reader accepts
-read-by : (long : Bool) (r : Refusal) (x : Decoded) (s : State) (t : ℕ) → cond long (refused r) x ≡ accepted s t → x ≡ accepted s t
+read-by : (long : Bool) (r : Refusal) (x : Decoded) (s : State) (t : Timestamp) → cond long (refused r) x ≡ accepted s t → x ≡ accepted s t
 read-by true r x s t h = differ (cc h)
 read-by false r x s t h = h
 
-pub program-read : (input rooms : List ℕ) (s : State) (t : ℕ) → programRead input rooms ≡ accepted s t → decode input rooms ≡ accepted s t
+pub program-read : (input rooms : List ℕ) (s : State) (t : Timestamp) → programRead input rooms ≡ accepted s t → decode input rooms ≡ accepted s t
 unfolding programRead
 program-read input rooms s t h = read-by (leb inputLimit (length input)) (Record (length input)) (decode input rooms) s t h
 

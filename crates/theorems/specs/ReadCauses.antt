@@ -1,5 +1,5 @@
--- A record is refused exactly where a cause holds, in the order 7, 1, 2, 8, 3, 4, 5, and accepted exactly where none does. Assumes nothing.
-use mathlib.Core.Path.{_≡_, refl, sym, ap, ap₂, subst, _∙_}
+-- A record is refused exactly where a cause holds, in the order 7, 1, 2, 8, 3, 9, 4, 5, and accepted exactly where none does. Assumes nothing.
+use mathlib.Core.Path.{_≡_, refl, sym, ap, ap₂, subst, subst₂, _∙_}
 use mathlib.Core.Logic.{_↔_, _⊎_, inl, inr, ⊎-elim}
 use mathlib.Core.List.{List, [], _∷_}
 use mathlib.Core.Option.{Option, none, some}
@@ -9,10 +9,11 @@ use lib.ListN.{length}
 use Rattle.model.specs.Grid.{filled}
 use Rattle.model.specs.State.{State, parametersOf, cells}
 use Rattle.model.specs.Answers.{toldRead}
-use Rattle.model.specs.Record.{Timestamp, Part, Walked, damaged, whole, walked, stateIn, timestampIn, recordTests, recordTest, Decoded, accepted, refused, judged, readBy, decode}
+use Rattle.model.specs.Record.{Part, Walked, damaged, whole, walked, stateIn, timestampIn, recordTests, recordTest, Decoded, accepted, refused, judged, readBy, decode}
 use Rattle.model.specs.Promises.{readAnswer, readInto, readOf, ReadPromise}
 use Rattle.model.specs.Claims.{ReadCause, Readable, ReadCausesClaim}
 use Rattle.model.specs.declared.Parameters.{Parameters}
+use Rattle.model.specs.declared.Timestamp.{Timestamp}
 use Rattle.model.specs.declared.Refusal.{Refusal}
 use Rattle.model.specs.declared.ReadAnswer.the-variants.{Read, Refused}
 use Rattle.theorems.specs.Truth.{_⟫_, either, differ}
@@ -31,21 +32,21 @@ judged-none none s s′ t t′ = (λ e. (refl, cc e, cc e), λ p. ap₂ accepted
 judged-none (some x) s s′ t t′ = (λ e. differ (cc e), λ p. differ (cc (p .0)))
 
 refused-by : (rooms : List ℕ) (w : Walked) (r : Refusal)
-    → (readBy rooms w ≡ refused r) ↔ ((w ≡ damaged r) ⊎ ((parts : List Part) × (w ≡ whole parts) × (recordTest (stateIn parts) parts rooms ≡ some r)))
+    → (readBy rooms w ≡ refused r) ↔ ((w ≡ damaged r) ⊎ ((parts : List Part) × (w ≡ whole parts) × (recordTest (stateIn parts) (timestampIn parts) parts rooms ≡ some r)))
 refused-by rooms (damaged x) r = (
   λ e. let h : x ≡ r = cc e in inl (ap damaged h),
   ⊎-elim (λ e. let h : x ≡ r = cc e in ap refused h) (λ p. differ (cc (p .1))),
 )
 refused-by rooms (whole ps) r =
-    let i = judged-some (recordTest (stateIn ps) ps rooms) (stateIn ps) (timestampIn ps) r in (
+    let i = judged-some (recordTest (stateIn ps) (timestampIn ps) ps rooms) (stateIn ps) (timestampIn ps) r in (
       λ e. inr (ps, refl, i .0 e),
-      ⊎-elim (λ e. differ (cc e)) (λ p. let h : p .0 ≡ ps = cc (p .1) in i .1 (subst (λ x. recordTest (stateIn x) x rooms ≡ some r) h (p .2))),
+      ⊎-elim (λ e. differ (cc e)) (λ p. let h : p .0 ≡ ps = cc (p .1) in i .1 (subst (λ x. recordTest (stateIn x) (timestampIn x) x rooms ≡ some r) h (p .2))),
     )
 
 record Found (rooms : List ℕ) (w : Walked) (s : State) (t : Timestamp) : Type 0 where
   parts : List Part
   walks : w ≡ whole parts
-  passes : recordTest (stateIn parts) parts rooms ≡ none
+  passes : recordTest (stateIn parts) (timestampIn parts) parts rooms ≡ none
   state : stateIn parts ≡ s
   timestamp : timestampIn parts ≡ t
 
@@ -53,9 +54,9 @@ accepted-by : (rooms : List ℕ) (w : Walked) (s : State) (t : Timestamp) → (r
 accepted-by rooms (damaged x) s t = (λ e. differ (cc e), λ f. differ (cc (f .walks)))
 accepted-by rooms (whole ps) s t = (
   λ e.
-      let p = judged-none (recordTest (stateIn ps) ps rooms) (stateIn ps) s (timestampIn ps) t .0 e in
+      let p = judged-none (recordTest (stateIn ps) (timestampIn ps) ps rooms) (stateIn ps) s (timestampIn ps) t .0 e in
       record { parts = ps; walks = refl; passes = p .0; state = p .1; timestamp = p .2 },
-  λ f. ap (readBy rooms) (f .walks) ∙ judged-none (recordTest (stateIn (f .parts)) (f .parts) rooms) (stateIn (f .parts)) s (timestampIn (f .parts)) t .1 (f .passes, f .state, f .timestamp),
+  λ f. ap (readBy rooms) (f .walks) ∙ judged-none (recordTest (stateIn (f .parts)) (timestampIn (f .parts)) (f .parts) rooms) (stateIn (f .parts)) s (timestampIn (f .parts)) t .1 (f .passes, f .state, f .timestamp),
 )
 
 refuses : (rec rooms : List ℕ) (r : Refusal) → (decode rec rooms ≡ refused r) ↔ ReadCause rec rooms r
@@ -63,8 +64,8 @@ unfolding decode recordTest
 refuses rec rooms r =
     refused-by rooms (walked rec) r
     ⟫ either (damaged-iff rec r) (
-      λ p. (p .0, whole-iff rec (p .0) .0 (p .1), finds (recordTests (stateIn (p .0)) (p .0) rooms) r .0 (p .2)),
-      λ p. (p .0, whole-iff rec (p .0) .1 (p .1), finds (recordTests (stateIn (p .0)) (p .0) rooms) r .1 (p .2)),
+      λ p. (p .0, whole-iff rec (p .0) .0 (p .1), finds (recordTests (stateIn (p .0)) (timestampIn (p .0)) (p .0) rooms) r .0 (p .2)),
+      λ p. (p .0, whole-iff rec (p .0) .1 (p .1), finds (recordTests (stateIn (p .0)) (timestampIn (p .0)) (p .0) rooms) r .1 (p .2)),
     )
 
 pub accepts : (rec rooms : List ℕ) (s : State) (t : Timestamp) → (decode rec rooms ≡ accepted s t) ↔ Readable rec rooms s t
@@ -73,7 +74,7 @@ accepts rec rooms s t =
     accepted-by rooms (walked rec) s t
     ⟫ (
       λ f.
-          let p = subst (λ x. Fit x (f .parts) rooms) (f .state) (fields-iff (f .parts) rooms .0 (f .passes)) in
+          let p = subst₂ (λ x y. Fit x y (f .parts) rooms) (f .state) (f .timestamp) (fields-iff (f .parts) rooms .0 (f .passes)) in
           record {
             parts = f .parts;
             whole = whole-iff rec (f .parts) .0 (f .walks);
@@ -81,14 +82,15 @@ accepts rec rooms s t =
             timestamp = f .timestamp;
             bytes = p .0;
             room = p .1;
-            inside = p .2;
+            time = p .2;
+            inside = p .3;
           },
       λ g.
-          let p : Fit s (g .parts) rooms = (g .bytes, g .room, g .inside) in
+          let p : Fit s t (g .parts) rooms = (g .bytes, g .room, g .time, g .inside) in
           record {
             parts = g .parts;
             walks = whole-iff rec (g .parts) .1 (g .whole);
-            passes = fields-iff (g .parts) rooms .1 (subst (λ x. Fit x (g .parts) rooms) (sym (g .state)) p);
+            passes = fields-iff (g .parts) rooms .1 (subst₂ (λ x y. Fit x y (g .parts) rooms) (sym (g .state)) (sym (g .timestamp)) p);
             state = g .state;
             timestamp = g .timestamp;
           },

@@ -18,7 +18,7 @@ use Rattle.model.specs.Claims.{FillRefused, RefusedClaim, WorkClaim, RefusedWor
 use Rattle.model.specs.declared.Field.{Field}
 use Rattle.model.specs.declared.Field.the-variants.{Inflow}
 use Rattle.model.specs.declared.Refusal.{Refusal}
-use Rattle.model.specs.declared.Refusal.the-variants.{Grid, Lengths, Constants, Value, ClosedEdge, Record, Destination}
+use Rattle.model.specs.declared.Refusal.the-variants.{Grid, Lengths, Constants, Value, ClosedEdge, Record, Destination, Milliseconds}
 use Rattle.model.specs.declared.RunAnswer.{RunAnswer}
 use Rattle.model.specs.declared.StepAnswer.the-variants as StepAnswer
 use Rattle.model.specs.declared.RunAnswer.the-variants as RunAnswer
@@ -123,6 +123,7 @@ refused-work (Value f k) s work h = (h, λ l. absurd (omega arith), λ l. refl)
 refused-work (ClosedEdge f k) s work h = (h, λ l. absurd (omega arith), λ l. refl)
 refused-work (Record k) s work h = absurd (omega arith)
 refused-work Destination s work h = absurd (omega arith)
+refused-work Milliseconds s work h = absurd (omega arith)
 
 step-work : (s : State) (work : List ℤ) (x : Option Refusal) (o : Outcome) → Only UpTo5 x → StepWork (stepAnswerBy x o) s work (workLeft x s work)
 unfolding workLeft

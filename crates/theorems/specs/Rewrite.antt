@@ -1,104 +1,41 @@
--- An accepted record whose tags rise, read and written again, is the same bytes. Assumes nothing.
+-- An accepted record, read and written again: its fields by rising tag, and zeros for each that it lacks. Where its tags rise its own
+-- bytes come first. Assumes nothing.
 use mathlib.Core.Path.{_≡_, refl, sym, ap, ap₂, subst, _∙_}
-use mathlib.Core.Bool.{Bool, true, false, cond, _||_}
-use mathlib.Core.List.{List, [], _∷_, map}
-use Prim.Native.Nat.{ℕ, suc, _+_, _*_, _≤_, _<_}
+use mathlib.Core.Bool.{Bool, true, false, cond}
+use mathlib.Core.List.{List, [], _∷_, _++_, append-nil}
+use Prim.Native.Nat.{ℕ, suc, _+_, _*_, _≤_}
+use native.Mathlib.Nat.{le-of-suc-le-suc}
 use native.Mathlib.Omega.{arith}
-use lib.Dec.{T, eqb, eqb→eq}
+use lib.Dec.{T}
 use lib.IntN.{ℤ}
-use lib.ListN.{length, take, getD}
-use mir.Syntax.{w16, w32}
-use borrow.Author.Tests.{eqb-true, eq-eqb, ne-eqb}
-use Rattle.model.specs.Numbers.{any, sameBy}
+use lib.ListN.{length, take, drop, length-append}
+use lib.Seq.{take-take}
 use Rattle.model.specs.State.{State, stateOf, parametersOf, cells, WithinLimits}
-use Rattle.model.specs.Record.{tagTable, Part, joined, partsOf, encode, recordLength, valueOf, whole, walked, risingBy, rising, stateIn, timestampIn, accepted, decode}
+use Rattle.model.specs.Record.{tagTable, Part, joined, partsOf, encode, recordLength, has, Walked, damaged, whole, walked, stateIn, accepted, decode, risingBy, rising, restoredBy, restored, leading, keptBy, kept}
 use Rattle.model.specs.Promises.{WritePromise, ReadPromise}
-use Rattle.model.specs.Claims.{EachRoom, BytesOf, Readable, ReadClaim, RewriteClaim}
+use Rattle.model.specs.Claims.{WholeIn, Bytes, EachRoom, BytesOf, Readable, ReadClaim, RewriteClaim, RestoredClaim}
 use Rattle.model.specs.declared.Parameters.{Parameters}
+use Rattle.model.specs.declared.Timestamp.{Timestamp}
 use Rattle.model.specs.declared.ReadAnswer.the-variants as Answer
 use Rattle.model.specs.declared.WriteAnswer.the-variants.{Written}
-use Rattle.theorems.specs.Truth.{and-iff, eq-iff, same-by}
-use Rattle.theorems.specs.NumbersAsBytes.{AllBytes, back-bytes, put-numbers}
-use Rattle.theorems.specs.Walks.{Read, AllRead, whole-record}
-use Rattle.theorems.specs.TagLaws.{follow}
+use Rattle.theorems.specs.Truth.{T-true}
+use Rattle.theorems.specs.NumbersAsBytes.{AllBytes}
+use Rattle.theorems.specs.Walks.{Whole, whole-record}
+use Rattle.theorems.specs.TagLaws.{lastRequired, there, among-iff, absent}
 use Rattle.theorems.specs.Damage.{whole-iff}
 use Rattle.theorems.specs.RoundTrip.{length-encode, written, read-part}
 use Rattle.theorems.specs.ReadCauses.{accepts, read-accepts}
-
--- ---- fields with rising tags are what the writer writes of what they mean
-
-abbrev tagsOf : List Part → List ℕ
-tagsOf ps = map (λ p. p .tag) ps
-
-abbrev tags : List ℕ
-tags = map (λ row. row .tag) tagTable
-
-abbrev part : ℕ → List ℕ → Part
-part t value = record { tag = t; value = value }
-
--- the fields that these tags have in ps
-abbrev byTag : List Part → List ℕ → List Part
-byTag ps l = map (λ t. part t (valueOf t ps)) l
-
--- fields whose tags rise are the fields that their tags have; `ps` has the fields before them as well
-by-tag : (a : ℕ) (ps l : List Part) → T (follow a (tagsOf l)) → ((t : ℕ) → a ≤ t → valueOf t ps ≡ valueOf t l) → l ≡ byTag ps (tagsOf l)
-by-tag a ps [] f h = refl
-by-tag a ps (p ∷ l) f h =
-    let g = and-iff (eqb (p .tag) a) (follow (suc a) (tagsOf l)) .0 f in
-    let e = eq-iff (p .tag) a .0 (g .0) in
-    ap₂ _∷_ (ap (part (p .tag)) (here e)) (by-tag (suc a) ps l (g .1) (λ t n. h t (omega arith) ∙ past e t n))
-  where
-    here : p .tag ≡ a → p .value ≡ valueOf (p .tag) ps
-    here e = sym (h (p .tag) (omega arith) ∙ ap (λ b. cond b (p .value) (valueOf (p .tag) l)) (eq-eqb (p .tag) (p .tag) refl))
-
-    past : p .tag ≡ a → (t : ℕ) → suc a ≤ t → valueOf t (p ∷ l) ≡ valueOf t l
-    past e t n = ap (λ b. cond b (p .value) (valueOf t l)) (ne-eqb (p .tag) t (λ z. omega arith))
-
-pub three : (l : List ℕ) → length l ≡ 3 → getD l 0 0 ∷ getD l 1 0 ∷ getD l 2 0 ∷ [] ≡ l
-three [] h = absurd (let z : 0 ≡ 3 = h in omega arith)
-three (a ∷ []) h = absurd (let z : 1 ≡ 3 = h in omega arith)
-three (a ∷ b ∷ []) h = absurd (let z : 2 ≡ 3 = h in omega arith)
-three (a ∷ b ∷ c ∷ []) h = refl
-three (a ∷ b ∷ c ∷ d ∷ l) h = absurd (let z : suc (suc (suc (suc (length l)))) ≡ 3 = h in omega arith)
-
--- the value of a tag, where the record has it
-value-read : (t : ℕ) (ps : List Part) → AllRead ps → T (any (λ x. eqb x t) (tagsOf ps)) → Read (part t (valueOf t ps))
-value-read t [] r h = absurd h
-value-read t (p ∷ ps) r h = by (eqb (p .tag) t) refl (value-read t ps (r .1)) h
-  where
-    by : (b : Bool) → eqb (p .tag) t ≡ b → (T (any (λ x. eqb x t) (tagsOf ps)) → Read (part t (valueOf t ps)))
-        → T (b || any (λ x. eqb x t) (tagsOf ps)) → Read (part t (cond b (p .value) (valueOf t ps)))
-    by true e ih h = subst (λ x. Read (part x (p .value))) (eqb-true (p .tag) t e) (r .0)
-    by false e ih h = ih h
-
-field : (t : ℕ) {x y : List ℕ} {l k : List Part} → x ≡ y → l ≡ k → part t x ∷ l ≡ part t y ∷ k
-field t e f = ap₂ _∷_ (ap (part t) e) f
-
-fields-back : (ps : List Part) → T (sameBy eqb (tagsOf ps) tags) → AllRead ps → BytesOf (cells (stateIn ps)) ps → partsOf (stateIn ps) (timestampIn ps) ≡ ps
-unfolding partsOf stateIn timestampIn
-fields-back ps t r b =
-    let e = same-by eqb eqb→eq (tagsOf ps) tags t in
-    let read : (t : ℕ) → T (any (λ x. eqb x t) tags) → Read (part t (valueOf t ps)) = λ t h. value-read t ps r (subst (λ l. T (any (λ x. eqb x t) l)) (sym e) h) in
-    let v : ℕ → List ℕ = λ t. valueOf t ps in
-    let m = getD (v 1) 0 0 * getD (v 1) 1 0 in
-    let grid = three (v 1) (eqb-true (length (v 1)) 3 (read 1 tt .sized)) in
-    let constants = put-numbers 4 w32 refl 3 (v 2) (eqb-true (length (v 2)) 12 (read 2 tt .sized)) (read 2 tt .plain) in
-    let timestamp = back-bytes 8 (v 3) (eqb-true (length (v 3)) 8 (read 3 tt .sized)) (read 3 tt .plain) in
-    let h = put-numbers 4 w32 refl m (v 4) (b .0) (read 4 tt .plain) in
-    let z = put-numbers 4 w32 refl m (v 5) (b .1) (read 5 tt .plain) in
-    let x = put-numbers 2 w16 refl m (v 6) (b .2) (read 6 tt .plain) in
-    let y = put-numbers 2 w16 refl m (v 7) (b .3) (read 7 tt .plain) in
-    field 1 grid (field 2 constants (field 3 timestamp (field 4 h (field 5 z (field 6 x (field 7 y refl))))))
-    ∙ sym (by-tag 1 ps ps (subst (λ l. T (follow 1 l)) (sym e) tt) (λ t n. refl) ∙ ap (byTag ps) e)
+use Rattle.theorems.specs.Written.{part, all-bytes, fields-back}
+use Rattle.theorems.specs.Rising.{Front, From, To, front, next, known-tags, nothing-past, lacking, There, all-there, next-past, lacking-past, back-in-front, joined-append, front-bytes}
 
 -- ---- what is read
 
 -- a state within the limits, that has room
-pub decoded-within : (rec rooms : List ℕ) (s : State) (t : ℕ) → decode rec rooms ≡ accepted s t → WithinLimits s × EachRoom (cells s) rooms
+pub decoded-within : (rec rooms : List ℕ) (s : State) (t : Timestamp) → decode rec rooms ≡ accepted s t → WithinLimits s × EachRoom (cells s) rooms
 decoded-within rec rooms s t h = let r = accepts rec rooms s t .0 h in (r .inside, r .room)
 
 -- which stands in the four fields
-module _ (rec : List ℕ) (h b u v h′ b′ u′ v′ : List ℤ) (p : Parameters) (t : ℕ) (rp : ReadPromise rec h b u v (Answer.Read p t) h′ b′ u′ v′) where
+module _ (rec : List ℕ) (h b u v h′ b′ u′ v′ : List ℤ) (p : Parameters) (t : Timestamp) (rp : ReadPromise rec h b u v (Answer.Read p t) h′ b′ u′ v′) where
   abbrev read : State
   read = read-accepts rec h b u v h′ b′ u′ v′ p t .0 rp .0
 
@@ -124,27 +61,117 @@ pub read-within : ReadClaim
 read-within rec h b u v h′ b′ u′ v′ p t rp =
     subst WithinLimits (sym (left-is rec h b u v h′ b′ u′ v′ p t rp)) (found rec h b u v h′ b′ u′ v′ p t rp .inside)
 
--- ---- a record whose tags rise
+-- ---- what comes back
 
-pub all-bytes : (l : List ℕ) → ((k : ℕ) → getD l k 0 < 256) → AllBytes l
-all-bytes [] h = tt
-all-bytes (x ∷ l) h = (h 0, all-bytes l (λ k. h (suc k)))
-
--- what the writer makes of its fields
-encoded : (rec rooms : List ℕ) → AllBytes rec → T (rising rec) → (s : State) (t : ℕ) → Readable rec rooms s t → encode s t ≡ rec
-unfolding encode rising
-encoded rec rooms plain r s t f =
+encoded : (rec rooms : List ℕ) → AllBytes rec → (s : State) (t : Timestamp) → Readable rec rooms s t → encode s t ≡ restored rec
+unfolding encode restored
+encoded rec rooms plain s t f =
     let e = whole-iff rec (f .parts) .1 (f .whole) in
-    let w = whole-record rec plain (f .parts) e in
     let b = subst (λ (s : State). BytesOf (cells s) (f .parts)) (sym (f .state)) (f .bytes) in
-    ap₂ (λ s t. joined (partsOf s t)) (sym (f .state)) (sym (f .timestamp)) ∙ ap joined (fields-back (f .parts) (subst (λ w. T (risingBy w)) e r) (w .each) b) ∙ w .joins
+    ap₂ (λ s t. joined (partsOf s t)) (sym (f .state)) (sym (f .timestamp))
+    ∙ ap joined (fields-back (f .parts) (f .whole .1) (whole-record rec plain (f .parts) e .each) b)
+    ∙ ap restoredBy (sym e)
+
+-- ---- of a record whose tags rise
+
+module _ (rec : List ℕ) (plain : AllBytes rec) (parts : List Part) (w : WholeIn rec parts) where
+  abbrev fields : List Part
+  fields = leading parts tagTable
+
+  abbrev added : List Part
+  added = lacking (cells (stateIn parts)) parts tagTable
+
+  walks : walked rec ≡ whole parts
+  walks = whole-iff rec parts .1 w
+
+  all-of : Whole rec parts
+  all-of = whole-record rec plain parts walks
+
+  restored-is : restored rec ≡ joined (fields ++ added)
+  unfolding restored
+  restored-is = ap restoredBy walks ∙ ap joined (back-in-front (cells (stateIn parts)) parts tagTable)
+
+  kept-is : kept rec ≡ length (joined fields)
+  unfolding kept
+  kept-is = ap keptBy walks
+
+  restored-front : take (kept rec) (restored rec) ≡ joined fields
+  restored-front = ap₂ take kept-is restored-is ∙ front-bytes fields added
+
+  kept-most : kept rec ≤ length (restored rec)
+  kept-most = omega (arith, kept-is, ap length (restored-is ∙ joined-append fields added) ∙ length-append (joined fields) (joined added))
+
+  module _ (r : T (rising rec)) where
+    shape : Front parts fields (next parts 1 tagTable)
+    unfolding rising
+    shape = front parts (subst (λ w. T (risingBy w)) walks r) (known-tags [] parts (all-of .fine) .0)
+
+    record-is : rec ≡ joined (fields ++ shape .rest)
+    record-is = sym (all-of .joins) ∙ ap joined (shape .splits)
+
+    kept-same : take (kept rec) (restored rec) ≡ take (kept rec) rec
+    kept-same = restored-front ∙ sym (ap₂ take kept-is record-is ∙ front-bytes fields (shape .rest))
+
+    -- ---- tag 8 alone may be lacking
+
+    required-there : There parts (take lastRequired tagTable)
+    required-there = all-there parts 1 (take lastRequired tagTable) tt (λ t a b. there parts (w .1) t a (le-of-suc-le-suc b))
+
+    next-is : next parts 1 tagTable ≡ suc (length tagTable)
+    next-is = next-past parts 1 (take lastRequired tagTable) (drop lastRequired tagTable) required-there ∙ either-way (has 8 parts)
+      where
+        either-way : (b : Bool) → _≡_ {A = ℕ} (cond b 9 9) 9
+        either-way true = refl
+        either-way false = refl
+
+    -- so its fields are all in front
+    nothing-after : shape .rest ≡ []
+    nothing-after =
+        nothing-past fields (shape .rest) (subst (λ l. To (length tagTable) l) (shape .splits) (known-tags [] parts (all-of .fine) .1))
+        (subst (λ n. From n (shape .rest)) next-is (shape .above))
+
+    own-bytes : rec ≡ joined fields
+    own-bytes = record-is ∙ ap (λ l. joined (fields ++ l)) nothing-after ∙ ap joined (append-nil fields)
+
+    all-kept : kept rec ≡ length rec
+    all-kept = kept-is ∙ ap length (sym own-bytes)
+
+    added-by : (b : Bool) → has 8 parts ≡ b → added ≡ cond b [] (part 8 (0 ∷ 0 ∷ []) ∷ [])
+    added-by b e = lacking-past (cells (stateIn parts)) parts (take lastRequired tagTable) (drop lastRequired tagTable) required-there ∙ by b e
+      where
+        by : (b : Bool) → has 8 parts ≡ b → lacking (cells (stateIn parts)) parts (drop lastRequired tagTable) ≡ cond b [] (part 8 (0 ∷ 0 ∷ []) ∷ [])
+        by true e = rw e
+        by false e = rw e
+
+    restored-by : (b : Bool) → has 8 parts ≡ b → restored rec ≡ rec ++ joined (cond b [] (part 8 (0 ∷ 0 ∷ []) ∷ []))
+    restored-by b e = restored-is ∙ joined-append fields added ∙ ap₂ (λ x y. x ++ joined y) (sym own-bytes) (added-by b e)
+
+pub restored-record : RestoredClaim
+unfolding rising
+restored-record = record {
+  with-8 = λ rec parts plain w r a. restored-by rec (all-bytes rec plain) parts w r true (T-true (has 8 parts) (among-iff 8 parts .1 a)) ∙ append-nil rec;
+  without-8 = λ rec parts plain w r n. restored-by rec (all-bytes rec plain) parts w r false (absent 8 parts .1 n);
+  kept = λ rec plain r. by rec plain r (walked rec) refl r;
+}
+  where
+    by : (rec : List ℕ) → Bytes rec → T (rising rec) → (x : Walked) → walked rec ≡ x → T (risingBy x) → kept rec ≡ length rec
+    by rec plain r (damaged q) e t = absurd t
+    by rec plain r (whole parts) e t = all-kept rec (all-bytes rec plain) parts (whole-iff rec parts .0 e) r
 
 pub rewritten : RewriteClaim
-rewritten rec d d′ h b u v h′ b′ u′ v′ p t written′ plain r rp wp room =
+rewritten rec d d′ h b u v h′ b′ u′ v′ p t written′ plain rp wp room =
     let s = read rec h b u v h′ b′ u′ v′ p t rp in
     let f = found rec h b u v h′ b′ u′ v′ p t rp in
     let l = f .inside in
-    let e = encoded rec (length h ∷ length b ∷ length u ∷ length v ∷ []) (all-bytes rec plain) r s t f in
-    let n : length rec ≡ recordLength s = ap length (sym e) ∙ length-encode s l t in
-    let w = written s l t d d′ written′ (subst (λ m. m ≤ length d) n room) (subst (λ x. WritePromise x t d written′ d′) (left-is rec h b u v h′ b′ u′ v′ p t rp) wp) in
-    (w .0 ∙ ap Written (sym n), ap (λ m. take m d′) n ∙ w .1 ∙ e)
+    let bytes = all-bytes rec plain in
+    let e = encoded rec (length h ∷ length b ∷ length u ∷ length v ∷ []) bytes s t f in
+    let n : length (restored rec) ≡ recordLength s = ap length (sym e) ∙ length-encode s l t in
+    let w = written s l t (f .time) d d′ written′ (subst (λ m. m ≤ length d) n room) (subst (λ x. WritePromise x t d written′ d′) (left-is rec h b u v h′ b′ u′ v′ p t rp) wp) in
+    let back : take (length (restored rec)) d′ ≡ restored rec = ap (λ m. take m d′) n ∙ w .1 ∙ e in (
+      w .0 ∙ ap Written (sym n),
+      back,
+      λ r.
+          sym (take-take (kept rec) (length (restored rec)) d′ (kept-most rec bytes (f .parts) (f .whole)))
+          ∙ ap (take (kept rec)) back
+          ∙ kept-same rec bytes (f .parts) (f .whole) r,
+    )

@@ -2,7 +2,7 @@
 use mathlib.Core.Path.{_≡_, refl, sym, ap, ap₂, subst, _∙_}
 use mathlib.Core.Logic.{_↔_}
 use mathlib.Core.List.{List, [], _∷_, _++_}
-use mathlib.Core.Option.{none}
+use mathlib.Core.Option.{Option, none, some}
 use Prim.Native.Nat.{ℕ, suc, _*_, _^_, _≤_, _<_}
 use native.Mathlib.Nat.{le-trans, lt-of-le-of-lt, mul-le-mul}
 use native.Mathlib.Omega.{arith}
@@ -12,17 +12,20 @@ use lib.Signed.{_≤ℤ_}
 use lib.ListN.{length, take, drop, getD, length-append}
 use mir.Syntax.{Width, w16, w32}
 use mir.Val.{SFits, hbits}
-use Rattle.model.specs.Numbers.{Limits, Within, depthLimits, bottomLimits, velocityLimits, gravityLimits, coriolisLimits, ratioLimits}
+use Rattle.model.specs.Numbers.{Limits, Within, depthLimits, bottomLimits, velocityLimits, gravityLimits, coriolisLimits, ratioLimits, mostMilliseconds}
 use Rattle.model.specs.Grid.{filled}
 use Rattle.model.specs.State.{State, stateOf, parametersOf, cells, FieldWithin, WithinLimits}
-use Rattle.model.specs.Refusals.{fieldsOf, lengthTests, contentTests, roomTests}
+use Rattle.model.specs.Refusals.{fieldsOf, lengthTests, timedContentTests, roomTests}
 use Rattle.model.specs.Record.{tagTable, bytes4, bytes2, signed4, signed2, eachBy, numbers, Part, valueOf, partsOf, encode, recordLength, missingTest, walked, whole, stateIn, timestampIn, bytesTests, recordTests, recordTest, accepted, judged, readBy, decode}
 use Rattle.model.specs.Promises.{_into_, filledBy, writeTests, writeTest, writeAnswer, WritePromise, readAnswer, readInto, readOf}
-use Rattle.model.specs.Claims.{EachPasses, EachRoom, BytesOf, RoundTripClaim}
+use Rattle.model.specs.Claims.{EachPasses, EachRoom, BytesOf, WriteAcceptedClaim, RoundTripClaim}
+use Rattle.model.specs.declared.Timestamp.{Timestamp}
+use Rattle.model.specs.declared.Refusal.{Refusal}
 use Rattle.model.specs.declared.WriteAnswer.{WriteAnswer}
-use Rattle.theorems.specs.Truth.{_⟫_, eq-iff}
+use Rattle.model.specs.declared.WriteAnswer.the-variants.{Written}
+use Rattle.theorems.specs.Truth.{_⟫_, eq-iff, differ}
 use Rattle.theorems.specs.TestLaws.{passes, passes-append}
-use Rattle.theorems.specs.Limits.{accepted as accepts, rooms-iff, tested-iff}
+use Rattle.theorems.specs.Limits.{rooms-iff, tested-iff, timed-iff, write-iff}
 use Rattle.grid.specs.CellFields.{take-filled, length-tabulate}
 use Rattle.theorems.specs.NumbersAsBytes.{EachFits, there-back, get-put, numbers-put, length-each}
 use Rattle.theorems.specs.Walks.{AllShort, all-fine, walks}
@@ -91,23 +94,26 @@ bytes-iff m parts =
     )
 
 -- what they ask; the state has as many numbers in each field as cells (a state that is read does)
-abbrev pub Fit : State → List Part → (rooms : List ℕ) → Type 0
-Fit s parts rooms = BytesOf (cells s) parts × EachRoom (cells s) rooms × WithinLimits s
+abbrev pub Fit : State → Timestamp → List Part → (rooms : List ℕ) → Type 0
+Fit s t parts rooms = BytesOf (cells s) parts × EachRoom (cells s) rooms × (t .milliseconds ≤ mostMilliseconds) × WithinLimits s
 
-pub record-iff : (s : State) (parts : List Part) (rooms : List ℕ) → EachPasses (lengthTests (fieldsOf s)) → (recordTest s parts rooms ≡ none) ↔ Fit s parts rooms
+pub record-iff : (s : State) (t : Timestamp) (parts : List Part) (rooms : List ℕ) → EachPasses (lengthTests (fieldsOf s))
+    → (recordTest s t parts rooms ≡ none) ↔ Fit s t parts rooms
 unfolding recordTest
-record-iff s parts rooms lengths =
+record-iff s t parts rooms lengths =
     let m = cells s in
-    let content = contentTests s (fieldsOf s) in
+    let content = timedContentTests s t (fieldsOf s) in
+    let c = timed-iff s t (fieldsOf s) in
     let i = passes-append (bytesTests m parts tagTable) (roomTests m rooms ++ content) in
     let j = passes-append (roomTests m rooms) content in
-    passes (recordTests s parts rooms)
+    passes (recordTests s t parts rooms)
     ⟫ (
       λ p.
           let x = i .0 (p .1) in
           let y = j .0 (x .1) in
-          (bytes-iff m parts .0 (x .0), rooms-iff m rooms .0 (y .0), tested-iff s [] .0 (record { grid = p .0; lengths = lengths; content = y .1 }) .0),
-      λ f. let t = tested-iff s [] .1 (f .2, tt) in (t .grid, i .1 (bytes-iff m parts .1 (f .0), j .1 (rooms-iff m rooms .1 (f .1), t .content))),
+          let z = c .0 (y .1) in
+          (bytes-iff m parts .0 (x .0), rooms-iff m rooms .0 (y .0), z .1, tested-iff s [] .0 (record { grid = p .0; lengths = lengths; content = z .0 }) .0),
+      λ f. let x = tested-iff s [] .1 (f .3, tt) in (x .grid, i .1 (bytes-iff m parts .1 (f .0), j .1 (rooms-iff m rooms .1 (f .1), c .1 (x .content, f .2)))),
     )
 
 -- those of a record that is read
@@ -120,8 +126,9 @@ long-read parts =
     let m = getD (valueOf 1 parts) 0 0 * getD (valueOf 1 parts) 1 0 in
     (long-numbers signed4 4 m (valueOf 4 parts), (long-numbers signed4 4 m (valueOf 5 parts), (long-numbers signed2 2 m (valueOf 6 parts), (long-numbers signed2 2 m (valueOf 7 parts), tt))))
 
-pub fields-iff : (parts : List Part) (rooms : List ℕ) → (recordTest (stateIn parts) parts rooms ≡ none) ↔ Fit (stateIn parts) parts rooms
-fields-iff parts rooms = record-iff (stateIn parts) parts rooms (long-read parts)
+pub fields-iff : (parts : List Part) (rooms : List ℕ)
+    → (recordTest (stateIn parts) (timestampIn parts) parts rooms ≡ none) ↔ Fit (stateIn parts) (timestampIn parts) parts rooms
+fields-iff parts rooms = record-iff (stateIn parts) (timestampIn parts) parts rooms (long-read parts)
 
 -- ---- the record of a state within the limits
 
@@ -136,17 +143,17 @@ module _ (s : State) (l : WithinLimits s) where
   short2 : {lim : Limits} (f : List ℤ) → FieldWithin lim (cells s) f → length (eachBy bytes2 f) < 65536
   short2 f p = omega (arith, most, long2 f p)
 
-  pub length-encode : (t : ℕ) → length (encode s t) ≡ recordLength s
+  pub length-encode : (t : Timestamp) → length (encode s t) ≡ recordLength s
   unfolding encode partsOf
   length-encode t = simp (length-append, long4 (s .h) (l .depths), long4 (s .b) (l .bottoms), long2 (s .u) (l .us), long2 (s .v) (l .vs)) (omega arith)
 
-  walked-encode : (t : ℕ) → walked (encode s t) ≡ whole (partsOf s t)
+  walked-encode : (t : Timestamp) → walked (encode s t) ≡ whole (partsOf s t)
   unfolding walked missingTest partsOf encode
   walked-encode t =
-      let short : AllShort (partsOf s t) = (lit< tt, (lit< tt, (lit< tt, (short4 (s .h) (l .depths), (short4 (s .b) (l .bottoms), (short2 (s .u) (l .us), (short2 (s .v) (l .vs), tt))))))) in
-      walks (partsOf s t) (encode s t) [] 0 (length (encode s t)) [] refl refl (all-fine [] (partsOf s t) tt short) (subst (λ m. 7 ≤ m) (sym (length-encode t)) (omega arith))
+      let short : AllShort (partsOf s t) = (lit< tt, (lit< tt, (lit< tt, (short4 (s .h) (l .depths), (short4 (s .b) (l .bottoms), (short2 (s .u) (l .us), (short2 (s .v) (l .vs), (lit< tt, tt)))))))) in
+      walks (partsOf s t) (encode s t) [] 0 (length (encode s t)) [] refl refl (all-fine [] (partsOf s t) tt short) (subst (λ m. 8 ≤ m) (sym (length-encode t)) (omega arith))
 
-  state-back : (t : ℕ) → stateIn (partsOf s t) ≡ s
+  state-back : (t : Timestamp) → stateIn (partsOf s t) ≡ s
   unfolding stateIn partsOf
   state-back t = λ i. record {
     w = s .w;
@@ -161,30 +168,34 @@ module _ (s : State) (l : WithinLimits s) where
     v = back2 (s .v) velocity-fits (l .vs) i;
   }
 
-  timestamp-back : (t : ℕ) → t < 2 ^ 64 → timestampIn (partsOf s t) ≡ t
+  timestamp-back : (t : Timestamp) → t .seconds < 2 ^ 64 → t .milliseconds ≤ mostMilliseconds → timestampIn (partsOf s t) ≡ t
   unfolding timestampIn partsOf
-  timestamp-back t h = there-back 8 t h
+  timestamp-back t h k = λ i. record { seconds = there-back 8 (t .seconds) h i; milliseconds = there-back 2 (t .milliseconds) (two k) i }
+    where
+      two : t .milliseconds ≤ 999 → t .milliseconds < 65536
+      two k = omega arith
 
-  right : (t : ℕ) → BytesOf (cells s) (partsOf s t)
+  right : (t : Timestamp) → BytesOf (cells s) (partsOf s t)
   unfolding partsOf
   right t = (long4 (s .h) (l .depths), long4 (s .b) (l .bottoms), long2 (s .u) (l .us), long2 (s .v) (l .vs))
 
   -- what the writer writes is read back
-  pub decode-encode : (t : ℕ) → t < 2 ^ 64 → (rooms : List ℕ) → EachRoom (cells s) rooms → decode (encode s t) rooms ≡ accepted s t
+  pub decode-encode : (t : Timestamp) → t .seconds < 2 ^ 64 → t .milliseconds ≤ mostMilliseconds → (rooms : List ℕ) → EachRoom (cells s) rooms
+      → decode (encode s t) rooms ≡ accepted s t
   unfolding decode
-  decode-encode t h rooms r =
+  decode-encode t h k rooms r =
       ap (readBy rooms) (walked-encode t)
-      ∙ ap₂ (λ x y. judged (recordTest x (partsOf s t) rooms) x y) (state-back t) (timestamp-back t h)
-      ∙ ap (λ x. judged x s t) (record-iff s (partsOf s t) rooms (tested-iff s [] .1 (l, tt) .lengths) .1 (right t, r, l))
+      ∙ ap₂ (λ x y. judged (recordTest x y (partsOf s t) rooms) x y) (state-back t) (timestamp-back t h k)
+      ∙ ap (λ x. judged x s t) (record-iff s t (partsOf s t) rooms (tested-iff s [] .1 (l, tt) .lengths) .1 (right t, r, k, l))
 
   -- ---- over the promises of the calls
 
-  pub written : (t : ℕ) (d d′ : List ℕ) (a : WriteAnswer) → recordLength s ≤ length d → WritePromise s t d a d′
+  pub written : (t : Timestamp) → t .milliseconds ≤ mostMilliseconds → (d d′ : List ℕ) (a : WriteAnswer) → recordLength s ≤ length d → WritePromise s t d a d′
       → (a ≡ writeAnswer (recordLength s) none) × (take (recordLength s) d′ ≡ encode s t)
   unfolding writeTest
-  written t d d′ a h p =
+  written t k d d′ a h p =
       let m = recordLength s in
-      let e : writeTest s (length d) ≡ none = passes (writeTests s (length d)) .1 (accepts .call s [] m (length d ∷ []) .1 (l, tt, (h, tt))) in
+      let e : writeTest s t (length d) ≡ none = passes (writeTests s t (length d)) .1 (write-iff s t (length d) .1 (l, k, h)) in
       let f = p .fills ∙ ap (λ o. filledBy o m (encode s t into d ∷ [])) e in
       (p .answers ∙ ap (writeAnswer m) e, ap (take m) (ap (λ x. getD x 0 []) f) ∙ take-filled m (encode s t) d (length-encode t))
 
@@ -192,12 +203,23 @@ module _ (s : State) (l : WithinLimits s) where
 pub read-part : (m : ℕ) (f d d′ : List ℤ) → length f ≡ m → d′ ≡ filled m f d → take m d′ ≡ f
 read-part m f d d′ e p = ap (take m) p ∙ take-filled m f d e
 
+-- the writer accepts this, and no more
+written-none : (m : ℕ) (o : Option Refusal) → writeAnswer m o ≡ Written m → o ≡ none
+written-none m none e = refl
+written-none m (some r) e = differ (cc e)
+
+pub write-accepted : WriteAcceptedClaim
+unfolding writeTest
+write-accepted s t d d′ a p =
+    let i = passes (writeTests s t (length d)) ⟫ write-iff s t (length d) in
+    (λ e. i .0 (written-none (recordLength s) _ (sym (p .answers) ∙ e)), λ x. p .answers ∙ ap (writeAnswer (recordLength s)) (i .1 x))
+
 pub round-trip : RoundTripClaim
 unfolding readOf
-round-trip s t d d′ written′ h b u v h′ b′ u′ v′ answer l q room wp x y z k rp =
-    let w = written s l t d d′ written′ room wp in
+round-trip s t d d′ written′ h b u v h′ b′ u′ v′ answer l q ms room wp x y z k rp =
+    let w = written s l t ms d d′ written′ room wp in
     let rooms = length h ∷ length b ∷ length u ∷ length v ∷ [] in
-    let dec : readOf (take (recordLength s) d′) h b u v ≡ accepted s t = ap (λ r. decode r rooms) (w .1) ∙ decode-encode s l t q rooms (x, (y, (z, (k, tt)))) in
+    let dec : readOf (take (recordLength s) d′) h b u v ≡ accepted s t = ap (λ r. decode r rooms) (w .1) ∙ decode-encode s l t q ms rooms (x, (y, (z, (k, tt)))) in
     let ph = read-part (cells s) (s .h) h h′ (l .depths .long) (rp .fills-h ∙ ap (λ o. readInto (λ s. s .h) o h) dec) in
     let pb = read-part (cells s) (s .b) b b′ (l .bottoms .long) (rp .fills-b ∙ ap (λ o. readInto (λ s. s .b) o b) dec) in
     let pu = read-part (cells s) (s .u) u u′ (l .us .long) (rp .fills-u ∙ ap (λ o. readInto (λ s. s .u) o u) dec) in

@@ -153,7 +153,7 @@ wrong-in a t size (row ∷ l) f =
     by (perCell k) false p e later i = i
 
 pub wrong-iff : (t size : ℕ) → (rightSize t size ≡ false) ↔ WrongLength t size
-wrong-iff t size = wrong-in 1 t size tagTable tt ⟫ either same (either same (⊎-elim (λ w. w) (λ x. absurd x), inl))
+wrong-iff t size = wrong-in 1 t size tagTable tt ⟫ either same (either same (either same (⊎-elim (λ w. w) (λ x. absurd x), inl)))
 
 pub tag-judged : (rec : List ℕ) (k : ℕ) (parts : List Part) → Judges (tagTest rec k parts) (Record k) (BadTag rec k parts)
 unfolding tagTest
@@ -196,6 +196,13 @@ requiredIn (row ∷ l) = cond (row .required) (row .tag ∷ requiredIn l) (requi
 abbrev required : List ℕ
 required = requiredIn tagTable
 
+abbrev pub lastRequired : ℕ
+lastRequired = length required
+
+-- what holds of each of them, and that they are in the table
+pub each-required : (P : ℕ → Type 0) → EachOf P required → (t : ℕ) → 1 ≤ t → t ≤ lastRequired → P t
+each-required P e t a b = each-of P required e t (listed-iff t 1 required tt .1 (a, suc-le-suc b))
+
 missing-iff : (parts : List Part) → (all (λ t. has t parts) required ≡ false) ↔ Missing parts
 missing-iff parts =
     let i : (t : ℕ) → (has t parts ≡ false) ↔ (Among t parts → ⊥) = λ t. absent t parts in (
@@ -216,3 +223,13 @@ none-missing rec parts n = untold (end-judged rec parts) n
 -- where none is missing, each that a record must have is there
 pub none-absent : (rec : List ℕ) (parts : List Part) → missingTest rec parts ≡ none → Missing parts → ⊥
 none-absent rec parts e m = some≢ (sym (told (end-judged rec parts) m) ∙ e)
+
+pub there : (parts : List Part) → (Missing parts → ⊥) → (t : ℕ) → 1 ≤ t → t ≤ lastRequired → T (has t parts)
+there parts n t a b = by (has t parts) refl
+  where
+    by : (x : Bool) → has t parts ≡ x → T x
+    by true e = tt
+    by false e = absurd (n (t, a, b, absent t parts .0 e))
+
+pub required-known : (t : ℕ) → 1 ≤ t → t ≤ lastRequired → T (any (λ row. eqb (row .tag) t) tagTable)
+required-known = each-required (λ t. T (any (λ row. eqb (row .tag) t) tagTable)) (tt, (tt, (tt, (tt, (tt, (tt, (tt, tt)))))))

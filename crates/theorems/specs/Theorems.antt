@@ -1,5 +1,5 @@
 -- Every theorem. `theorems` has each claim of the model, proved. Assumes nothing.
-use Rattle.model.specs.Claims.{LimitsClaim, AcceptedClaim, ScanClaim, TestClaim, CausesClaim, ReadCausesClaim, MetClaim, FixedClaim, RefusedClaim, WorkClaim, RoundingClaim, OwnVorticityClaim, VorticityClaim, TendenciesAcceptedClaim, TendenciesClaim, PassClaim, StepClaim, RunClaim, RunEndsClaim, RunStepsClaim, TotalsClaim, RoundTripClaim, ReadClaim, ProgramClaim, OutputClaim, RewriteClaim, AnyOrderClaim, CompareClaim, EnergyRateClaim, EnergyClaim, EnstrophyClaim, PeriodicEnstrophyClaim, BalanceClaim, KeptClaim}
+use Rattle.model.specs.Claims.{LimitsClaim, AcceptedClaim, ScanClaim, TestClaim, CausesClaim, ReadCausesClaim, MetClaim, FixedClaim, RefusedClaim, WorkClaim, RoundingClaim, OwnVorticityClaim, VorticityClaim, TendenciesAcceptedClaim, TendenciesClaim, PassClaim, StepClaim, RunClaim, RunEndsClaim, RunStepsClaim, TotalsClaim, WriteAcceptedClaim, RoundTripClaim, ReadClaim, ProgramClaim, OutputClaim, RewriteClaim, RestoredClaim, AnyOrderClaim, AbsentClaim, CompareClaim, EnergyRateClaim, EnergyClaim, EnstrophyClaim, PeriodicEnstrophyClaim, BalanceClaim, KeptClaim}
 use Rattle.model.specs.Step.{Place}
 use Rattle.model.specs.declared.Refusal.{Refusal}
 use Rattle.theorems.specs.Limits.{limits-tested, accepted}
@@ -16,11 +16,12 @@ use Rattle.theorems.specs.Stepping.{pass-given, step-within}
 use Rattle.theorems.specs.Runs.{run-counts}
 use Rattle.theorems.specs.RunEnds.{run-ends}
 use Rattle.theorems.specs.RunSteps.{run-steps}
-use Rattle.theorems.specs.RoundTrip.{round-trip}
-use Rattle.theorems.specs.Rewrite.{read-within, rewritten}
+use Rattle.theorems.specs.RoundTrip.{write-accepted, round-trip}
+use Rattle.theorems.specs.Rewrite.{read-within, rewritten, restored-record}
 use Rattle.theorems.specs.ProgramSteps.{program-steps}
 use Rattle.theorems.specs.Output.{output-fits}
 use Rattle.theorems.specs.AnyOrder.{any-order}
+use Rattle.theorems.specs.AbsentTag.{absent-tag}
 use Rattle.theorems.specs.Comparing.{comparison}
 use Rattle.theorems.specs.ProductRule.{energy-rate}
 use Rattle.theorems.specs.ZeroRates.{energy-zero, enstrophy-zero, periodic-enstrophy}
@@ -56,12 +57,15 @@ pub record Theorems : Type 0 where
   pub run-ends : RunEndsClaim
   pub run-steps : RunStepsClaim
   pub totals : TotalsClaim
+  pub write-accepted : WriteAcceptedClaim
   pub write-then-read : RoundTripClaim
   pub read : ReadClaim
   pub program : ProgramClaim
   pub output : OutputClaim
   pub read-then-write : RewriteClaim
+  pub restored : RestoredClaim
   pub any-order : AnyOrderClaim
+  pub absent : AbsentClaim
   pub compare : CompareClaim
   -- demand 3: what is kept
   pub energy-rate : EnergyRateClaim
@@ -96,12 +100,15 @@ theorems =
       run-ends = run-ends;
       run-steps = run-steps;
       totals = totals;
+      write-accepted = write-accepted;
       write-then-read = round-trip;
       read = read-within;
       program = program-steps;
       output = output-fits;
       read-then-write = rewritten;
+      restored = restored-record;
       any-order = any-order;
+      absent = absent-tag;
       compare = comparison;
       energy-rate = energy-rate;
       energy = energy-zero;
