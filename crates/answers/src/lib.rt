@@ -34,6 +34,7 @@ fn refusal_numbers(refusal: Refusal) -> [u64; 8]
         Refusal::ClosedEdge { field, cell } => [5, field_number(field), cell as u64, 0, 0, 0, 0, 0],
         Refusal::Record { offset } => [7, offset as u64, 0, 0, 0, 0, 0, 0],
         Refusal::Destination => [8, 0, 0, 0, 0, 0, 0, 0],
+        Refusal::Milliseconds => [9, 0, 0, 0, 0, 0, 0, 0],
     }
 }
 
@@ -125,8 +126,8 @@ pub fn read_numbers(x: ReadAnswer) -> [u64; 8]
             parameters.w as u64,
             parameters.n as u64,
             parameters.kind as u64,
-            timestamp,
-            0,
+            timestamp.seconds,
+            timestamp.milliseconds,
             0,
             0,
         ],

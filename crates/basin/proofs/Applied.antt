@@ -16,7 +16,7 @@ use Rattle.model.specs.Answers.{number, answerNumbers}
 use Rattle.model.specs.Rates.{energyRate, enstrophyRate}
 use Rattle.model.specs.Promises.{TendenciesPromise}
 use Rattle.model.specs.declared.Refusal.{Refusal}
-use Rattle.model.specs.declared.Refusal.the-variants.{Grid, Lengths, Constants, Value, ClosedEdge, Record, Destination}
+use Rattle.model.specs.declared.Refusal.the-variants.{Grid, Lengths, Constants, Value, ClosedEdge, Record, Destination, Milliseconds}
 use Rattle.model.specs.declared.Answer.{Answer}
 use Rattle.model.specs.declared.Answer.the-variants.{Accepted, Refused}
 use Rattle.theorems.specs.Theorems.{theorems}
@@ -34,6 +34,7 @@ from-one (Value f k) = lit≤ tt
 from-one (ClosedEdge f k) = lit≤ tt
 from-one (Record k) = lit≤ tt
 from-one Destination = lit≤ tt
+from-one Milliseconds = lit≤ tt
 
 done : (a : Answer) → getD (answerNumbers a) 0 0 ≡ 0 → a ≡ Accepted
 done Accepted e = refl

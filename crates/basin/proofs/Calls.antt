@@ -11,7 +11,8 @@ use borrow.Fn.Kinds.{Dens, resT, endedOf}
 use lib.IntN.{ℤ}
 use Rattle.model.specs.State.{State, stateOf}
 use Rattle.model.specs.Promises.{TotalDepthPromise}
-use Rattle.basin.specs.FromC.{parameters, TendenciesFromC, StepFromC, RunFromC, TotalFromC, WriteFromC, ReadFromC, CompareFromC}
+use Rattle.model.specs.declared.Timestamp.{Timestamp}
+use Rattle.basin.specs.FromC.{parameters, timestamp, TendenciesFromC, StepFromC, RunFromC, TotalFromC, WriteFromC, ReadFromC, CompareFromC}
 use Rattle.basin.proofs.basin_tendencies.Kinds as tendencies-kinds
 use Rattle.basin.proofs.basin_tendencies.Reads as tendencies-reads
 use Rattle.basin.proofs.basin_step.Kinds as step-kinds
@@ -109,7 +110,7 @@ module _ (κs : Lfts 6) (a : Dens κs depth-kinds.ps) (returned : resT depth-kin
 
 pub record WriteCall : Type 0 where
   pub state : State
-  pub timestamp : ℕ
+  pub timestamp : Timestamp
   pub bytes : List ℕ
   pub bytes′ : List ℕ
   pub returned : ℕ
@@ -119,9 +120,9 @@ pub record WriteCall : Type 0 where
 module _ (κs : Lfts 6) (a : Dens κs write-kinds.ps) (returned : resT write-kinds.r κs .Denot) (e : AtExit (endedOf 6 write-kinds.ps write-kinds.r) κs) where
   abbrev pub write-call : write-reads.Learnt κs a returned e → WriteCall
   write-call told =
-      let (w, (n, (kind, (g, (c, (r, (h, (b, (u, (v, (timestamp, (bytes, (_, _))))))))))))) = a in
-      let (_, (_, (_, (_, (_, (_, (_, (_, (_, (_, (_, (bytes′, (answer′, _))))))))))))) = e in
-      record { state = stateOf (parameters w n kind g c r) (now h) (now b) (now u) (now v); timestamp = timestamp; bytes = now bytes; bytes′ = now bytes′; returned = returned; answer = now answer′; told = told }
+      let (w, (n, (kind, (g, (c, (r, (h, (b, (u, (v, (seconds, (milliseconds, (bytes, (_, _)))))))))))))) = a in
+      let (_, (_, (_, (_, (_, (_, (_, (_, (_, (_, (_, (_, (bytes′, (answer′, _)))))))))))))) = e in
+      record { state = stateOf (parameters w n kind g c r) (now h) (now b) (now u) (now v); timestamp = timestamp seconds milliseconds; bytes = now bytes; bytes′ = now bytes′; returned = returned; answer = now answer′; told = told }
 
 -- ---- `basin_read`
 

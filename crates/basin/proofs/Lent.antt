@@ -4,7 +4,7 @@ use mathlib.Core.List.{List}
 use Prim.Native.Nat.{ℕ}
 use lib.IntN.{ℤ}
 use Rattle.model.specs.State.{stateOf}
-use Rattle.model.specs.Record.{Timestamp}
+use Rattle.model.specs.declared.Timestamp.{Timestamp}
 use Rattle.model.specs.Promises.{VorticityPromise, TendenciesPromise, StepPromise, RunPromise, TotalDepthPromise, TotalEnergyPromise, WritePromise}
 use Rattle.model.specs.declared.Parameters.{Parameters}
 use Rattle.model.specs.declared.Answer.{Answer}

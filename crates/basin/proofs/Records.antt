@@ -12,12 +12,15 @@ use Prim.Native.Nat.{ℕ, _*_, _^_, _≤_, _<_}
 use lib.Dec.{T}
 use lib.IntN.{ℤ, pos}
 use lib.ListN.{length, take, getD}
+use lib.Seq.{take-length}
+use Rattle.model.specs.Numbers.{mostMilliseconds}
 use Rattle.model.specs.Answers.{writeNumbers, readNumbers, constantsIn, compareNumbers}
 use Rattle.model.specs.State.{State, stateOf, parametersOf, cells, WithinLimits}
-use Rattle.model.specs.Record.{Timestamp, recordLength, rising, Decoded, decode, accepted, refused}
+use Rattle.model.specs.Record.{recordLength, rising, restored, kept, Decoded, decode, accepted, refused}
 use Rattle.model.specs.Promises.{ReadPromise, WritePromise, ComparePromise}
-use Rattle.model.specs.Claims.{Bytes, BothAre, swapped}
+use Rattle.model.specs.Claims.{Bytes, BothAre, Later, swapped}
 use Rattle.model.specs.declared.Parameters.{Parameters}
+use Rattle.model.specs.declared.Timestamp.{Timestamp}
 use Rattle.model.specs.declared.Refusal.{Refusal}
 use Rattle.model.specs.declared.ReadAnswer.{ReadAnswer}
 use Rattle.model.specs.declared.ReadAnswer.the-variants.{Read, Refused}
@@ -27,7 +30,7 @@ use Rattle.theorems.specs.Theorems.{theorems}
 use Rattle.theorems.specs.Truth.{_⟫_}
 use Rattle.answers.specs.Told.{eight, orKept}
 use Rattle.record_read.specs.ReadRooms.{Room}
-use Rattle.basin.specs.FromC.{parameters}
+use Rattle.basin.specs.FromC.{parameters, timestamp}
 use Rattle.basin.proofs.Applied.{from-one}
 use Rattle.basin.proofs.basin_compare.Kinds as compare-kinds
 use Rattle.basin.proofs.basin_compare.Reads as compare-reads
@@ -39,18 +42,19 @@ use Rattle.basin.proofs.Calls.{WriteCall, ReadCall, CompareCall, compar
 pub record CameBack (w : WriteCall) (g : ReadCall) : Type 0 where
   pub written : w .returned ≡ 0
   pub read : g .returned ≡ 0
-  pub told : let s = w .state in g .answer ≡ 0 ∷ s .w ∷ s .n ∷ s .kind ∷ w .timestamp ∷ 0 ∷ 0 ∷ 0 ∷ []
+  pub told : let s = w .state in g .answer ≡ 0 ∷ s .w ∷ s .n ∷ s .kind ∷ w .timestamp .seconds ∷ w .timestamp .milliseconds ∷ 0 ∷ 0 ∷ []
   pub constants : let s = w .state in g .constants′ ≡ s .G ∷ s .c ∷ s .R ∷ []
   pub fields : let m = cells (w .state) in stateOf (parametersOf (w .state)) (take m (g .h′)) (take m (g .b′)) (take m (g .u′)) (take m (g .v′)) ≡ w .state
 
 pub write-then-read : (w : WriteCall) (g : ReadCall)
-    → WithinLimits (w .state) → w .timestamp < 2 ^ 64 → recordLength (w .state) ≤ length (w .bytes) → Room (cells (w .state)) (g .h) (g .b) (g .u) (g .v)
+    → WithinLimits (w .state) → w .timestamp .seconds < 2 ^ 64 → w .timestamp .milliseconds ≤ mostMilliseconds
+    → recordLength (w .state) ≤ length (w .bytes) → Room (cells (w .state)) (g .h) (g .b) (g .u) (g .v)
     → g .bytes ≡ take (recordLength (w .state)) (w .bytes′)
     → CameBack w g
-write-then-read w g l q room fit same =
+write-then-read w g l q ms room fit same =
     let s = w .state in
     let p = subst (λ bytes. ReadPromise bytes (g .h) (g .b) (g .u) (g .v) (g .told .answer) (g .h′) (g .b′) (g .u′) (g .v′)) same (g .told .promise) in
-    let y = theorems .write-then-read s (w .timestamp) (w .bytes) (w .bytes′) (w .told .answer) (g .h) (g .b) (g .u) (g .v) (g .h′) (g .b′) (g .u′) (g .v′) (g .told .answer) l q room (w .told .promise) (fit .depth) (fit .bottom) (fit .velocity-u) (fit .velocity-v) p in
+    let y = theorems .write-then-read s (w .timestamp) (w .bytes) (w .bytes′) (w .told .answer) (g .h) (g .b) (g .u) (g .v) (g .h′) (g .b′) (g .u′) (g .v′) (g .told .answer) l q ms room (w .told .promise) (fit .depth) (fit .bottom) (fit .velocity-u) (fit .velocity-v) p in
     record {
       written = w .told .told .returns ∙ ap (λ a. getD (writeNumbers a) 0 0) (y .0);
       read = g .told .told .returns ∙ ap (λ a. getD (readNumbers a) 0 0) (y .1);
@@ -61,7 +65,7 @@ write-then-read w g l q room fit same =
 
 -- ---- read, then write
 
--- the state that a read tells and leaves: w, n and kind are told after the 0, and the timestamp after these
+-- the state that a read tells and leaves: w, n and kind are told after the 0, and seconds and milliseconds after these
 abbrev pub readState : ReadCall → State
 readState g =
     let w = getD (g .answer) 1 0 in
@@ -72,7 +76,7 @@ readState g =
     stateOf (parameters w n kind (constant 0) (constant 1) (constant 2)) (take m (g .h′)) (take m (g .b′)) (take m (g .u′)) (take m (g .v′))
 
 abbrev pub readTimestamp : ReadCall → Timestamp
-readTimestamp g = getD (g .answer) 4 0
+readTimestamp g = timestamp (getD (g .answer) 4 0) (getD (g .answer) 5 0)
 
 record WasRead (g : ReadCall) : Type 0 where
   p : Parameters
@@ -91,17 +95,27 @@ was-read g z = by (g .told .answer) refl (sym (g .told .told .returns) ∙ z)
         record { p = p; t = t; answers = e; stamp = rw a; state = rw (a, k) }
     by (Refused r) e n = absurd (omega (arith, from-one r, n))
 
--- an accepted record whose tags rise: the writer makes the same bytes of what is read
+-- an accepted record: the writer makes of what is read its fields by rising tag, and zeros for each that it lacks; where its tags rise,
+-- its own bytes come first, up to the first field that it lacks
 pub read-then-write : (g : ReadCall) (w : WriteCall)
-    → Bytes (g .bytes) → T (rising (g .bytes)) → g .returned ≡ 0 → w .state ≡ readState g → w .timestamp ≡ readTimestamp g → length (g .bytes) ≤ length (w .bytes)
-    → (w .returned ≡ 0) × (take (length (g .bytes)) (w .bytes′) ≡ g .bytes)
-read-then-write g w bytes rises z state stamp room =
+    → Bytes (g .bytes) → g .returned ≡ 0 → w .state ≡ readState g → w .timestamp ≡ readTimestamp g → length (restored (g .bytes)) ≤ length (w .bytes)
+    → (w .returned ≡ 0) × (take (length (restored (g .bytes))) (w .bytes′) ≡ restored (g .bytes))
+    × (T (rising (g .bytes)) → take (kept (g .bytes)) (w .bytes′) ≡ take (kept (g .bytes)) (g .bytes))
+read-then-write g w bytes z state stamp room =
     let r = was-read g z in
     let m = r .p .w * r .p .n in
     let read = subst (λ x. ReadPromise (g .bytes) (g .h) (g .b) (g .u) (g .v) x (g .h′) (g .b′) (g .u′) (g .v′)) (r .answers) (g .told .promise) in
     let written = subst (λ s. WritePromise s (r .t) (w .bytes) (w .told .answer) (w .bytes′)) (state ∙ r .state) (subst (λ t. WritePromise (w .state) t (w .bytes) (w .told .answer) (w .bytes′)) (stamp ∙ r .stamp) (w .told .promise)) in
-    let y = theorems .read-then-write (g .bytes) (w .bytes) (w .bytes′) (g .h) (g .b) (g .u) (g .v) (g .h′) (g .b′) (g .u′) (g .v′) (r .p) (r .t) (w .told .answer) bytes rises read written room in
-    (w .told .told .returns ∙ ap (λ a. getD (writeNumbers a) 0 0) (y .0), y .1)
+    let y = theorems .read-then-write (g .bytes) (w .bytes) (w .bytes′) (g .h) (g .b) (g .u) (g .v) (g .h′) (g .b′) (g .u′) (g .v′) (r .p) (r .t) (w .told .answer) bytes read written room in
+    (w .told .told .returns ∙ ap (λ a. getD (writeNumbers a) 0 0) (y .0), y .1, y .2)
+
+-- so all bytes of a record come back whose tags rise, with tag 8 and without it
+pub own-bytes-return : (g : ReadCall) (w : WriteCall)
+    → Bytes (g .bytes) → T (rising (g .bytes)) → g .returned ≡ 0 → w .state ≡ readState g → w .timestamp ≡ readTimestamp g → length (restored (g .bytes)) ≤ length (w .bytes)
+    → take (length (g .bytes)) (w .bytes′) ≡ g .bytes
+own-bytes-return g w bytes rises z state stamp room =
+    let e = theorems .restored .kept (g .bytes) bytes rises in
+    ap (λ k. take k (w .bytes′)) (sym e) ∙ read-then-write g w bytes z state stamp room .2 rises ∙ ap (λ k. take k (g .bytes)) e ∙ take-length (g .bytes)
 
 -- ---- comparison
 
@@ -142,8 +156,8 @@ accepted-not-refused e f = omega (arith, ap refusals (sym e ∙ f))
 -- two accepted records: 1 exactly where the first has the later timestamp, 2 where the second has, 3 where they have one and differ
 pub record Ordered (c : CompareCall) (s t : State) (x y : Timestamp) : Type 0 where
   pub returns : c .returned ≡ 0
-  pub first-newer : (result c ≡ 1) ↔ (y < x)
-  pub second-newer : (result c ≡ 2) ↔ (x < y)
+  pub first-newer : (result c ≡ 1) ↔ Later x y
+  pub second-newer : (result c ≡ 2) ↔ Later y x
   pub conflict : (result c ≡ 3) ↔ ((x ≡ y) × (s ≡ t → ⊥))
 
 -- the answers apart
@@ -182,7 +196,7 @@ pub record Swapped (c d : CompareCall) : Type 0 where
   pub both : (c .returned ≡ 0) × (d .returned ≡ 0)
   pub results : ((result c ≡ 0) × (result d ≡ 0)) ⊎ ((result c ≡ 1) × (result d ≡ 2)) ⊎ ((result c ≡ 2) × (result d ≡ 1)) ⊎ ((result c ≡ 3) × (result d ≡ 3))
 
-pub swapped-result : (c d : CompareCall) → d .first ≡ c .second → d .second ≡ c .first → {s t : State} {i j : ℕ}
+pub swapped-result : (c d : CompareCall) → d .first ≡ c .second → d .second ≡ c .first → {s t : State} {i j : Timestamp}
     → decode (c .first) [] ≡ accepted s i → decode (c .second) [] ≡ accepted t j → Swapped c d
 swapped-result c d p q {s} {t} {i} {j} one two =
     let back = subst (λ l. ComparePromise l (c .first) (d .told .answer)) p (subst (λ l. ComparePromise (d .first) l (d .told .answer)) q (d .told .promise)) in

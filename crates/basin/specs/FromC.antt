@@ -8,9 +8,9 @@ use lib.ListN.{getD}
 use Rattle.model.specs.Numbers.{_to_, within, rnd}
 use Rattle.model.specs.State.{State}
 use Rattle.model.specs.Answers.{answerNumbers, stepNumbers, runNumbers, totalNumbers, totalIn, writeNumbers, readNumbers, constantsIn, compareNumbers}
-use Rattle.model.specs.Record.{Timestamp}
 use Rattle.model.specs.Promises.{VorticityPromise, TendenciesPromise, StepPromise, RunPromise, WritePromise, ReadPromise, ComparePromise}
 use Rattle.model.specs.declared.Parameters.{Parameters}
+use Rattle.model.specs.declared.Timestamp.{Timestamp}
 use Rattle.model.specs.declared.Answer.{Answer}
 use Rattle.model.specs.declared.StepAnswer.{StepAnswer}
 use Rattle.model.specs.declared.RunAnswer.{RunAnswer}
@@ -57,6 +57,10 @@ pub record TotalFromC (promised : TotalAnswer → Type 0) (total total′ : ℤ)
 
 -- ---- the record
 
+-- the timestamp, from the two numbers that the writer takes for it
+abbrev pub timestamp : (seconds milliseconds : ℕ) → Timestamp
+timestamp s ms = record { seconds = s; milliseconds = ms }
+
 pub record WriteFromC (s : State) (t : Timestamp) (d d′ : List ℕ) (k : ℕ) (exit : List ℕ) : Type 0 where
   pub answer : WriteAnswer
   pub promise : WritePromise s t d answer d′
@@ -86,6 +90,6 @@ pub record Rounded (a b entry : ℤ) (k : ℕ) (exit : ℤ) : Type 0 where
 
 -- ---- version
 
--- 0.3.0
+-- 0.4.0
 abbrev pub version : ℕ
-version = 300
+version = 400

@@ -10,6 +10,7 @@ ghost use Rattle.basin.specs.FromC.{VorticityFromC, TendenciesFromC, Ste
 ghost use Rattle.basin.specs.FromC.{ReadFromC, CompareFromC, roundable, Rounded, version};
 use integers::Range;
 use model::Parameters;
+use model::Timestamp;
 
 // The parameters of a state, from the six numbers that a C function takes for them.
 fn parameters(w: usize, n: usize, kind: u8, g: i64, c: i64, r: i64) -> Parameters
@@ -200,8 +201,8 @@ pub extern "C" fn basin_total_energy(
 
 // ---- the record
 
-// Each is the proved call, its answer told in eight numbers: the writer's with the number of bytes; the reader's with w, n, kind and the
-// timestamp, while G, c and R, which have a sign, go into three lent numbers, which a refusal leaves; the comparison's with 0 same,
+// Each is the proved call, its answer told in eight numbers: the writer's with the number of bytes; the reader's with w, n, kind, seconds
+// and milliseconds, while G, c and R, which have a sign, go into three lent numbers, which a refusal leaves; the comparison's with 0 same,
 // 1 first newer, 2 second newer, 3 conflict, or which record is refused. They rule out, for instance: the fields of a record swapped;
 // the records swapped; G told in the place of c.
 
@@ -217,16 +218,21 @@ pub extern "C" fn basin_write(
     b: &[i64],
     u: &[i64],
     v: &[i64],
-    timestamp: u64,
+    seconds: u64,
+    milliseconds: u64,
     record: &mut [u8],
     answer: &mut [u64; 8],
 ) -> u64
     ensures { λ k. ⌜
-        WriteFromC (before (FromC.parameters w n kind g c r) h b u v) timestamp (now («record» .entry))
-        (now («record» .exit)) k (now (answer .exit))
+        WriteFromC (before (FromC.parameters w n kind g c r) h b u v) (FromC.timestamp seconds milliseconds)
+        (now («record» .entry)) (now («record» .exit)) k (now (answer .exit))
         ⌝ }
 {
     let p = parameters(w, n, kind, g, c, r);
+    let timestamp = Timestamp {
+        seconds,
+        milliseconds,
+    };
     let x = record_write::write(p, h, b, u, v, timestamp, record);
     answers::tell(answer, answers::write_numbers(x))
 }
@@ -298,5 +304,5 @@ pub extern "C" fn basin_rnd(a: i64, b: i64, rounded: &mut i64) -> u64
 pub extern "C" fn basin_version() -> u64
     ensures { λ k. ⌜ k ≡ version ⌝ }
 {
-    300
+    400
 }

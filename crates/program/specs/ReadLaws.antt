@@ -18,6 +18,7 @@ use Rattle.model.specs.Record.{Decoded, accepted, refused, decode}
 use Rattle.model.specs.Promises.{readAnswer, readInto, readOf, ReadPromise}
 use Rattle.model.specs.Program.{Printed, refusedLine, stepLines, steppedLines, inputLimit, programRead, programCells, programWork, outputRoom, programOutput, ProgramLeaves, ProgramPromise}
 use Rattle.model.specs.declared.Parameters.{Parameters}
+use Rattle.model.specs.declared.Timestamp.{Timestamp}
 use Rattle.model.specs.declared.Refusal.{Refusal}
 use Rattle.model.specs.declared.Refusal.the-variants.{Record}
 use Rattle.model.specs.declared.ReadAnswer.{ReadAnswer}
@@ -73,7 +74,7 @@ module _ (s : State) (l : WithinLimits s) (h b u v : List ℤ) {h′ b′ u′ v
       λ i. stateOf (parametersOf s) (ph i) (pb i) (pu i) (pv i)
 
   -- so a step of it is the program's
-  stepped-whole : {inflow work : List ℤ} {out : List ℕ} {r : ℕ} {h₂ u₂ v₂ work′ : List ℤ} {out′ : List ℕ} (t : ℕ)
+  stepped-whole : {inflow work : List ℤ} {out : List ℕ} {r : ℕ} {h₂ u₂ v₂ work′ : List ℤ} {out′ : List ℕ} (t : Timestamp)
       → SteppedParts (parametersOf s) h′ b′ u′ v′ inflow work out r h₂ u₂ v₂ work′ out′ → ProgramLeaves (accepted s t) h b u v inflow work out r h₂ b′ u₂ v₂ work′ out′
   stepped-whole {inflow} {work} {out} {r} {out′ = out′} t z =
       let i = take (cells s) inflow in
@@ -93,7 +94,7 @@ module _ {input : List ℕ} {h b u v : List ℤ} {a : ReadAnswer} {h′ b′ u�
   rooms = length h ∷ length b ∷ length u ∷ length v ∷ []
 
   -- an accepted record's state may be stepped
-  pub read-ready : {p : Parameters} {t : ℕ} → a ≡ Read p t → Ready p h′ b′ u′ v′
+  pub read-ready : {p : Parameters} {t : Timestamp} → a ≡ Read p t → Ready p h′ b′ u′ v′
   read-ready {p} {t} e =
       let l = read-within input h b u v h′ b′ u′ v′ p t (subst (λ x. ReadPromise input h b u v x h′ b′ u′ v′) e q) in
       record {
@@ -128,7 +129,7 @@ module _ {input : List ℕ} {h b u v : List ℤ} {a : ReadAnswer} {h′ b′ u�
         → ProgramPromise input h b u v inflow work out r h′ b′ u′ v′ work out′
     program-refused l e m z = subst (λ x. ProgramLeaves x h b u v inflow work out r h′ b′ u′ v′ work out′) (sym (shortly l)) (refused-by (readOf input h b u v) refl e m z)
 
-    module _ {p : Parameters} {t : ℕ} {h₂ u₂ v₂ work′ : List ℤ} where
+    module _ {p : Parameters} {t : Timestamp} {h₂ u₂ v₂ work′ : List ℤ} where
       stepped-by : (x : Decoded) → readOf input h b u v ≡ x → a ≡ Read p t → SteppedParts p h′ b′ u′ v′ inflow work out r h₂ u₂ v₂ work′ out′
           → ProgramLeaves x h b u v inflow work out r h₂ b′ u₂ v₂ work′ out′
       unfolding readOf

@@ -65,4 +65,4 @@ pub row-more : (m : ℕ) (parts : List Part) (t : ℕ) → 1 ≤ t → t ≤ las
     → bytesTests m parts (take (t - 1) tagTable) ++ bytesTest m (valueOf t parts) (sizeIn tagTable t) ≡ bytesTests m parts (take t tagTable)
 row-more m parts =
     each-tag (λ t. bytesTests m parts (take (t - 1) tagTable) ++ bytesTest m (valueOf t parts) (sizeIn tagTable t) ≡ bytesTests m parts (take t tagTable))
-    (refl, (refl, (refl, (refl, (refl, (refl, (refl, tt)))))))
+    (refl, (refl, (refl, (refl, (refl, (refl, (refl, (refl, tt))))))))

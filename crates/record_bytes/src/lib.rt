@@ -181,7 +181,10 @@ pub enum TagSize {
 }
 
 // Tags are 1 to this one.
-pub const LAST_TAG: usize = 7;
+pub const LAST_TAG: usize = 8;
+
+// Of these a record must have 1 to this one.
+pub const LAST_REQUIRED: usize = 7;
 
 // The table, which writer and reader share; no other tag gets as far as its size. It rules out, for instance: a timestamp of nine
 // bytes; bottom heights of two bytes a cell.
@@ -196,6 +199,7 @@ pub fn tag_size(tag: usize) -> TagSize
         5 => TagSize::PerCell(4),
         6 => TagSize::PerCell(2),
         7 => TagSize::PerCell(2),
+        8 => TagSize::Fixed(2),
         _ => TagSize::PerCell(0),
     }
 }

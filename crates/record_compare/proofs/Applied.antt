@@ -8,9 +8,10 @@ use denote.Ref.{now}
 use denote.Triple.Clauses.{AtExit}
 use borrow.Fn.Kinds.{Dens, resT, endedOf}
 use Rattle.model.specs.State.{State}
-use Rattle.model.specs.Record.{Timestamp, decode, accepted}
+use Rattle.model.specs.Record.{decode, accepted}
 use Rattle.model.specs.Promises.{ComparePromise}
 use Rattle.model.specs.Claims.{BothAre, swapped}
+use Rattle.model.specs.declared.Timestamp.{Timestamp}
 use Rattle.model.specs.declared.CompareAnswer.{CompareAnswer}
 use Rattle.model.specs.declared.CompareAnswer.the-variants.{Same}
 use Rattle.theorems.specs.Theorems.{theorems}

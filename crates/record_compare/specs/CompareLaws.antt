@@ -1,14 +1,17 @@
 -- What the comparison of two records answers, by what is found in each. Assumes nothing.
-use mathlib.Core.Path.{_≡_, sym, ap, ap₂, _∙_}
-use mathlib.Core.Bool.{Bool, cond}
+use mathlib.Core.Path.{_≡_, refl, sym, ap, ap₂, _∙_}
+use mathlib.Core.Bool.{Bool, true, false, cond, _&&_, _||_}
 use mathlib.Core.List.{List, []}
-use Prim.Native.Nat.{ℕ, _≤_, _<_}
-use borrow.Author.Tests.{lt-ltb, le-ltb, le-leb}
+use Prim.Native.Nat.{ℕ, _≤_}
+use native.Mathlib.Nat.{le-refl}
+use lib.Dec.{ltb}
+use borrow.Author.Tests.{le-leb, le-ltb, eq-eqb, ne-eqb}
 use Rattle.grid.specs.Cells.{cells-most}
 use Rattle.model.specs.State.{parametersOf, cells}
-use Rattle.model.specs.Record.{timestampIn, judged, accepted, refused, decode, sameState, compared, compareBy, compareAnswer}
+use Rattle.model.specs.Record.{timestampIn, judged, accepted, refused, decode, newer, sameState, compared, compareBy, compareAnswer}
 use Rattle.model.specs.Answers.{toldCompare}
 use Rattle.model.specs.Promises.{ComparePromise}
+use Rattle.model.specs.declared.Timestamp.{Timestamp}
 use Rattle.model.specs.declared.Refusal.{Refusal}
 use Rattle.model.specs.declared.CompareAnswer.{CompareAnswer}
 use Rattle.model.specs.declared.CompareAnswer.the-variants.{Same, FirstNewer, SecondNewer, Conflict, FirstRefused, SecondRefused}
@@ -18,29 +21,46 @@ use Rattle.record_tests.specs.RecordTested.{stateRead, Accepted}
 use Rattle.record_tests.proofs.OrderLaws.{decoded, rooms-alike}
 use Rattle.record_compare.specs.Read.{rooms, BothRead, comparedRead}
 
+-- ---- the newer of two timestamps
+
+-- of one second the milliseconds tell, and else the seconds
+pub newer-level : (a b : Timestamp) → a .seconds ≡ b .seconds → ltb (b .milliseconds) (a .milliseconds) ≡ newer a b
+unfolding newer
+newer-level a b e =
+    let l : b .seconds ≤ b .seconds = le-refl (b .seconds) in
+    sym (rw (e, le-ltb (b .seconds) (b .seconds) l, eq-eqb (b .seconds) (b .seconds) refl))
+
+pub newer-apart : (a b : Timestamp) → (a .seconds ≡ b .seconds → ⊥) → ltb (b .seconds) (a .seconds) ≡ newer a b
+unfolding newer
+newer-apart a b n = sym (ap (λ x. ltb (b .seconds) (a .seconds) || (x && ltb (b .milliseconds) (a .milliseconds))) (ne-eqb (b .seconds) (a .seconds) (λ e. n (sym e))) ∙ or-false (ltb (b .seconds) (a .seconds)))
+  where
+    or-false : (x : Bool) → x || false ≡ x
+    or-false true = refl
+    or-false false = refl
+
 -- ---- two accepted records, by the tests in order
 
--- what was read of tag 3 in both
-pub record Timestamps (first second : List ℕ) (a b : ℕ) : Type 0 where
+-- what was read of the timestamps of both
+pub record Timestamps (first second : List ℕ) (a b : Timestamp) : Type 0 where
   pub in-first : a ≡ timestampIn (partsIn first)
   pub in-second : b ≡ timestampIn (partsIn second)
 
-module _ {first second : List ℕ} {a b : ℕ} (t : Timestamps first second a b) where
+module _ {first second : List ℕ} {a b : Timestamp} (t : Timestamps first second a b) where
   by-timestamps : comparedRead first second ≡ compared (stateRead first) a (stateRead second) b
   by-timestamps = ap₂ (λ a b. compared (stateRead first) a (stateRead second) b) (sym (t .in-first)) (sym (t .in-second))
 
-  pub first-newer : b < a → FirstNewer ≡ comparedRead first second
+  pub first-newer : newer a b ≡ true → FirstNewer ≡ comparedRead first second
   unfolding compared
-  first-newer l = sym (by-timestamps ∙ rw (lt-ltb b a l))
+  first-newer l = sym (by-timestamps ∙ rw l)
 
-  module _ (l : a ≤ b) where
-    pub second-newer : a < b → SecondNewer ≡ comparedRead first second
+  module _ (l : newer a b ≡ false) where
+    pub second-newer : newer b a ≡ true → SecondNewer ≡ comparedRead first second
     unfolding compared
-    second-newer h = sym (by-timestamps ∙ rw (le-ltb b a l, lt-ltb a b h))
+    second-newer h = sym (by-timestamps ∙ rw (l, h))
 
-    pub by-states : b ≤ a → {same : Bool} → same ≡ sameState (stateRead first) (stateRead second) → cond same Same Conflict ≡ comparedRead first second
+    pub by-states : newer b a ≡ false → {same : Bool} → same ≡ sameState (stateRead first) (stateRead second) → cond same Same Conflict ≡ comparedRead first second
     unfolding compared
-    by-states h e = sym (by-timestamps ∙ rw (le-ltb b a l, le-ltb a b h, ← e))
+    by-states h e = sym (by-timestamps ∙ rw (l, h, ← e))
 
 -- ---- no destination is lent: a known grid has at most 4096 cells, and an unknown one is refused before the room is tested
 

@@ -1,25 +1,23 @@
--- Two accepted records have the same state exactly where each tag but 3 has the same bytes in both. Assumes nothing.
+-- Two accepted records have the same state exactly where each tag that is required, but for 3, has the same bytes in both. Assumes nothing.
 use mathlib.Core.Path.{_≡_, refl, sym, ap, subst, _∙_}
 use mathlib.Core.Bool.{Bool, true, false}
 use mathlib.Core.List.{List}
 use Prim.Native.Nat.{ℕ, _+_, _*_, _≤_, _<_}
 use native.Mathlib.Omega.{arith}
 use lib.Dec.{T, eqb, eqb→eq, eqb-refl}
-use lib.ListN.{length, take, drop, getD, length-drop}
-use lib.Seq.{length-take-le}
-use mir.Syntax.{w16, w32}
+use lib.ListN.{take, drop, getD}
 use borrow.Author.Count.{below-more}
-use borrow.Author.Tests.{eqb-true}
 use Rattle.model.specs.Numbers.{sameBy}
-use Rattle.model.specs.State.{cells}
-use Rattle.model.specs.Record.{Part, valueOf, sizeAt, rightSize, partsOf, signed2, signed4, numbers, stateIn, sameState}
+use Rattle.model.specs.State.{State}
+use Rattle.model.specs.Record.{valueOf, partsOf, signed2, signed4, numbers, stateIn, timestampIn, sameState}
+use Rattle.model.specs.declared.Timestamp.{Timestamp}
 use Rattle.theorems.specs.Truth.{T-true, true-T, same-by, by-same}
-use Rattle.theorems.specs.NumbersAsBytes.{AllBytes, bytes-take, bytes-drop, put-numbers}
-use Rattle.theorems.specs.TagLaws.{each-tag}
+use Rattle.theorems.specs.Walks.{whole-record}
+use Rattle.theorems.specs.TagLaws.{lastRequired, each-required, required-known, there}
+use Rattle.theorems.specs.Damage.{whole-iff}
 use Rattle.theorems.specs.RoundTrip.{fields-iff}
-use Rattle.theorems.specs.Rewrite.{three, all-bytes}
+use Rattle.theorems.specs.Written.{all-bytes, as-written}
 use Rattle.theorems.specs.Comparing.{same-state, same-self}
-use Rattle.record_bytes.specs.TagSizes.{lastTag}
 use Rattle.record_tags.specs.Places.{partsIn}
 use Rattle.record_tests.specs.RecordTested.{stateRead, Accepted}
 use Rattle.record_compare.specs.Read.{rooms, BothRead}
@@ -38,53 +36,33 @@ lists-differ a b n = not-so (sameBy eqb a b) (λ t. n (same-by eqb eqb→eq a b 
 
 -- ---- the state tells the values: they are what the writer makes of it
 
--- a value of tag t that the walk has seen
-record Plain (t : ℕ) (value : List ℕ) : Type 0 where
-  sized : rightSize t (length value) ≡ true
-  plain : AllBytes value
+-- of a state alone, whatever the timestamp, since 3 is left out
+by-state : (s : State) (x y : Timestamp) (t : ℕ) → 1 ≤ t → t ≤ lastRequired → (t ≡ 3 → ⊥) → valueOf t (partsOf s x) ≡ valueOf t (partsOf s y)
+unfolding partsOf
+by-state s x y = each-required (λ t. (t ≡ 3 → ⊥) → valueOf t (partsOf s x) ≡ valueOf t (partsOf s y))
+    (λ o. refl, (λ o. refl, (λ o. absurd (o refl), (λ o. refl, (λ o. refl, (λ o. refl, (λ o. refl, tt)))))))
 
 module _ {rec at : List ℕ} (bytes : (k : ℕ) → getD rec k 0 < 256) (a : Accepted rec at rooms) where
-  abbrev parts : List Part
-  parts = partsIn rec
-
-  plain-value : (t : ℕ) → 1 ≤ t → t ≤ lastTag → Plain t (valueOf t parts)
-  plain-value t l h =
-      let k = getD at t 0 in
-      let n = sizeAt rec k in
-      let s = a .placed .stands t l h in
-      let i = s .inside in
-      subst (Plain t) (sym (s .value))
-      (record {
-        sized = ap (rightSize t) (length-take-le n (drop (k + 3) rec) (rw (length-drop (k + 3) rec) (omega arith))) ∙ s .sized;
-        plain = bytes-take n (drop (k + 3) rec) (bytes-drop (k + 3) rec (all-bytes rec bytes));
-      })
-
-  -- 0 stands for any timestamp, since 3 is left out
-  abbrev Told : ℕ → Type 0
-  Told t = Plain t (valueOf t parts) → (t ≡ 3 → ⊥) → valueOf t parts ≡ valueOf t (partsOf (stateRead rec) 0)
-
-  as-written : (t : ℕ) → 1 ≤ t → t ≤ lastTag → (t ≡ 3 → ⊥) → valueOf t parts ≡ valueOf t (partsOf (stateRead rec) 0)
-  unfolding stateRead stateIn partsOf
-  as-written t l h =
-      let m = cells (stateIn parts) in
-      let long = fields-iff parts rooms .0 (a .passes) .0 in
-      let grid : Told 1 = λ v o. sym (three (valueOf 1 parts) (eqb-true _ 3 (v .sized))) in
-      let constants : Told 2 = λ v o. sym (put-numbers 4 w32 refl 3 (valueOf 2 parts) (eqb-true _ 12 (v .sized)) (v .plain)) in
-      let timestamp : Told 3 = λ v o. absurd (o refl) in
-      let depths : Told 4 = λ v o. sym (put-numbers 4 w32 refl m (valueOf 4 parts) (long .0) (v .plain)) in
-      let bottoms : Told 5 = λ v o. sym (put-numbers 4 w32 refl m (valueOf 5 parts) (long .1) (v .plain)) in
-      let us : Told 6 = λ v o. sym (put-numbers 2 w16 refl m (valueOf 6 parts) (long .2) (v .plain)) in
-      let vs : Told 7 = λ v o. sym (put-numbers 2 w16 refl m (valueOf 7 parts) (long .3) (v .plain)) in
-      each-tag Told (grid, (constants, (timestamp, (depths, (bottoms, (us, (vs, tt))))))) t l h (plain-value t l h)
+  told : (t : ℕ) → 1 ≤ t → t ≤ lastRequired → valueOf t (partsIn rec) ≡ valueOf t (partsOf (stateRead rec) (timestampIn (partsIn rec)))
+  unfolding stateRead
+  told t l h =
+      let parts = partsIn rec in
+      let w = whole-iff rec parts .0 (a .placed .walks) in
+      let each = whole-record rec (all-bytes rec bytes) parts (a .placed .walks) .each in
+      as-written parts (w .1) each (fields-iff parts rooms .0 (a .passes) .0) t (there parts (w .1) t l h) (required-known t l h)
 
 -- so a tag whose value differs tells two states apart
 pub other-read : {first p second q : List ℕ} → ((k : ℕ) → getD first k 0 < 256) → ((k : ℕ) → getD second k 0 < 256) → BothRead first p second q
-    → (t : ℕ) → 1 ≤ t → t ≤ lastTag → (t ≡ 3 → ⊥) → sameBy eqb (valueOf t (partsIn first)) (valueOf t (partsIn second)) ≡ false
+    → (t : ℕ) → 1 ≤ t → t ≤ lastRequired → (t ≡ 3 → ⊥) → sameBy eqb (valueOf t (partsIn first)) (valueOf t (partsIn second)) ≡ false
     → false ≡ sameState (stateRead first) (stateRead second)
 other-read {first} {p} {second} {q} f s r t l h o e =
     not-so (sameState (stateRead first) (stateRead second)) (λ x.
     let same = same-state (stateRead first) (stateRead second) x in
-    let value = as-written f (r .first-read) t l h o ∙ ap (λ s. valueOf t (partsOf s 0)) same ∙ sym (as-written s (r .second-read) t l h o) in
+    let x = timestampIn (partsIn first) in
+    let y = timestampIn (partsIn second) in
+    let value =
+    told f (r .first-read) t l h ∙ ap (λ s. valueOf t (partsOf s x)) same ∙ by-state (stateRead second) x y t l h o
+    ∙ sym (told s (r .second-read) t l h) in
     subst T (lists-same value ∙ e) tt)
 
 -- ---- the values tell the state
@@ -105,7 +83,7 @@ module _ {first second : List ℕ} where
   }
 
   -- all of them have
-  state-same : {m : ℕ} → SameTo first second m → lastTag < m → stateRead first ≡ stateRead second
+  state-same : {m : ℕ} → SameTo first second m → lastRequired < m → stateRead first ≡ stateRead second
   unfolding stateRead stateIn
   state-same s h =
       let e1 = s .each 1 (omega arith) (omega arith) (λ e. omega arith) in
@@ -127,5 +105,5 @@ module _ {first second : List ℕ} where
         v = numbers signed2 2 (getD (e1 i) 0 0 * getD (e1 i) 1 0) (e7 i);
       }
 
-  pub same-read : {m : ℕ} → SameTo first second m → lastTag < m → true ≡ sameState (stateRead first) (stateRead second)
+  pub same-read : {m : ℕ} → SameTo first second m → lastRequired < m → true ≡ sameState (stateRead first) (stateRead second)
   same-read s h = sym (ap (sameState (stateRead first)) (sym (state-same s h)) ∙ T-true _ (same-self (stateRead first)))

@@ -3,7 +3,7 @@ ghost use mathlib.Core.Path.{_≡_};
 ghost use Prim.Native.Nat.{_≤_};
 ghost use lib.Dec.{eqb};
 ghost use Rattle.model.specs.Numbers.{sameBy};
-ghost use Rattle.model.specs.Record.{valueOf, sameState};
+ghost use Rattle.model.specs.Record.{valueOf, newer, sameState};
 ghost use Rattle.model.specs.Promises.{ComparePromise};
 ghost use Rattle.record_bytes.specs.TagSizes.{lastTag};
 ghost use Rattle.record_tags.specs.Places.{partsIn, Placed};
@@ -11,6 +11,7 @@ ghost use Rattle.record_tests.specs.RecordTested.{stateRead};
 ghost use Rattle.record_compare.specs.Read.{BothRead, comparedRead};
 use model::Answer;
 use model::CompareAnswer;
+use model::Timestamp;
 use record_tags::Places;
 
 // Whether two slices have the same bytes.
@@ -48,8 +49,8 @@ fn same_state(first: &[u8], p: &Places, second: &[u8], q: &Places) -> bool
     requires { ⌜ BothRead (now first) (now p) (now second) (now q) ⌝ }
     ensures { λ r. ⌜ r ≡ sameState (stateRead (now (first .entry))) (stateRead (now (second .entry))) ⌝ }
 {
-    for tag in 1..=record_bytes::LAST_TAG {
-        // the timestamp is no part of the state
+    // tags 3 and 8, the timestamp, are no part of the state
+    for tag in 1..=record_bytes::LAST_REQUIRED {
         if tag != 3 {
             if !same_value(first, p, second, q, tag) {
                 return false;
@@ -59,6 +60,16 @@ fn same_state(first: &[u8], p: &Places, second: &[u8], q: &Places) -> bool
     true
 }
 
+// Whether a timestamp is newer than another: by second, then millisecond. Never by one number of milliseconds, which need not fit.
+fn is_newer(a: Timestamp, b: Timestamp) -> bool
+    ensures { λ r. ⌜ r ≡ newer a b ⌝ }
+{
+    if a.seconds == b.seconds {
+        return b.milliseconds < a.milliseconds;
+    }
+    b.seconds < a.seconds
+}
+
 // Two accepted records: the newer timestamp tells; under one timestamp the states do.
 fn compare_read(first: &[u8], p: &Places, second: &[u8], q: &Places) -> CompareAnswer
     requires { ⌜ BothRead (now first) (now p) (now second) (now q) ⌝ }
@@ -66,10 +77,10 @@ fn compare_read(first: &[u8], p: &Places, second: &[u8], q: &Places) -> CompareA
 {
     let a = record_tests::timestamp_in(first, p);
     let b = record_tests::timestamp_in(second, q);
-    if b < a {
+    if is_newer(a, b) {
         return CompareAnswer::FirstNewer;
     }
-    if a < b {
+    if is_newer(b, a) {
         return CompareAnswer::SecondNewer;
     }
     if same_state(first, p, second, q) {
@@ -79,8 +90,8 @@ fn compare_read(first: &[u8], p: &Places, second: &[u8], q: &Places) -> CompareA
 }
 
 // Two records compared (01: same, first newer, second newer, clash): the first is tested wholly, then the second. Refusals: 7, 1, 2, 3,
-// 4, 5, of the first or of the second. It rules out, for instance: an answer by timestamp before the second record is tested; same
-// where only the states are the same.
+// 9, 4, 5, of the first or of the second. It rules out, for instance: an answer by timestamp before the second record is tested; same
+// where only the states are the same; a conflict where the milliseconds differ.
 pub fn compare(first: &[u8], second: &[u8]) -> CompareAnswer
     ensures { λ r. ⌜ ComparePromise (now (first .entry)) (now (second .entry)) r ⌝ }
 {

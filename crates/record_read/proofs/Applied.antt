@@ -1,5 +1,5 @@
 -- The round trips speak of this code, by calls of `write` and `read` (Calls). Assumes nothing.
-use mathlib.Core.Path.{_≡_, subst}
+use mathlib.Core.Path.{_≡_, sym, ap, subst, _∙_}
 use Prim.Native.Nat.{_*_, _^_, _≤_, _<_}
 use contract.Lifetimes.{Lfts}
 use denote.Ref.{now}
@@ -7,11 +7,14 @@ use denote.Triple.Clauses.{AtExit}
 use borrow.Fn.Kinds.{Dens, resT, endedOf}
 use lib.Dec.{T}
 use lib.ListN.{length, take}
+use lib.Seq.{take-length}
 use Rattle.model.specs.State.{State, stateOf, parametersOf, cells, WithinLimits}
-use Rattle.model.specs.Record.{Timestamp, recordLength, rising}
+use Rattle.model.specs.Numbers.{mostMilliseconds}
+use Rattle.model.specs.Record.{recordLength, rising, restored, kept}
 use Rattle.model.specs.Promises.{WritePromise, ReadPromise}
 use Rattle.model.specs.Claims.{Bytes}
 use Rattle.model.specs.declared.Parameters.{Parameters}
+use Rattle.model.specs.declared.Timestamp.{Timestamp}
 use Rattle.model.specs.declared.ReadAnswer.the-variants.{Read}
 use Rattle.model.specs.declared.WriteAnswer.the-variants.{Written}
 use Rattle.theorems.specs.Theorems.{theorems}
@@ -37,20 +40,31 @@ read-is-within g {p} {t} e = theorems .read (g .rec) _ _ _ _ _ _ _ _ p t (accept
 
 -- a state within the limits that is written, and what was written read into fields that have room: the same state and timestamp
 pub write-then-read : (w : WriteCall) (g : ReadCall)
-    → WithinLimits (w .state) → w .timestamp < 2 ^ 64 → recordLength (w .state) ≤ length (w .d) → Room (cells (w .state)) (g .h) (g .b) (g .u) (g .v)
+    → WithinLimits (w .state) → w .timestamp .seconds < 2 ^ 64 → w .timestamp .milliseconds ≤ mostMilliseconds
+    → recordLength (w .state) ≤ length (w .d) → Room (cells (w .state)) (g .h) (g .b) (g .u) (g .v)
     → g .rec ≡ take (recordLength (w .state)) (w .d′)
     → (w .answer ≡ Written (recordLength (w .state))) × (g .answer ≡ Read (parametersOf (w .state)) (w .timestamp)) × (left g (parametersOf (w .state)) ≡ w .state)
-write-then-read w g l t room fit q =
-    theorems .write-then-read (w .state) (w .timestamp) (w .d) (w .d′) (w .answer) _ _ _ _ _ _ _ _ (g .answer) l t room (w .promise) (fit .depth) (fit .bottom) (fit .velocity-u) (fit .velocity-v)
+write-then-read w g l t ms room fit q =
+    theorems .write-then-read (w .state) (w .timestamp) (w .d) (w .d′) (w .answer) _ _ _ _ _ _ _ _ (g .answer) l t ms room (w .promise) (fit .depth) (fit .bottom) (fit .velocity-u) (fit .velocity-v)
     (subst (λ r. ReadPromise r (g .h) (g .b) (g .u) (g .v) (g .answer) (g .h′) (g .b′) (g .u′) (g .v′)) q (g .promise))
 
--- an accepted record whose tags rise, and what was read of it written again: the same bytes
+-- an accepted record, and what was read of it written again: its fields by rising tag, and zeros for each that it lacks; where its tags
+-- rise, its own bytes up to the first field that it lacks
 pub read-then-write : (g : ReadCall) (w : WriteCall) {p : Parameters} {t : Timestamp}
-    → Bytes (g .rec) → T (rising (g .rec)) → g .answer ≡ Read p t → w .state ≡ left g p → w .timestamp ≡ t → length (g .rec) ≤ length (w .d)
-    → (w .answer ≡ Written (length (g .rec))) × (take (length (g .rec)) (w .d′) ≡ g .rec)
-read-then-write g w {p} {t} bytes rises q same time room =
-    theorems .read-then-write (g .rec) (w .d) (w .d′) _ _ _ _ _ _ _ _ p t (w .answer) bytes rises (accepted-read g q)
+    → Bytes (g .rec) → g .answer ≡ Read p t → w .state ≡ left g p → w .timestamp ≡ t → length (restored (g .rec)) ≤ length (w .d)
+    → (w .answer ≡ Written (length (restored (g .rec)))) × (take (length (restored (g .rec))) (w .d′) ≡ restored (g .rec))
+    × (T (rising (g .rec)) → take (kept (g .rec)) (w .d′) ≡ take (kept (g .rec)) (g .rec))
+read-then-write g w {p} {t} bytes q same time room =
+    theorems .read-then-write (g .rec) (w .d) (w .d′) _ _ _ _ _ _ _ _ p t (w .answer) bytes (accepted-read g q)
     (subst (λ x. WritePromise (left g p) x (w .d) (w .answer) (w .d′)) time (subst (λ s. WritePromise s (w .timestamp) (w .d) (w .answer) (w .d′)) same (w .promise))) room
+
+-- so all bytes of a record come back whose tags rise, with tag 8 and without it
+pub own-bytes-return : (g : ReadCall) (w : WriteCall) {p : Parameters} {t : Timestamp}
+    → Bytes (g .rec) → T (rising (g .rec)) → g .answer ≡ Read p t → w .state ≡ left g p → w .timestamp ≡ t → length (restored (g .rec)) ≤ length (w .d)
+    → take (length (g .rec)) (w .d′) ≡ g .rec
+own-bytes-return g w bytes rises q same time room =
+    let e = theorems .restored .kept (g .rec) bytes rises in
+    ap (λ k. take k (w .d′)) (sym e) ∙ read-then-write g w bytes q same time room .2 rises ∙ ap (λ k. take k (g .rec)) e ∙ take-length (g .rec)
 
 -- ---- the same of the code itself: from what a caller learns of a call, of its own parameters
 

@@ -10,8 +10,8 @@ use denote.Triple.Clauses.{AtExit}
 use borrow.Fn.Kinds.{Dens, resT, endedOf}
 use lib.IntN.{ℤ}
 use Rattle.model.specs.State.{State, stateOf}
-use Rattle.model.specs.Record.{Timestamp}
 use Rattle.model.specs.Promises.{WritePromise, ReadPromise}
+use Rattle.model.specs.declared.Timestamp.{Timestamp}
 use Rattle.model.specs.declared.ReadAnswer.{ReadAnswer}
 use Rattle.model.specs.declared.WriteAnswer.{WriteAnswer}
 use Rattle.record_write.proofs.write.Kinds as write-kinds

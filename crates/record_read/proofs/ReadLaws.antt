@@ -19,6 +19,7 @@ use Rattle.model.specs.Record.{timestampIn, Decoded, accepted, refused, judged,
 use Rattle.model.specs.Promises.{readAnswer, readInto, readOf, ReadPromise}
 use Rattle.model.specs.Claims.{BytesOf}
 use Rattle.model.specs.declared.Parameters.{Parameters}
+use Rattle.model.specs.declared.Timestamp.{Timestamp}
 use Rattle.model.specs.declared.Refusal.{Refusal}
 use Rattle.model.specs.declared.Refusal.the-variants.{Destination}
 use Rattle.model.specs.declared.ReadAnswer.the-variants.{Read, Refused}
@@ -55,7 +56,7 @@ rooms-least m a b c d =
 -- ---- a record that passes every test
 
 module _ {rec at : List ℕ} where
-  fits : {rooms : List ℕ} → Accepted rec at rooms → Fit (stateRead rec) (partsIn rec) rooms
+  fits : {rooms : List ℕ} → Accepted rec at rooms → Fit (stateRead rec) (timestampIn (partsIn rec)) (partsIn rec) rooms
   unfolding stateRead
   fits {rooms} a = fields-iff (partsIn rec) rooms .0 (a .passes)
 
@@ -63,7 +64,7 @@ module _ {rec at : List ℕ} where
   bytes-of a = fits a .0
 
   pub cells-most : {rooms : List ℕ} → Accepted rec at rooms → cells (stateRead rec) ≤ 4096
-  cells-most a = let l = fits a .2 in Cells.cells-most (l .columns) (l .rows)
+  cells-most a = let l = fits a .3 in Cells.cells-most (l .columns) (l .rows)
 
   read-as : {rooms : List ℕ} → Accepted rec at rooms → decode rec rooms ≡ accepted (stateRead rec) (timestampIn (partsIn rec))
   read-as {rooms} a = decoded rec rooms (a .placed) ∙ ap (λ o. judged o (stateRead rec) (timestampIn (partsIn rec))) (a .passes)
@@ -107,7 +108,7 @@ module _ (rec : List ℕ) (h b u v : List ℤ) {r : ℕ} (l : r ≡ min (min (le
         let e = decoded-within rec (length h ∷ length b ∷ length u ∷ length v ∷ []) s (timestampIn (partsIn rec)) read-accepted .1 in
         record { depth = e .0; bottom = e .1 .0; velocity-u = e .1 .1 .0; velocity-v = e .1 .1 .1 .0 }
 
-    pub read-done : {p : Parameters} {t m : ℕ} {h′ b′ u′ v′ : List ℤ} → p ≡ parametersOf s → t ≡ timestampIn (partsIn rec) → cells s ≡ m
+    pub read-done : {p : Parameters} {t : Timestamp} {m : ℕ} {h′ b′ u′ v′ : List ℤ} → p ≡ parametersOf s → t ≡ timestampIn (partsIn rec) → cells s ≡ m
         → (h′ ≡ filled m (s .h) h) × (b′ ≡ filled m (s .b) b) × (u′ ≡ filled m (s .u) u) × (v′ ≡ filled m (s .v) v) → ReadPromise rec h b u v (Read p t) h′ b′ u′ v′
     read-done {h′ = h′} {b′ = b′} {u′ = u′} {v′ = v′} e f k x =
         subst (λ a. ReadPromise rec h b u v a h′ b′ u′ v′) (sym (ap₂ Read e f))

@@ -42,7 +42,7 @@ fn fill(
     record_bytes::read_numbers(record_tags::value_of(rec, at, 7), m, v, Size::Two);
 }
 
-// The state of a record into the first w·n places of h, b, u and v, and its parameters and timestamp. Refusals: 7, 1, 2, 8, 3, 4, 5.
+// The state of a record into the first w·n places of h, b, u and v, and its parameters and timestamp. Refusals: 7, 1, 2, 8, 3, 9, 4, 5.
 // It rules out, for instance: fields filled before test 5; the sign of a velocity lost.
 pub fn read(rec: &[u8], h: &mut [i64], b: &mut [i64], u: &mut [i64], v: &mut [i64]) -> ReadAnswer
     ensures { λ r. ⌜

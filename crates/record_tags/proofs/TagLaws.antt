@@ -2,7 +2,6 @@
 use mathlib.Core.Path.{_≡_, refl, sym, ap, subst, _∙_}
 use mathlib.Core.Bool.{Bool, true, false}
 use mathlib.Core.List.{List}
-use mathlib.Core.Option.{none}
 use Prim.Native.Nat.{ℕ, _+_, _≤_, _<_}
 use native.Mathlib.Omega.{arith}
 use lib.Dec.{ltb}
@@ -15,8 +14,7 @@ use Rattle.model.specs.declared.Refusal.the-variants.{Record}
 use Rattle.model.specs.declared.Answer.the-variants.{Accepted, Refused}
 use Rattle.theorems.specs.Truth.{true-T}
 use Rattle.theorems.specs.Walks.{Sound, sound-iff}
-use Rattle.theorems.specs.TagLaws.{told, tag-judged, end-judged, none-missing, none-absent, among-iff, absent}
-use Rattle.record_bytes.specs.TagSizes.{lastTag}
+use Rattle.theorems.specs.TagLaws.{lastRequired, told, tag-judged, end-judged, none-missing, among-iff, absent}
 use Rattle.record_tags.specs.Places.{places, Seen}
 
 -- ---- at a tag
@@ -41,34 +39,26 @@ module _ {rec at : List ℕ} {parts : List Part} (s : Seen rec parts at) (t : �
 -- the tags below m were seen
 pub record FoundTo (rec at : List ℕ) (m : ℕ) : Type 0 where
   pub some : 1 ≤ m
-  pub most : m ≤ lastTag + 1
+  pub most : m ≤ lastRequired + 1
   pub each : (t : ℕ) → 1 ≤ t → t < m → getD at t 0 < length rec
 
 module _ {rec at : List ℕ} where
   pub found-none : FoundTo rec at 1
   found-none = record { some = omega arith; most = omega arith; each = λ t l h. absurd (omega arith) }
 
-  pub found-more : {m : ℕ} → FoundTo rec at m → m ≤ lastTag → getD at m 0 < length rec → FoundTo rec at (m + 1)
+  pub found-more : {m : ℕ} → FoundTo rec at m → m ≤ lastRequired → getD at m 0 < length rec → FoundTo rec at (m + 1)
   found-more {m} f h l = record { some = omega arith; most = omega arith; each = λ t a b. by t (ltb t m) refl a b }
     where
       by : (t : ℕ) (x : Bool) → ltb t m ≡ x → 1 ≤ t → t < m + 1 → getD at t 0 < length rec
       by t true e a b = f .each t a (ltb-true t m e)
       by t false e a b = let q : t ≡ m = (let z = ltb-false t m e in omega arith) in subst (λ t. getD at t 0 < length rec) (sym q) l
 
-  pub found-all : {m : ℕ} → FoundTo rec at m → lastTag < m → FoundTo rec at (lastTag + 1)
+  pub found-all : {m : ℕ} → FoundTo rec at m → lastRequired < m → FoundTo rec at (lastRequired + 1)
   found-all f h = record { some = omega arith; most = omega arith; each = λ t a b. f .each t a (omega arith) }
 
 module _ {rec at : List ℕ} {parts : List Part} (s : Seen rec parts at) where
-  pub complete : FoundTo rec at (lastTag + 1) → Accepted ≡ answerOf (missingTest rec parts)
+  pub complete : FoundTo rec at (lastRequired + 1) → Accepted ≡ answerOf (missingTest rec parts)
   complete f = ap answerOf (sym (none-missing rec parts (λ m. m .3 (seen-among s (m .0) (let x = m .2 in omega arith) (f .each (m .0) (m .1) (let x = m .2 in omega arith))))))
 
-  pub incomplete : (t : ℕ) → 1 ≤ t → t ≤ lastTag → length rec ≤ getD at t 0 → Refused (Record (length rec)) ≡ answerOf (missingTest rec parts)
+  pub incomplete : (t : ℕ) → 1 ≤ t → t ≤ lastRequired → length rec ≤ getD at t 0 → Refused (Record (length rec)) ≡ answerOf (missingTest rec parts)
   incomplete t a b l = ap answerOf (sym (told (end-judged rec parts) (t, a, b, absent t parts .0 (not-seen s t (omega arith) l))))
-
-  -- where no tag is missing, each was seen
-  pub all-seen : missingTest rec parts ≡ none → (t : ℕ) → 1 ≤ t → t ≤ lastTag → getD at t 0 < length rec
-  all-seen e t a b = by (ltb (getD at t 0) (length rec)) refl
-    where
-      by : (x : Bool) → ltb (getD at t 0) (length rec) ≡ x → getD at t 0 < length rec
-      by true q = ltb-true (getD at t 0) (length rec) q
-      by false q = absurd (none-absent rec parts e (t, a, b, absent t parts .0 (not-seen s t (omega arith) (ltb-false (getD at t 0) (length rec) q))))

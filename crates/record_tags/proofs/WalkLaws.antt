@@ -1,58 +1,29 @@
 -- A walk under way: the fields found so far, and what is left to walk. Assumes nothing.
 use mathlib.Core.Path.{_≡_, refl, sym, ap, subst, _∙_}
-use mathlib.Core.Bool.{Bool, true, false, cond, _||_}
+use mathlib.Core.Bool.{Bool, true, false, _||_}
 use mathlib.Core.List.{List, [], _∷_, _++_}
 use mathlib.Core.Option.{Option, none, some}
+use mathlib.Core.Logic.{inl, inr}
 use Prim.Native.Nat.{ℕ, suc, _+_, _-_, _≤_, _<_, min}
-use native.Mathlib.Nat.{le-refl}
+use native.Mathlib.Nat.{le-refl, lt-of-not-le}
 use native.Mathlib.Omega.{arith}
 use lib.Dec.{T, eqb, ltb}
 use lib.ListN.{length, take, drop, getD, set, replicate, length-take, length-drop, length-replicate, getD-replicate, length-set}
 use lib.Seq.{getD-set-same, getD-set-other}
-use borrow.Author.Tests.{not-true, lt-ltb, le-ltb, lt-leb, eq-eqb, eqb-true, eqb-false}
-use Rattle.model.specs.Record.{Part, has, valueOf, tagAt, sizeAt, partAt, knownTag, rightSize, tagTest, missingTest, damaged, whole, walk, walked}
+use borrow.Author.Tests.{not-true, lt-ltb, le-ltb, lt-leb, eqb-true, eqb-false}
+use Rattle.model.specs.Record.{Part, has, tagAt, sizeAt, partAt, knownTag, rightSize, tagTest, missingTest, damaged, whole, walk, walked}
 use Rattle.model.specs.Promises.{answerOf}
 use Rattle.model.specs.declared.Refusal.{Refusal}
 use Rattle.model.specs.declared.Answer.{Answer}
 use Rattle.model.specs.declared.Answer.the-variants.{Accepted, Refused}
 use Rattle.theorems.specs.Truth.{T-true, differ}
 use Rattle.theorems.specs.Walks.{Sound, sound-iff, walk-step, walk-end, atEnd}
-use Rattle.theorems.specs.TagLaws.{known-iff}
+use Rattle.theorems.specs.TagLaws.{known-iff, there}
+use Rattle.theorems.specs.Damage.{whole-iff}
+use Rattle.theorems.specs.OneFieldMore.{or-false, has-one, value-new, value-else}
+use Rattle.theorems.specs.Written.{absent-value}
 use Rattle.record_tags.specs.Places.{places, Stands, Seen, partsBy, partsIn, Placed, Found, IsValue}
-use Rattle.record_tags.proofs.TagLaws.{all-seen}
-
--- ---- one field more
-
-or-false : (b : Bool) → b || false ≡ b
-or-false true = refl
-or-false false = refl
-
-or-assoc : (a b c : Bool) → (a || b) || c ≡ a || (b || c)
-or-assoc true b c = refl
-or-assoc false b c = refl
-
-module _ (t : ℕ) where
-  has-more : (parts : List Part) (p : Part) → has t (parts ++ (p ∷ [])) ≡ (has t parts || eqb (p .tag) t)
-  has-more [] p = or-false (eqb (p .tag) t)
-  has-more (x ∷ parts) p = ap (λ b. eqb (x .tag) t || b) (has-more parts p) ∙ sym (or-assoc (eqb (x .tag) t) (has t parts) (eqb (p .tag) t))
-
-  -- the first field with the tag tells its value
-  value-old : (parts : List Part) (p : Part) → has t parts ≡ true → valueOf t (parts ++ (p ∷ [])) ≡ valueOf t parts
-  value-old [] p e = differ (cc e)
-  value-old (x ∷ parts) p e = by (eqb (x .tag) t) (value-old parts p) e
-    where
-      by : (b : Bool) → (has t parts ≡ true → valueOf t (parts ++ (p ∷ [])) ≡ valueOf t parts) → (b || has t parts) ≡ true
-          → cond b (x .value) (valueOf t (parts ++ (p ∷ []))) ≡ cond b (x .value) (valueOf t parts)
-      by true f e = refl
-      by false f e = f e
-
-  value-new : (parts : List Part) (p : Part) → has t parts ≡ false → p .tag ≡ t → valueOf t (parts ++ (p ∷ [])) ≡ p .value
-  value-new [] p e q = rw (eq-eqb (p .tag) t q)
-  value-new (x ∷ parts) p e q = by (eqb (x .tag) t) (λ e. value-new parts p e q) e
-    where
-      by : (b : Bool) → (has t parts ≡ false → valueOf t (parts ++ (p ∷ [])) ≡ p .value) → (b || has t parts) ≡ false → cond b (x .value) (valueOf t (parts ++ (p ∷ []))) ≡ p .value
-      by true f e = differ (cc e)
-      by false f e = f e
+use Rattle.record_tags.proofs.TagLaws.{not-seen}
 
 -- ---- the places of the fields found so far
 
@@ -94,14 +65,14 @@ module _ {rec at : List ℕ} {k : ℕ} {parts : List Part} (s : Seen rec parts a
   found-by : (t : ℕ) (b : Bool) → eqb tag t ≡ b → t < places → has t more ≡ ltb (getD (set at tag k) t 0) (length rec)
   found-by t true e h =
       let q : tag ≡ t = eqb-true tag t e in
-      has-more t parts (partAt rec k) ∙ ap (λ b. has t parts || b) e ∙ or-true (has t parts)
+      has-one t parts (partAt rec k) ∙ ap (λ b. has t parts || b) e ∙ or-true (has t parts)
       ∙ sym (ap (λ t. ltb (getD (set at tag k) t 0) (length rec)) (sym q) ∙ ap (λ k. ltb k (length rec)) here ∙ lt-ltb k (length rec) below)
     where
       or-true : (b : Bool) → b || true ≡ true
       or-true true = refl
       or-true false = refl
   found-by t false e h =
-      has-more t parts (partAt rec k) ∙ ap (λ b. has t parts || b) e ∙ or-false (has t parts) ∙ s .found t h ∙ sym (ap (λ k. ltb k (length rec)) (elsewhere t e))
+      has-one t parts (partAt rec k) ∙ ap (λ b. has t parts || b) e ∙ or-false (has t parts) ∙ s .found t h ∙ sym (ap (λ k. ltb k (length rec)) (elsewhere t e))
 
   stands-by : (t : ℕ) (b : Bool) → eqb tag t ≡ b → t < places → getD (set at tag k) t 0 < length rec → Stands rec more t (getD (set at tag k) t 0)
   stands-by t true e h l =
@@ -113,7 +84,7 @@ module _ {rec at : List ℕ} {k : ℕ} {parts : List Part} (s : Seen rec parts a
       let l′ : getD at t 0 < length rec = subst (λ k. k < length rec) q l in
       let o = s .stands t h l′ in
       subst (Stands rec more t) (sym q)
-      (record { inside = o .inside; value = value-old t parts (partAt rec k) (s .found t h ∙ lt-ltb (getD at t 0) (length rec) l′) ∙ o .value; sized = o .sized })
+      (record { inside = o .inside; value = value-else t parts (partAt rec k) (eqb-false tag t e) ∙ o .value; sized = o .sized })
 
   seen-more : Seen rec more (set at tag k)
   seen-more = record { long = length-set at tag k ∙ s .long; found = λ t. found-by t (eqb tag t) refl; stands = λ t. stands-by t (eqb tag t) refl }
@@ -184,7 +155,7 @@ module _ {rec at : List ℕ} {k : ℕ} (w : Walking rec at k) where
     done e =
         let q : walked rec ≡ whole (w .parts) = ended ∙ rw e in
         let i : w .parts ≡ partsIn rec = sym (ap partsBy q) in
-        record { walks = q ∙ ap whole i; stands = λ t a b. subst (λ ps. Stands rec ps t (getD at t 0)) i (w .seen .stands t (omega arith) (all-seen (w .seen) e t a b)) }
+        record { walks = q ∙ ap whole i; seen = subst (λ ps. Seen rec ps at) i (w .seen) }
 
     -- what the test at the end answers is what the walk tells
     pub walking-ended : {a : Answer} → a ≡ answerOf (missingTest rec (w .parts)) → Found rec a at
@@ -204,4 +175,10 @@ value-long rec k n h = simp (length-take, length-drop) (fits (length rec) h)
 
 pub is-value : {rec value : List ℕ} {tag k : ℕ} → Stands rec (partsIn rec) tag k → value ≡ partAt rec k .value → IsValue rec tag value
 is-value {rec} {value} {tag} {k} s e =
-    record { is = e ∙ sym (s .value); sized = ap (rightSize tag) (ap length e ∙ value-long rec (k + 3) (sizeAt rec k) (s .inside)) ∙ s .sized }
+    record { is = e ∙ sym (s .value); sized = inl (ap (rightSize tag) (ap length e ∙ value-long rec (k + 3) (sizeAt rec k) (s .inside)) ∙ s .sized) }
+
+-- of a tag that was not seen, which is none that a record must have
+pub no-value : {rec at : List ℕ} {tag : ℕ} → Placed rec at → 1 ≤ tag → tag < places → length rec ≤ getD at tag 0 → IsValue rec tag []
+no-value {rec} {at} {tag} p a b l =
+    let e = not-seen (p .seen) tag b l in
+    record { is = sym (absent-value tag (partsIn rec) e); sized = inr (lt-of-not-le (λ h. subst T e (there (partsIn rec) (whole-iff rec (partsIn rec) .0 (p .walks) .1) tag a h)), refl) }

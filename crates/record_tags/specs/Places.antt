@@ -3,13 +3,14 @@
 use mathlib.Core.Path.{_≡_}
 use mathlib.Core.Bool.{true}
 use mathlib.Core.List.{List, []}
+use mathlib.Core.Logic.{_⊎_}
 use Prim.Native.Nat.{ℕ, _+_, _≤_, _<_}
 use lib.Dec.{ltb}
 use lib.ListN.{length, getD}
 use Rattle.model.specs.Record.{Part, has, valueOf, sizeAt, partAt, rightSize, Walked, damaged, whole, walked}
 use Rattle.model.specs.declared.Answer.{Answer}
 use Rattle.model.specs.declared.Answer.the-variants.{Accepted, Refused}
-use Rattle.record_bytes.specs.TagSizes.{lastTag}
+use Rattle.theorems.specs.TagLaws.{lastRequired}
 
 -- how many: room for ten tags, and place 0 stays unused
 abbrev pub places : ℕ
@@ -38,12 +39,12 @@ partsIn rec = partsBy (walked rec)
 -- the places of all of them
 pub record Placed (rec at : List ℕ) : Type 0 where
   pub walks : walked rec ≡ whole (partsIn rec)
-  pub stands : (t : ℕ) → 1 ≤ t → t ≤ lastTag → Stands rec (partsIn rec) t (getD at t 0)
+  pub seen : Seen rec (partsIn rec) at
 
--- a tag's value; those of tags 1, 2 and 3 have the right length
+-- a tag's value: it has a length that test 7 allows, or it has no bytes, of a tag that may be absent
 pub record IsValue (rec : List ℕ) (tag : ℕ) (value : List ℕ) : Type 0 where
   pub is : value ≡ valueOf tag (partsIn rec)
-  pub sized : rightSize tag (length value) ≡ true
+  pub sized : (rightSize tag (length value) ≡ true) ⊎ ((lastRequired < tag) × (value ≡ []))
 
 -- what test 7 tells, and the places that it leaves
 abbrev pub Found : List ℕ → Answer → List ℕ → Type 0

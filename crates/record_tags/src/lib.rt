@@ -83,14 +83,14 @@ fn test_tag(rec: &[u8], k: usize, at: &Places) -> Answer
     Answer::Accepted
 }
 
-// Test 7 at the record's end: a tag that was not seen is missing.
+// Test 7 at the record's end: a tag that a record must have, and that was not seen, is missing.
 fn test_end(rec: &[u8], at: &Places) -> Answer
     ensures { λ r. ⌜
         ((parts : List Part) → Seen (now (rec .entry)) parts (now (at .entry))
         → r ≡ answerOf (missingTest (now (rec .entry)) parts))
         ⌝ }
 {
-    for tag in 1..=record_bytes::LAST_TAG {
+    for tag in 1..=record_bytes::LAST_REQUIRED {
         if rec.len() <= at[tag] {
             return Answer::Refused(Refusal::Record { offset: rec.len() });
         }
@@ -117,11 +117,15 @@ pub fn walk(rec: &[u8], at: &mut Places) -> Answer
     test_end(rec, at)
 }
 
-// The value of a tag, in a record that passes test 7. It rules out, for instance: the value of another tag; a value that starts at its
-// length; one byte too many.
+// The value of a tag, in a record that passes test 7: no bytes where it has none. It rules out, for instance: the value of another tag; a
+// value that starts at its length; one byte too many; the record's last bytes for a tag that is absent.
 pub fn value_of<'a>(rec: &'a [u8], at: &Places, tag: usize) -> &'a [u8]
     requires { ⌜ Placed (now rec) (now at) × (1 ≤ tag) × (tag ≤ lastTag) ⌝ }
     ensures { λ r. ⌜ IsValue (now (rec .entry)) tag (now r) ⌝ }
 {
-    value_at(rec, at[tag])
+    let k = at[tag];
+    if rec.len() <= k {
+        return &rec[0..0];
+    }
+    value_at(rec, k)
 }

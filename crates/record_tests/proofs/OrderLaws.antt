@@ -1,4 +1,4 @@
--- Tests 1, 2, 8, 3, 4, 5 of a record that passes test 7, as the code makes them. Assumes nothing.
+-- Tests 1, 2, 8, 3, 9, 4, 5 of a record that passes test 7, as the code makes them. Assumes nothing.
 use mathlib.Core.Path.{_≡_, refl, sym, ap, _∙_}
 use mathlib.Core.Bool.{Bool, true, false}
 use mathlib.Core.List.{List, [], _∷_, _++_}
@@ -7,12 +7,13 @@ use lib.Dec.{T}
 use lib.IntN.{ℤ}
 use Rattle.model.specs.State.{State, stateOf, parametersOf, cells}
 use Rattle.model.specs.Tests.{Test, must, _then_, firstFound}
-use Rattle.model.specs.Refusals.{taken, fieldsOf, gridKnown, edgeTests, contentTests, roomTests}
+use Rattle.model.specs.Refusals.{taken, fieldsOf, gridKnown, edgeTests, timedContentTests, roomTests}
 use Rattle.model.specs.Fields.{limitsOf}
 use Rattle.model.specs.Record.{tagTable, Part, bytesTests, recordTest, Walked, damaged, whole, walked, stateIn, timestampIn, judged, readBy, decode}
 use Rattle.model.specs.Promises.{answerOf}
 use Rattle.model.specs.Claims.{BytesOf}
 use Rattle.model.specs.declared.Parameters.{Parameters}
+use Rattle.model.specs.declared.Timestamp.{Timestamp}
 use Rattle.model.specs.declared.Field.{Field}
 use Rattle.model.specs.declared.Field.the-variants.{VelocityU, VelocityV}
 use Rattle.model.specs.declared.Refusal.{Refusal}
@@ -56,24 +57,24 @@ bytes-passed m parts {k = k} c h = bytes-iff m parts .0 (passes-append (bytesTes
 
 -- ---- destinations that are tested alike where the grid is known
 
-module _ (s : State) (parts : List Part) where
+module _ (s : State) (t : Timestamp) (parts : List Part) where
   abbrev bytes : List (Test Refusal)
   bytes = bytesTests (cells s) parts tagTable
 
   abbrev content : List (Test Refusal)
-  content = contentTests s (fieldsOf s)
+  content = timedContentTests s t (fieldsOf s)
 
   -- the tests after test 1
   after-grid : (l : List ℕ) → firstFound (bytes ++ (roomTests (cells s) l ++ content)) ≡ firstFound bytes then (firstFound (roomTests (cells s) l) then firstFound content)
   after-grid l = found-append bytes (roomTests (cells s) l ++ content) ∙ ap (λ o. firstFound bytes then o) (found-append (roomTests (cells s) l) content)
 
-  alike : (r t : List ℕ) → (T (gridKnown (parametersOf s)) → firstFound (roomTests (cells s) r) ≡ firstFound (roomTests (cells s) t)) → recordTest s parts r ≡ recordTest s parts t
+  alike : (r o : List ℕ) → (T (gridKnown (parametersOf s)) → firstFound (roomTests (cells s) r) ≡ firstFound (roomTests (cells s) o)) → recordTest s t parts r ≡ recordTest s t parts o
   unfolding recordTest
-  alike r t e = by (gridKnown (parametersOf s)) refl
+  alike r o e = by (gridKnown (parametersOf s)) refl
     where
       by : (b : Bool) → gridKnown (parametersOf s) ≡ b
-          → must b Grid then firstFound (bytes ++ (roomTests (cells s) r ++ content)) ≡ must b Grid then firstFound (bytes ++ (roomTests (cells s) t ++ content))
-      by true q = after-grid r ∙ ap (λ o. firstFound bytes then (o then firstFound content)) (e (true-T q)) ∙ sym (after-grid t)
+          → must b Grid then firstFound (bytes ++ (roomTests (cells s) r ++ content)) ≡ must b Grid then firstFound (bytes ++ (roomTests (cells s) o ++ content))
+      by true q = after-grid r ∙ ap (λ x. firstFound bytes then (x then firstFound content)) (e (true-T q)) ∙ sym (after-grid o)
       by false q = refl
 
 pub rooms-alike : (rec r t : List ℕ) → ((s : State) → T (gridKnown (parametersOf s)) → firstFound (roomTests (cells s) r) ≡ firstFound (roomTests (cells s) t)) → decode rec r ≡ decode rec t
@@ -82,7 +83,7 @@ rooms-alike rec r t e = by (walked rec)
   where
     by : (w : Walked) → readBy r w ≡ readBy t w
     by (damaged x) = refl
-    by (whole parts) = let s = stateIn parts in ap (λ o. judged o s (timestampIn parts)) (alike s parts r t (e s))
+    by (whole parts) = let s = stateIn parts in ap (λ o. judged o s (timestampIn parts)) (alike s (timestampIn parts) parts r t (e s))
 
 -- ---- all tests, 7 first
 
@@ -93,10 +94,10 @@ module _ (rec rooms : List ℕ) where
   examined-damaged at Accepted f e = differ (cc e)
   examined-damaged at (Refused r) f e = ap (readBy rooms) f
 
-  pub decoded : {at : List ℕ} → Placed rec at → decode rec rooms ≡ judged (recordTest (stateRead rec) (partsIn rec) rooms) (stateRead rec) (timestampIn (partsIn rec))
+  pub decoded : {at : List ℕ} → Placed rec at → decode rec rooms ≡ judged (recordTest (stateRead rec) (timestampIn (partsIn rec)) (partsIn rec) rooms) (stateRead rec) (timestampIn (partsIn rec))
   unfolding decode stateRead
   decoded p = ap (readBy rooms) (p .walks)
 
-  pub examined : {at : List ℕ} (r : Answer) → Placed rec at → r ≡ answerOf (recordTest (stateRead rec) (partsIn rec) rooms) → Examined rec rooms r at
-  examined Accepted p e = record { placed = p; passes = accepted-none (recordTest (stateRead rec) (partsIn rec) rooms) e }
-  examined (Refused r) p e = decoded p ∙ ap (λ o. judged o (stateRead rec) (timestampIn (partsIn rec))) (refused-some (recordTest (stateRead rec) (partsIn rec) rooms) r e)
+  pub examined : {at : List ℕ} (r : Answer) → Placed rec at → r ≡ answerOf (recordTest (stateRead rec) (timestampIn (partsIn rec)) (partsIn rec) rooms) → Examined rec rooms r at
+  examined Accepted p e = record { placed = p; passes = accepted-none (recordTest (stateRead rec) (timestampIn (partsIn rec)) (partsIn rec) rooms) e }
+  examined (Refused r) p e = decoded p ∙ ap (λ o. judged o (stateRead rec) (timestampIn (partsIn rec))) (refused-some (recordTest (stateRead rec) (timestampIn (partsIn rec)) (partsIn rec) rooms) r e)

@@ -1,30 +1,43 @@
 -- What the values of a record that passes test 7 mean. Assumes nothing.
-use mathlib.Core.Path.{_≡_, refl, sym, ap, ap₂, _∙_}
+use mathlib.Core.Path.{_≡_, refl, sym, ap, ap₂, subst, _∙_}
+use mathlib.Core.Logic.{⊎-elim}
+use mathlib.Core.Bool.{true}
 use mathlib.Core.List.{List}
-use Prim.Native.Nat.{ℕ, _*_}
+use Prim.Native.Nat.{ℕ, _*_, _≤_}
 use native.Mathlib.Nat.{mul-comm}
+use native.Mathlib.Omega.{arith}
+use lib.Dec.{lit≤}
 use lib.IntN.{ℤ}
 use lib.ListN.{length}
 use borrow.Author.Tests.{eqb-true}
 use Rattle.model.specs.State.{State, cells}
-use Rattle.model.specs.Record.{valueOf, stateIn}
+use Rattle.model.specs.Record.{valueOf, rightSize, stateIn}
+use Rattle.theorems.specs.TagLaws.{lastRequired}
 use Rattle.record_bytes.specs.declared.Size.{Size}
 use Rattle.record_bytes.specs.declared.Size.the-variants.{Two, Four}
 use Rattle.record_bytes.specs.NumberSizes.{numbersBy}
 use Rattle.record_tags.specs.Places.{partsIn, IsValue}
 use Rattle.record_tests.specs.RecordTested.{stateRead}
 
--- ---- the lengths of tags 1, 2 and 3
+-- ---- the lengths of tags 1, 2, 3 and 8
 
 module _ {rec value : List ℕ} where
+  -- a tag that is required, and its length
+  long-of : (t k : ℕ) → t ≤ lastRequired → (rightSize t (length value) ≡ true → length value ≡ k) → IsValue rec t value → length value ≡ k
+  long-of t k h e v = ⊎-elim e (λ p. absurd (let l = p .0 in omega arith)) (v .sized)
+
   pub grid-long : IsValue rec 1 value → length value ≡ 3
-  grid-long v = eqb-true (length value) 3 (v .sized)
+  grid-long = long-of 1 3 (lit≤ tt) (eqb-true (length value) 3)
 
   pub constants-long : IsValue rec 2 value → length value ≡ 12
-  constants-long v = eqb-true (length value) 12 (v .sized)
+  constants-long = long-of 2 12 (lit≤ tt) (eqb-true (length value) 12)
 
-  pub timestamp-long : IsValue rec 3 value → length value ≡ 8
-  timestamp-long v = eqb-true (length value) 8 (v .sized)
+  pub seconds-long : IsValue rec 3 value → length value ≡ 8
+  seconds-long = long-of 3 8 (lit≤ tt) (eqb-true (length value) 8)
+
+  -- which may be absent
+  pub milliseconds-short : IsValue rec 8 value → length value ≤ 2
+  milliseconds-short v = ⊎-elim (λ e. let q = eqb-true (length value) 2 e in omega arith) (λ p. subst (λ l. length l ≤ 2) (sym (p .1)) (lit≤ tt)) (v .sized)
 
 -- ---- the fields
 

@@ -4,7 +4,7 @@ use mathlib.Core.List.{List}
 use mathlib.Core.Option.{none}
 use Prim.Native.Nat.{ℕ}
 use Rattle.model.specs.State.{State, parametersOf}
-use Rattle.model.specs.Record.{stateIn, recordTest, refused, decode}
+use Rattle.model.specs.Record.{stateIn, timestampIn, recordTest, refused, decode}
 use Rattle.model.specs.declared.Parameters.{Parameters}
 use Rattle.model.specs.declared.Answer.{Answer}
 use Rattle.model.specs.declared.Answer.the-variants as Answer
@@ -22,7 +22,7 @@ pub record Meant (rec at : List ℕ) (p : Parameters) : Type 0 where
 -- all tests have passed, for destinations of so many places
 pub record Accepted (rec at rooms : List ℕ) : Type 0 where
   pub placed : Placed rec at
-  pub passes : recordTest (stateRead rec) (partsIn rec) rooms ≡ none
+  pub passes : recordTest (stateRead rec) (timestampIn (partsIn rec)) (partsIn rec) rooms ≡ none
 
 -- what they find, with the places of the tags
 abbrev pub Examined : List ℕ → List ℕ → Answer → List ℕ → Type 0

@@ -1,4 +1,4 @@
-// The tests of a record, 7, 1, 2, 8, 3, 4, 5, on its bytes: no field is copied to test it, each number is decoded where it stands.
+// The tests of a record, 7, 1, 2, 8, 3, 9, 4, 5, on its bytes: no field is copied to test it, each number is decoded where it stands.
 // After 7 they are links of a chain, as in `tests`. Reader and comparison share them.
 ghost use mathlib.Core.Path.{_≡_};
 ghost use mathlib.Core.List.{[], _∷_};
@@ -23,13 +23,14 @@ use integers::Range;
 use model::Answer;
 use model::Field;
 use model::Parameters;
+use model::Timestamp;
 use record_bytes::Size;
 use record_bytes::TagSize;
 use record_tags::Places;
 use tests::Edge;
 use tests::Found;
 
-// ---- tags 1, 2 and 3
+// ---- tags 1, 2, 3 and 8
 
 // What tags 1 and 2 say. It rules out, for instance: rows read for columns; c read for G.
 pub fn parameters_in(rec: &[u8], at: &Places) -> Parameters
@@ -48,12 +49,19 @@ pub fn parameters_in(rec: &[u8], at: &Places) -> Parameters
     }
 }
 
-// What tag 3 says: the timestamp (01: stamp). It rules out, for instance: its last four bytes alone; the lowest byte first.
-pub fn timestamp_in(rec: &[u8], at: &Places) -> u64
+// What tags 3 and 8 say: the timestamp (01: stamp), with 0 milliseconds where tag 8 is absent. It rules out, for instance: the last four
+// bytes of the seconds alone; the lowest byte first.
+pub fn timestamp_in(rec: &[u8], at: &Places) -> Timestamp
     requires { ⌜ Placed (now rec) (now at) ⌝ }
     ensures { λ r. ⌜ r ≡ timestampIn (partsIn (now (rec .entry))) ⌝ }
 {
-    record_bytes::unsigned_at(record_tags::value_of(rec, at, 3), 0, 8)
+    let seconds = record_tags::value_of(rec, at, 3);
+    let milliseconds = record_tags::value_of(rec, at, 8);
+    Timestamp {
+        seconds: record_bytes::unsigned_at(seconds, 0, 8),
+        // no bytes stand for 0
+        milliseconds: record_bytes::unsigned_at(milliseconds, 0, milliseconds.len()),
+    }
 }
 
 // ---- test 2
@@ -217,11 +225,12 @@ fn then_edges_in(earlier: Answer, rec: &[u8], at: &Places, p: Parameters) -> Ans
 
 // ---- all of them
 
-// Tests 1, 2, 8, 3, 4, 5 of a record that passes test 7; `room` is the length of the shortest destination.
+// Tests 1, 2, 8, 3, 9, 4, 5 of a record that passes test 7; `room` is the length of the shortest destination.
 fn test_record(rec: &[u8], at: &Places, room: usize) -> Answer
     requires { ⌜ Placed (now rec) (now at) ⌝ }
     ensures { λ r. ⌜
-        r ≡ answerOf (recordTest (stateRead (now (rec .entry))) (partsIn (now (rec .entry))) (room ∷ []))
+        (let parts = partsIn (now (rec .entry)) in
+        r ≡ answerOf (recordTest (stateRead (now (rec .entry))) (timestampIn parts) parts (room ∷ [])))
         ⌝ }
 {
     let p = parameters_in(rec, at);
@@ -230,12 +239,13 @@ fn test_record(rec: &[u8], at: &Places, room: usize) -> Answer
     let bytes = then_values(grid, rec, at, m);
     let rooms = tests::then_room(bytes, m, room);
     let constants = tests::then_constants(rooms, p);
-    let values = then_fields_in(constants, rec, at, p);
+    let time = tests::then_time(constants, timestamp_in(rec, at));
+    let values = then_fields_in(time, rec, at, p);
     then_edges_in(values, rec, at, p)
 }
 
 // All tests of a record, 7 first; `at` then has the places of its tags. It rules out, for instance: 8 told before 2; 3 told before 8;
-// 4 by the place of the tag.
+// 9 told before 8; 4 by the place of the tag.
 pub fn examine(rec: &[u8], at: &mut Places, room: usize) -> Answer
     requires { ⌜ now at ≡ replicate places (length (now rec)) ⌝ }
     ensures { λ r. ⌜ Examined (now (rec .entry)) (room ∷ []) r (now (at .exit)) ⌝ }

@@ -5,7 +5,7 @@ use lib.IntN.{ℤ}
 use lib.ListN.{length}
 use mir.Syntax.{w16, w32}
 use Rattle.model.specs.State.{State, WithinLimits}
-use Rattle.model.specs.Record.{Timestamp, bytes, bytes2, bytes4, eachBy, recordLength}
+use Rattle.model.specs.Record.{bytes, bytes2, bytes4, eachBy, recordLength}
 use Rattle.model.specs.declared.Parameters.{Parameters}
 use Rattle.theorems.specs.NumbersAsBytes.{EachFits}
 
@@ -13,21 +13,21 @@ use Rattle.theorems.specs.NumbersAsBytes.{EachFits}
 abbrev pub fieldOf : ℕ → List ℕ → List ℕ
 fieldOf tag value = (tag ∷ bytes 2 (length value)) ++ value
 
--- tags 1 to 3, and tags 4 to 7
+-- tags 1 to 3, tags 4 to 7, and tag 8
 abbrev pub gridOf : Parameters → List ℕ
 gridOf p = fieldOf 1 (p .w ∷ p .n ∷ p .kind ∷ [])
 
 abbrev pub constantsOf : List ℤ → List ℕ
 constantsOf f = fieldOf 2 (eachBy bytes4 f)
 
-abbrev pub timestampOf : Timestamp → List ℕ
-timestampOf t = fieldOf 3 (bytes 8 t)
-
-abbrev pub scalarsOf : Parameters → Timestamp → List ℕ
-scalarsOf p t = gridOf p ++ (constantsOf (p .g ∷ p .c ∷ p .r ∷ []) ++ timestampOf t)
+abbrev pub scalarsOf : Parameters → (seconds : ℕ) → List ℕ
+scalarsOf p s = gridOf p ++ (constantsOf (p .g ∷ p .c ∷ p .r ∷ []) ++ fieldOf 3 (bytes 8 s))
 
 abbrev pub fieldsOf : (h b u v : List ℤ) → List ℕ
 fieldsOf h b u v = fieldOf 4 (eachBy bytes4 h) ++ (fieldOf 5 (eachBy bytes4 b) ++ (fieldOf 6 (eachBy bytes2 u) ++ fieldOf 7 (eachBy bytes2 v)))
+
+abbrev pub millisecondsOf : ℕ → List ℕ
+millisecondsOf ms = fieldOf 8 (bytes 2 ms)
 
 -- scalars that fit their bytes
 pub record ScalarsReady (p : Parameters) : Type 0 where

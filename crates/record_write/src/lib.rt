@@ -1,4 +1,4 @@
-// The record writer: tags 1 to 7 of a state, by rising tag, into a lent slice of bytes.
+// The record writer: tags 1 to 8 of a state and its timestamp, by rising tag, into a lent slice of bytes.
 ghost use mathlib.Core.Path.{_≡_};
 ghost use mathlib.Core.List.{_∷_};
 ghost use Prim.Native.Nat.{_+_, _≤_, _<_};
@@ -6,13 +6,14 @@ ghost use lib.ListN.{length};
 ghost use Rattle.model.specs.Grid.{filled};
 ghost use Rattle.model.specs.State.{lent, before};
 ghost use Rattle.model.specs.Record.{bytes, encode, recordLength};
-ghost use Rattle.model.specs.Promises.{WritePromise};
+ghost use Rattle.model.specs.Promises.{answerOf, writeTest, WritePromise};
 ghost use Rattle.theorems.specs.NumbersAsBytes.{EachFits};
 ghost use Rattle.record_bytes.specs.NumberSizes.{widthOf, valueBy};
 ghost use Rattle.record_bytes.specs.Stores.{Puts};
-ghost use Rattle.record_write.specs.FieldBytes.{fieldOf, gridOf, timestampOf, scalarsOf, fieldsOf, ScalarsReady, FieldsReady, WriteReady};
+ghost use Rattle.record_write.specs.FieldBytes.{fieldOf, gridOf, scalarsOf, fieldsOf, ScalarsReady, FieldsReady, WriteReady};
 use model::Answer;
 use model::Parameters;
+use model::Timestamp;
 use model::WriteAnswer;
 use record_bytes::Size;
 
@@ -41,6 +42,15 @@ fn put_field(d: &mut [u8], k: usize, tag: u8, f: &[i64], size: Size) -> usize
     record_bytes::put_numbers(d, from, f, size)
 }
 
+// Puts a field of one number without a sign, of `count` bytes, at k: the two parts of the timestamp are such.
+fn put_unsigned_field(d: &mut [u8], k: usize, tag: u8, count: usize, x: u64) -> usize
+    requires { ⌜ k + length (fieldOf tag (bytes count x)) ≤ length (now d) ⌝ }
+    ensures { λ r. ⌜ Puts (now (d .entry)) k (fieldOf tag (bytes count x)) r (now (d .exit)) ⌝ }
+{
+    let from = put_head(d, k, tag, count);
+    record_bytes::put_unsigned(d, from, count, x)
+}
+
 // ---- tags 1 to 3
 
 // Tag 1: w, n and the boundary's byte.
@@ -58,26 +68,17 @@ fn put_grid(d: &mut [u8], k: usize, p: Parameters) -> usize
     from + 3
 }
 
-// Tag 3: the timestamp.
-fn put_timestamp(d: &mut [u8], k: usize, timestamp: u64) -> usize
-    requires { ⌜ k + length (timestampOf timestamp) ≤ length (now d) ⌝ }
-    ensures { λ r. ⌜ Puts (now (d .entry)) k (timestampOf timestamp) r (now (d .exit)) ⌝ }
-{
-    let from = put_head(d, k, 3, 8);
-    record_bytes::put_unsigned(d, from, 8, timestamp)
-}
-
 // Tags 1, 2 and 3.
-fn put_scalars(d: &mut [u8], k: usize, p: Parameters, timestamp: u64) -> usize
-    requires { ⌜ ScalarsReady p × (k + length (scalarsOf p timestamp) ≤ length (now d)) ⌝ }
-    ensures { λ r. ⌜ Puts (now (d .entry)) k (scalarsOf p timestamp) r (now (d .exit)) ⌝ }
+fn put_scalars(d: &mut [u8], k: usize, p: Parameters, seconds: u64) -> usize
+    requires { ⌜ ScalarsReady p × (k + length (scalarsOf p seconds) ≤ length (now d)) ⌝ }
+    ensures { λ r. ⌜ Puts (now (d .entry)) k (scalarsOf p seconds) r (now (d .exit)) ⌝ }
 {
     let after_grid = put_grid(d, k, p);
     let after_constants = put_field(d, after_grid, 2, &[p.g, p.c, p.r], Size::Four);
-    put_timestamp(d, after_constants, timestamp)
+    put_unsigned_field(d, after_constants, 3, 8, seconds)
 }
 
-// ---- tags 4 to 7, and the whole record
+// ---- the other tags, and the whole record
 
 // Tags 4 to 7.
 fn put_fields(d: &mut [u8], k: usize, h: &[i64], b: &[i64], u: &[i64], v: &[i64]) -> usize
@@ -103,7 +104,7 @@ fn put_record(
     b: &[i64],
     u: &[i64],
     v: &[i64],
-    timestamp: u64,
+    timestamp: Timestamp,
     d: &mut [u8],
 ) -> usize
     requires { ⌜ WriteReady (lent p h b u v) (now d) ⌝ }
@@ -113,27 +114,49 @@ fn put_record(
         × (now (d .exit) ≡ filled (recordLength s) (encode s timestamp) (now (d .entry))))
         ⌝ }
 {
-    let after_scalars = put_scalars(d, 0, p, timestamp);
-    put_fields(d, after_scalars, h, b, u, v)
+    let after_scalars = put_scalars(d, 0, p, timestamp.seconds);
+    let after_fields = put_fields(d, after_scalars, h, b, u, v);
+    put_unsigned_field(d, after_fields, 8, 2, timestamp.milliseconds)
 }
 
-// The record of a state under a timestamp (01: stamp), into the first 44+12w·n bytes of d. Refusals: 1, 2, 3, 4, 5, 8.
-// It rules out, for instance: a field little-endian; a byte written past the record; 8 told before 4.
+// ---- the call
+
+// Tests 1, 2, 3, 9, 4, 5, 8; `room` is the length of the destination.
+fn test_write(
+    p: Parameters,
+    h: &[i64],
+    b: &[i64],
+    u: &[i64],
+    v: &[i64],
+    timestamp: Timestamp,
+    room: usize,
+) -> Answer
+    ensures { λ r. ⌜ r ≡ answerOf (writeTest (before p h b u v) timestamp room) ⌝ }
+{
+    let m = tests::cells_of(p);
+    let grid = tests::then_grid(Answer::Accepted, p);
+    let lengths = tests::then_lengths(grid, m, h, b, u, v);
+    let constants = tests::then_constants(lengths, p);
+    let time = tests::then_time(constants, timestamp);
+    let values = tests::then_fields(time, p, h, b, u, v);
+    let edges = tests::then_edges(values, p, u, v);
+    tests::then_room(edges, 49 + 12 * m, room)
+}
+
+// The record of a state under a timestamp (01: stamp), into the first 49+12w·n bytes of d. Refusals: 1, 2, 3, 9, 4, 5, 8.
+// It rules out, for instance: a field little-endian; a byte written past the record; 8 told before 4; 9 told after 4.
 pub fn write(
     p: Parameters,
     h: &[i64],
     b: &[i64],
     u: &[i64],
     v: &[i64],
-    timestamp: u64,
+    timestamp: Timestamp,
     d: &mut [u8],
 ) -> WriteAnswer
     ensures { λ r. ⌜ WritePromise (before p h b u v) timestamp (now (d .entry)) r (now (d .exit)) ⌝ }
 {
-    let needed = 44 + 12 * tests::cells_of(p);
-    let state = tests::test_state(p, h, b, u, v);
-    let answer = tests::then_room(state, needed, d.len());
-    match answer {
+    match test_write(p, h, b, u, v, timestamp, d.len()) {
         Answer::Accepted => {
             let length = put_record(p, h, b, u, v, timestamp, d);
             WriteAnswer::Written(length)

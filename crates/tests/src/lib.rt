@@ -1,5 +1,5 @@
-// 01's refusals 1 to 5 and 8 as links of a chain. A link takes what the tests before it answered, and answers that, or else what its own
-// test finds: after a refusal it does nothing. A call writes its tests as a chain, in the order of its list in the model.
+// 01's refusals 1 to 5 and 8, and 02's 9, as links of a chain. A link takes what the tests before it answered, and answers that, or else
+// what its own test finds: after a refusal it does nothing. A call writes its tests as a chain, in the order of its list in the model.
 ghost use mathlib.Core.Path.{_≡_};
 ghost use mathlib.Core.Bool.{_&&_};
 ghost use mathlib.Core.List.{List, [], _∷_};
@@ -13,7 +13,7 @@ ghost use Rattle.model.specs.State.{stateOf, lent, before};
 ghost use Rattle.model.specs.Fields.{fieldNumber, limitsOf};
 ghost use Rattle.model.specs.Tests.{asks, firstFound};
 ghost use Rattle.model.specs.Refusals.{taken, fieldsOf, gridKnown, gridTest, runLengthTest, lengthTest, workTest};
-ghost use Rattle.model.specs.Refusals.{constantsWithin, constantsTest, valueTest, valueTests, edgeTests, roomTest, stateTests};
+ghost use Rattle.model.specs.Refusals.{constantsWithin, constantsTest, timeTest, valueTest, valueTests, edgeTests, roomTest, stateTests};
 ghost use Rattle.model.specs.Promises.{answerOf};
 ghost use Rattle.model.specs.declared.Answer.the-variants.{Accepted};
 ghost use Rattle.model.specs.declared.Refusal.the-variants.{Value, ClosedEdge};
@@ -25,6 +25,7 @@ use model::Answer;
 use model::Field;
 use model::Parameters;
 use model::Refusal;
+use model::Timestamp;
 
 // ---- the fields
 
@@ -288,6 +289,19 @@ pub fn then_constants(earlier: Answer, p: Parameters) -> Answer
     ensures { λ r. ⌜ r ≡ after earlier (constantsTest p ∷ []) ⌝ }
 {
     then_asks(earlier, constants_within(p), Refusal::Constants)
+}
+
+// ---- 9
+
+// Milliseconds above 999. It rules out, for instance: 1,000 taken; 65,536 taken for 0.
+pub fn then_time(earlier: Answer, timestamp: Timestamp) -> Answer
+    ensures { λ r. ⌜ r ≡ after earlier (timeTest timestamp ∷ []) ⌝ }
+{
+    then_asks(
+        earlier,
+        timestamp.milliseconds <= 999,
+        Refusal::Milliseconds,
+    )
 }
 
 // ---- 4 and 5

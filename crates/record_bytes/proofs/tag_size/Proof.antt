@@ -4,10 +4,11 @@ use Rattle.record_bytes.proofs.tag_size.Statement.{statement}
 use Rattle.record_bytes.proofs.tag_size.Tie as tie
 
 -- no tag of the table
-returns-8 : tie.Need-returns-8
-returns-8 c =
+returns-9 : tie.Need-returns-9
+returns-9 c =
     let r = c .match .rest in
     rw (
+      ne-eqb _ _ (r .0 .0 .0 .0 .0 .0 .0 .1),
       ne-eqb _ _ (r .0 .0 .0 .0 .0 .0 .1),
       ne-eqb _ _ (r .0 .0 .0 .0 .0 .1),
       ne-eqb _ _ (r .0 .0 .0 .0 .1),
@@ -28,4 +29,5 @@ tag-size-spec =
     (λ c. rw (c .match .keys5))
     (λ c. rw (c .match .keys6))
     (λ c. rw (c .match .keys7))
-    returns-8)
+    (λ c. rw (c .match .keys8))
+    returns-9)

@@ -5,7 +5,7 @@ use mathlib.Core.Logic.{⊎-elim}
 use Prim.Native.Nat.{_+_, _-_}
 use native.Mathlib.Omega.{arith}
 use borrow.Author.Tests.{not-true, not-false}
-use Rattle.record_bytes.specs.TagSizes.{lastTag}
+use Rattle.theorems.specs.TagLaws.{lastRequired}
 use Rattle.record_compare.specs.SameLaws.{SameTo, same-none, same-more, same-read, other-read}
 use Rattle.record_compare.proofs.same_state.Statement.{statement}
 use Rattle.record_compare.proofs.same_state.Tie as tie
@@ -14,7 +14,7 @@ abbrev Inv-loop : tie.InvT-loop
 Inv-loop first p second q tag₀ tag = SameTo first second tag
 
 abbrev μ-loop : tie.MeasureT-loop
-μ-loop first p second q tag₀ tag = lastTag + 1 - tag
+μ-loop first p second q tag₀ tag = lastRequired + 1 - tag
 
 same-value-requires : tie.Need-same-value-requires Inv-loop μ-loop
 same-value-requires c κs =

@@ -1,7 +1,7 @@
 -- `record_tags::test_end` meets its contract: the loop has found the tags before `tag`. Assumes nothing.
 use Prim.Native.Nat.{_+_, _-_}
 use native.Mathlib.Omega.{arith}
-use Rattle.record_bytes.specs.TagSizes.{lastTag}
+use Rattle.theorems.specs.TagLaws.{lastRequired}
 use Rattle.record_tags.proofs.TagLaws.{FoundTo, found-none, found-more, found-all, complete, incomplete}
 use Rattle.record_tags.proofs.test_end.Statement.{statement}
 use Rattle.record_tags.proofs.test_end.Tie as tie
@@ -10,7 +10,7 @@ abbrev Inv-loop : tie.InvT-loop
 Inv-loop rec at tag₀ tag = FoundTo rec at tag
 
 abbrev μ-loop : tie.MeasureT-loop
-μ-loop rec at tag₀ tag = lastTag + 1 - tag
+μ-loop rec at tag₀ tag = lastRequired + 1 - tag
 
 returns : tie.Need-returns Inv-loop μ-loop
 returns c parts s = let l = c .before .before .before in incomplete s (l .loop .tag) (l .loop .inv .some) (c .before .before .loop-test .taken) (c .if1 .taken)

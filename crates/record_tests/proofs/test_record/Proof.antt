@@ -1,13 +1,14 @@
 -- `record_tests::test_record` meets its contract: link by link, the chain is the model's list. Assumes nothing.
-use mathlib.Core.Path.{ap, _∙_}
+use mathlib.Core.Path.{ap₂, _∙_}
 use mathlib.Core.List.{List, [], _∷_, _++_}
 use Prim.Native.Nat.{_*_}
 use borrow.Author.Needs.{needs}
 use Rattle.model.specs.State.{State}
 use Rattle.model.specs.Tests.{Test}
-use Rattle.model.specs.Refusals.{fieldsOf, gridTest, roomTests, constantsTest, valueTests, edgeTests}
+use Rattle.model.specs.Refusals.{fieldsOf, gridTest, roomTests, constantsTest, timeTest, valueTests, edgeTests}
 use Rattle.model.specs.Record.{tagTable, Part, bytesTests, recordTest}
 use Rattle.model.specs.declared.Parameters.{Parameters}
+use Rattle.model.specs.declared.Timestamp.{Timestamp}
 use Rattle.model.specs.declared.Answer.the-variants.{Accepted}
 use Rattle.model.specs.declared.Refusal.{Refusal}
 use Rattle.model.specs.declared.Refusal.the-variants.{Value}
@@ -32,10 +33,11 @@ module _ (c : tie.After-cells-of) where
   meant : Meant (c .before .before .before .args .rec .now) (c .before .before .before .args .at .now) read
   meant = record { placed = c .before .before .before .pre; parameters = c .before .parameters-in .ensures }
 
-  -- tests 1, 2, 8 and 3, by the parameters p
-  abbrev so-far : Parameters → List (Test Refusal)
-  so-far p =
-      gridTest p ∷ (bytesTests (p .w * p .n) parts tagTable ++ (roomTests (p .w * p .n) (c .before .before .before .args .room ∷ []) ++ (constantsTest p ∷ [])))
+  -- tests 1, 2, 8, 3 and 9, by the parameters p and the timestamp t
+  abbrev so-far : Parameters → Timestamp → List (Test Refusal)
+  so-far p t =
+      gridTest p
+      ∷ (bytesTests (p .w * p .n) parts tagTable ++ (roomTests (p .w * p .n) (c .before .before .before .args .room ∷ []) ++ (constantsTest p ∷ timeTest t ∷ [])))
 
 -- the chain so far
 grid : (c : tie.After-then-grid) → Chain Accepted (c .then-grid .result) (gridTest (read (c .before)) ∷ [])
@@ -56,21 +58,30 @@ rooms c =
     let m = b .before .before in
     counted (λ k. roomTests k (m .before .before .before .args .room ∷ [])) (bytes b) (λ h. m .cells-of .ensures .0 (passed (bytes b) h .0)) (c .then-room .ensures)
 
-constants : (c : tie.After-then-constants) → let m = c .before .before .before .before in Chain Accepted (c .then-constants .result) (so-far m (read m))
+constants : (c : tie.After-then-constants)
+    → let m = c .before .before .before .before in
+    let p = read m in
+    Chain Accepted (c .then-constants .result) (gridTest p ∷ (bytesTests (p .w * p .n) (parts m) tagTable ++ (roomTests (p .w * p .n) (m .before .before .before .args .room ∷ []) ++ (constantsTest p ∷ []))))
 constants c = more (constantsTest (read (c .before .before .before .before)) ∷ []) (rooms (c .before)) (c .then-constants .ensures)
 
-values : (c : tie.After-then-fields-in)
-    → let m = c .before .before .before .before .before in Chain Accepted (c .then-fields-in .result) (so-far m (read m) ++ valueTests Value (fieldsOf (state m)))
-values c = more (valueTests Value (fieldsOf (state (c .before .before .before .before .before)))) (constants (c .before)) (c .then-fields-in .ensures)
+time : (c : tie.After-then-time)
+    → let x = c .before in let m = x .before .before .before .before .before in Chain Accepted (c .then-time .result) (so-far m (read m) (x .timestamp-in .result))
+time c = let x = c .before in more (timeTest (x .timestamp-in .result) ∷ []) (constants (x .before)) (c .then-time .ensures)
 
--- the parameters read are the state's
+values : (c : tie.After-then-fields-in)
+    → let x = c .before .before in
+    let m = x .before .before .before .before .before in Chain Accepted (c .then-fields-in .result) (so-far m (read m) (x .timestamp-in .result) ++ valueTests Value (fieldsOf (state m)))
+values c = more (valueTests Value (fieldsOf (state (c .before .before .before .before .before .before .before)))) (time (c .before)) (c .then-fields-in .ensures)
+
+-- the parameters read are the state's, and the timestamp is the record's
 returns : tie.Need-returns
 unfolding recordTest
 returns c =
-    let m = c .before .before .before .before .before .before in
+    let x = c .before .before .before in
+    let m = x .before .before .before .before .before in
     let s = state m in
     more (edgeTests s) (values (c .before)) (c .then-edges-in .ensures) .is
-    ∙ ap (λ p. after Accepted (so-far m p ++ (valueTests Value (fieldsOf s) ++ edgeTests s))) (meant m .parameters)
+    ∙ ap₂ (λ p t. after Accepted (so-far m p t ++ (valueTests Value (fieldsOf s) ++ edgeTests s))) (meant m .parameters) (x .timestamp-in .ensures)
 
 pub test-record-spec : {M : Type 1} → statement M
 test-record-spec =
@@ -82,6 +93,8 @@ test-record-spec =
     (λ c κs. search needs)
     (λ c κs. search needs)
     (λ c κs. search needs)
-    (λ c κs. let m = c .before .before .before .before in (meant m, λ h. bytes-passed (read m .w * read m .n) (parts m) (constants c) h))
-    (λ c κs. let m = c .before .before .before .before .before in (meant m, λ h. bytes-passed (read m .w * read m .n) (parts m) (values c) h))
+    (λ c κs. search needs)
+    (λ c κs. search needs)
+    (λ c κs. let m = c .before .before .before .before .before .before in (meant m, λ h. bytes-passed (read m .w * read m .n) (parts m) (time c) h))
+    (λ c κs. let m = c .before .before .before .before .before .before .before in (meant m, λ h. bytes-passed (read m .w * read m .n) (parts m) (values c) h))
     returns)

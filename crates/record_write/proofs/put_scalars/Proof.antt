@@ -22,7 +22,7 @@ returns c =
     let f = t .before .before .before .before in
     let g = f .before .before .before .before .before .before in
     let put = subst (λ l. Puts (g .put-grid .last .0) (g .put-grid .result) (constantsOf l) (f .put-field .result) (f .put-field .last .0)) (constants (f .before .before)) (f .put-field .ensures) in
-    puts-then (g .put-grid .ensures) (puts-then put (t .put-timestamp .ensures))
+    puts-then (g .put-grid .ensures) (puts-then put (t .put-unsigned-field .ensures))
 
 pub put-scalars-spec : {M : Type 1} → statement M
 put-scalars-spec = tie.close (tie.spec (λ c κs. search needs) (λ c. search needs) (λ c κs. search needs) (λ c κs. search needs) (λ c. search needs) returns)

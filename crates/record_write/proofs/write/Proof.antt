@@ -1,14 +1,10 @@
 -- `record_write::write` meets its contract. Assumes nothing.
 use mathlib.Core.Path.{_≡_, sym, _∙_}
-use mathlib.Core.List.{[], _∷_}
-use Prim.Native.Nat.{_+_, _*_}
 use lib.ListN.{length}
 use borrow.Author.Needs.{needs}
 use Rattle.model.specs.State.{State, stateOf}
-use Rattle.model.specs.Refusals.{stateTests, roomTests}
 use Rattle.model.specs.Promises.{answerOf, writeTest}
 use Rattle.model.specs.declared.Answer.the-variants.{Accepted}
-use Rattle.tests.specs.Links.{start, counted, passed}
 use Rattle.record_write.specs.WriteLaws.{write-ready, write-refused, write-done}
 use Rattle.record_write.proofs.write.Statement.{statement}
 use Rattle.record_write.proofs.write.Tie as tie
@@ -16,47 +12,33 @@ use Rattle.record_write.proofs.write.Tie as tie
 abbrev state : tie.Start → State
 state c = let a = c .args in stateOf (a .p) (a .h .now) (a .b .now) (a .u .now) (a .v .now)
 
--- what the tests have found, once all are made
-tested : (c : tie.After-then-room) → let b = c .before .before .before .before in c .then-room .result ≡ answerOf (writeTest (state b) (length (b .args .d .now)))
-unfolding writeTest
-tested c =
-    let t = c .before in
-    let m = t .before in
-    let b = m .before .before in
-    let g = start Accepted (stateTests (state b) [] [] []) (t .test-state .ensures) in
-    counted (λ k. roomTests (44 + 12 * k) (length (b .args .d .now) ∷ [])) g (λ h. m .cells-of .ensures .0 (passed g h .0)) (c .then-room .ensures) .is
-
-accepted : (c : tie.After-enum-told) → let b = c .before .before .before .before .before .before in Accepted ≡ answerOf (writeTest (state b) (length (b .args .d .now)))
-accepted c = sym (c .enum-told .given .1) ∙ tested (c .before .before)
+accepted : (c : tie.After-enum-told) → let b = c .before .before .before .before in Accepted ≡ answerOf (writeTest (state b) (b .args .timestamp) (length (b .args .d .now)))
+accepted c = sym (c .enum-told .given .1) ∙ c .before .before .test-write .ensures
 
 put-record-requires : tie.Need-put-record-requires
 put-record-requires c κs =
     let e = c .before in
-    let b = e .before .before .before .before .before .before in
+    let b = e .before .before .before .before in
     write-ready (state b) (b .args .timestamp) (b .args .d .now) (accepted e)
 
 returns : tie.Need-returns
 returns c =
     let r = c .before .before in
     let e = r .before .before in
-    let b = e .before .before .before .before .before .before in
+    let b = e .before .before .before .before in
     write-done (state b) (b .args .timestamp) (b .args .d .now) (accepted e) (r .put-record .ensures)
 
 returns-2 : tie.Need-returns-2
 returns-2 c =
     let k = c .before in
     let t = k .before .before in
-    let b = t .before .before .before .before in
-    write-refused (state b) (b .args .timestamp) (b .args .d .now) (sym (k .answer .given .1) ∙ tested t)
+    let b = t .before .before in
+    write-refused (state b) (b .args .timestamp) (b .args .d .now) (sym (k .refusal .given .1) ∙ t .test-write .ensures)
 
 pub write-spec : {M : Type 1} → statement M
 write-spec =
     tie.close
     (tie.spec
-    (λ c κs. search needs)
-    (λ c. search needs)
-    (λ c. search needs)
-    (λ c κs. search needs)
     (λ c κs. search needs)
     (λ c. search needs)
     put-record-requires
