@@ -1,7 +1,8 @@
 /*
  * Writes the record of worked example 10 of document 01 with the proved core,
- * reads it back, compares it with others, and shows how a damaged one is
- * refused. From the repository, after `rt staticlib basin`:
+ * reads it back, compares it with others, in one second too, and shows how
+ * milliseconds above 999 and a damaged record are refused. From the repository,
+ * after `rt staticlib basin`:
  *
  *   gcc -std=c99 -Wall -Wextra -Werror -Iinclude examples/record.c \
  *       target/staticlib/libbasin.a -o target/record
@@ -22,19 +23,23 @@ struct state {
 };
 
 /* Bytes of the record of two cells. */
-enum { ROOM = 44 + 12 * 2 };
+enum { ROOM = 49 + 12 * 2 };
 
-/* The number of its bytes, 0 where the state is refused. */
-static size_t write_record(const struct state *s, uint64_t timestamp,
+/* The number of its bytes. A refusal is printed, and gives 0. */
+static size_t write_record(const char *name, const struct state *s,
+                           uint64_t seconds, uint64_t milliseconds,
                            uint8_t *record)
 {
     size_t cells = s->w * s->n;
     uint64_t answer[8];
-    if (basin_write(s->w, s->n, s->kind, s->g, s->c, s->r,
-                    s->h, cells, s->b, cells, s->u, cells, s->v, cells,
-                    timestamp, record, ROOM, answer) != 0)
-        return 0;
-    return answer[1];
+    uint64_t number = basin_write(s->w, s->n, s->kind, s->g, s->c, s->r,
+                                  s->h, cells, s->b, cells,
+                                  s->u, cells, s->v, cells,
+                                  seconds, milliseconds, record, ROOM, answer);
+    if (number == 0)
+        return answer[1];
+    printf("%s: refused %" PRIu64 "\n", name, number);
+    return 0;
 }
 
 static void print_record(const char *name, const uint8_t *record, size_t len)
@@ -67,8 +72,9 @@ static void print_read(const char *name, const uint8_t *record, size_t len)
         return;
     }
     printf("%s: w %" PRIu64 " n %" PRIu64 " kind %" PRIu64
-           " timestamp %" PRIu64 " g %" PRId64 " c %" PRId64 " r %" PRId64 "\n",
-           name, answer[1], answer[2], answer[3], answer[4],
+           " time %" PRIu64 ".%03" PRIu64 " g %" PRId64 " c %" PRId64
+           " r %" PRId64 "\n",
+           name, answer[1], answer[2], answer[3], answer[4], answer[5],
            constants[0], constants[1], constants[2]);
     for (size_t k = 0; k < answer[1] * answer[2]; k++)
         printf("%s cell %zu: h %" PRId64 " b %" PRId64 " u %" PRId64
@@ -103,31 +109,44 @@ int main(void)
         .h = {2000}, .b = {0}, .u = {100}, .v = {-50},
     };
     uint8_t record[ROOM], later[ROOM], other[ROOM];
-    size_t len = write_record(&state, 0, record);
+    size_t len = write_record("example 10", &state, 0, 0, record);
     print_record("example 10", record, len);
     print_read("example 10", record, len);
     print_comparison("example 10 and itself", record, len, record, len);
 
-    /* The same state a minute later. */
-    size_t later_len = write_record(&state, 60, later);
+    /* The same state a quarter of a second later. */
+    size_t later_len = write_record("later", &state, 0, 250, later);
+    print_read("later", later, later_len);
     print_comparison("example 10 and later", record, len, later, later_len);
     print_comparison("later and example 10", later, later_len, record, len);
 
-    /* Another state under the same timestamp. */
+    /* Another state, a millisecond before that, and at the same time. */
     state.h[0] = 2001;
-    size_t other_len = write_record(&state, 0, other);
-    print_comparison("example 10 and other", record, len, other, other_len);
+    size_t other_len = write_record("other", &state, 0, 249, other);
+    print_comparison("later and other before", later, later_len,
+                     other, other_len);
+    other_len = write_record("other", &state, 0, 250, other);
+    print_comparison("later and other at once", later, later_len,
+                     other, other_len);
 
-    /* The value of the last field, which begins at 51, is cut off. */
-    print_read("cut off", record, len - 1);
-    print_comparison("example 10 and cut off", record, len, record, len - 1);
+    /* Milliseconds are 0 to 999. Nothing is cut off first: 65,536 is no 0. */
+    write_record("1,000 milliseconds", &state, 0, 1000, other);
+    write_record("65,536 milliseconds", &state, 0, 65536, other);
+
+    /* The value of the last field, which begins at 56, is cut off. */
+    print_read("cut off", later, later_len - 1);
+    print_comparison("later and cut off", later, later_len,
+                     later, later_len - 1);
+
+    /* Without that field the milliseconds are 0. */
+    print_comparison("example 10 and shorter", record, len, later, 56);
 
     /* The fields may come in any order, but none twice. */
     uint8_t turned[ROOM];
-    memcpy(turned, record + 51, 5);
-    memcpy(turned + 5, record, 51);
-    print_comparison("example 10 and turned", record, len, turned, len);
-    memcpy(turned + len, record + 51, 5);
-    print_read("twice", turned, len + 5);
+    memcpy(turned, later + 56, 5);
+    memcpy(turned + 5, later, 56);
+    print_comparison("later and turned", later, later_len, turned, later_len);
+    memcpy(turned + later_len, later + 56, 5);
+    print_read("twice", turned, later_len + 5);
     return 0;
 }

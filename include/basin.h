@@ -1,8 +1,8 @@
 /*
- * The proved basin core (document 01), for C and C++ on x86-64. Link
- * target/staticlib/libbasin.a, which `rt staticlib basin` writes: the step of a
- * state and runs of it, totals, potential vorticity and tendencies, the record
- * of a state (writer, reader, comparison), and rounding.
+ * The proved basin core (document 01, and request U1 of document 02), for C and
+ * C++ on x86-64. Link target/staticlib/libbasin.a, which `rt staticlib basin`
+ * writes: the step of a state and runs of it, totals, potential vorticity and
+ * tendencies, the record of a state (writer, reader, comparison), and rounding.
  *
  * Every function takes any numbers and any lengths, and always returns. A
  * field or a record is lent as a pointer and the number of its elements. A
@@ -33,15 +33,24 @@
  * they are. After refusals 1 and 2 it is untouched. Otherwise, refused or not,
  * its first 8*w*n numbers are 0 after the call and the rest are untouched.
  *
- * Record. A row of seven fields, each a tag of one byte, the length of its
+ * Timestamp. The moment of a state: whole seconds since 2000-01-01 00:00, any
+ * number of 64 bits, and milliseconds past them, 0 to 999. The milliseconds are
+ * a number of 64 bits too, so that 65,536 is refused and not cut to 0. Of two
+ * moments the later one has the greater second, or in one second the greater
+ * millisecond.
+ *
+ * Record. A row of eight fields, each a tag of one byte, the length of its
  * value in two, and the value; numbers are big-endian, negative ones in two's
  * complement. Tag 1 holds w, n and kind, a byte each; 2 holds g, c and r, four
- * bytes each; 3 the timestamp, eight bytes without a sign, in whole seconds
- * since 2000-01-01 00:00; 4 and 5 hold h and b, four bytes a cell; 6 and 7 hold
- * u and v, two bytes a cell. Each tag occurs once. That is 44 + 12*w*n bytes.
+ * bytes each; 3 the seconds of the timestamp, eight bytes without a sign; 4 and
+ * 5 hold h and b, four bytes a cell; 6 and 7 hold u and v, two bytes a cell; 8
+ * the milliseconds, two bytes without a sign. Each tag occurs once. That is
+ * 49 + 12*w*n bytes. A record that is read may lack tag 8: its milliseconds are
+ * 0 then.
  *
- * Refusals. The causes are tested in this order and the first is told; but a
- * record that is read is tested in the order 7, 1, 2, 8, 3, 4, 5:
+ * Refusals. The causes are tested in this order and the first is told; but 9 is
+ * tested straight after 3, and a record that is read is tested in the order 7,
+ * 1, 2, 8, 3, 9, 4, 5:
  *
  *   number  cause                                             values after it
  *   0       none                                              (see the calls)
@@ -60,10 +69,11 @@
  *           of h, u or v, in this order, lowest cell first    (a run: steps too)
  *   7       a damaged record. At each tag in turn: 1 or 2     offset of the
  *           bytes left, an unknown tag, a repeated tag, a     tag; length of
- *           value past the end, tag 1, 2 or 3 of a wrong      the record where
- *           length; then a tag that is missing                one is missing
+ *           value past the end, tag 1, 2, 3 or 8 of a wrong   the record where
+ *           length; then a tag of 1 to 7 that is missing      one is missing
  *   8       a field to be filled has fewer than w*n places;
- *           record_len below 44 + 12*w*n, to be written
+ *           record_len below 49 + 12*w*n, to be written
+ *   9       milliseconds above 999 (write, read, compare)
  *
  *   field   bounds
  *   0       h       depth, 1,000 to 100,000 mm
@@ -88,7 +98,7 @@ extern "C" {
  * basin_version() returns that of the library. A caller that finds two numbers
  * has a header and a library that do not belong together.
  */
-#define BASIN_VERSION 300
+#define BASIN_VERSION 400
 uint64_t basin_version(void);
 
 /*
@@ -190,8 +200,8 @@ uint64_t basin_total_energy(size_t w, size_t n, uint8_t kind,
                             uint64_t answer[8]);
 
 /*
- * Writes the record of a state, its tags rising. Tests 1 to 5, then 8 of
- * record. Where none refuses, the first 44 + 12*w*n bytes of record are the
+ * Writes the record of a state, its tags rising. Tests 1, 2, 3, 9, 4, 5, then 8
+ * of record. Where none refuses, the first 49 + 12*w*n bytes of record are the
  * result and the rest of record is untouched; the answer is 0, number of
  * bytes.
  */
@@ -201,16 +211,19 @@ uint64_t basin_write(size_t w, size_t n, uint8_t kind,
                      const int64_t *b, size_t b_len,
                      const int64_t *u, size_t u_len,
                      const int64_t *v, size_t v_len,
-                     uint64_t timestamp,
+                     uint64_t seconds, uint64_t milliseconds,
                      uint8_t *record, size_t record_len,
                      uint64_t answer[8]);
 
 /*
  * Reads a record, its tags in any order. Tests 7, 1, 2, then 8 of h, b, u and
- * v, then 3, 4, 5. Where none refuses, the first w*n numbers of each of the
+ * v, then 3, 9, 4, 5. Where none refuses, the first w*n numbers of each of the
  * four are the state's and the rest of each is untouched; constants are g, c
- * and r; the answer is 0, w, n, kind, timestamp. A refused call leaves constants
- * untouched.
+ * and r; the answer is 0, w, n, kind, seconds, milliseconds. A refused call
+ * leaves constants untouched.
+ *
+ * A record that was read and is written again has its fields by rising tag, and
+ * tag 8 of zeros where it had none.
  */
 uint64_t basin_read(const uint8_t *record, size_t record_len,
                     int64_t *h, size_t h_len,
@@ -225,13 +238,14 @@ uint64_t basin_read(const uint8_t *record, size_t record_len,
  * first wholly, then the second. Where none is refused, the answer is 0 and one
  * of these:
  *
- *   0  same: the same w, n, kind, constants and fields, and timestamp
+ *   0  same: the same w, n, kind, constants and fields, and timestamp, to the
+ *      millisecond
  *   1  the first is newer: it has the later timestamp
  *   2  the second is newer
  *   3  conflict: the timestamp is the same, and something else differs
  *
  * Otherwise the answer is the number of the refusal, the record (1 or 2), and
- * then the values of that number: 7, 2, offset, for instance.
+ * then the values of that number: 7, 2, offset, for instance, or 9, 1.
  */
 uint64_t basin_compare(const uint8_t *first, size_t first_len,
                        const uint8_t *second, size_t second_len,

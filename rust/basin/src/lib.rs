@@ -1,15 +1,15 @@
-//! The proved basin core (document 01), called from safe Rust.
+//! The proved basin core (document 01, and request U1 of document 02), called
+//! from safe Rust.
 //!
 //! The library behind these calls is `libbasin.a`, which `rt staticlib basin`
 //! writes once every function is proved to meet its contract; the calls here
 //! only pass slices on and put names to the numbers that come back. They take
-//! any numbers and any lengths: what 01 refuses is returned as a
-//! [`Refusal`].
+//! any numbers and any lengths: what is refused is returned as a [`Refusal`].
 //!
 //! The core has the step of a state and runs of it ([`step`], [`run`]), the
 //! totals ([`total_depth`], [`total_energy`]), the potential vorticity and the
 //! tendencies ([`potential_vorticity`], [`tendencies`]), the record of a state
-//! ([`write`], [`read`], [`compare`]) and the rounding of the scheme ([`rnd`]).
+//! ([`write()`], [`read`], [`compare`]) and the rounding of the scheme ([`rnd`]).
 //!
 //! The archive is looked for in the repository's `target/staticlib`, or in
 //! the folder that the environment variable `BASIN_LIB_DIR` names when this
@@ -18,6 +18,7 @@
 //! ```
 //! use basin::{compare, potential_vorticity, read, rnd, run, step, tendencies, total_depth};
 //! use basin::{total_energy, write, Comparison, Field, Parameters, Ran, Read, Refusal, Refused};
+//! use basin::Timestamp;
 //!
 //! // One cell, 2,000 mm deep, that wraps both ways.
 //! let p = Parameters { w: 1, n: 1, kind: 0, g: 9810, c: 10, r: 1000 };
@@ -40,26 +41,37 @@
 //! assert_eq!(refusal.number(), 4);
 //! assert_eq!(refusal.to_string(), "refusal 4: depth h outside its bounds, cell 0");
 //!
-//! // The record of this state, as of 2000-01-01 00:00, and one a minute later.
+//! // The record of this state, as of a minute past 2000-01-01 00:00, and one a
+//! // quarter of a second later.
+//! let time = Timestamp { seconds: 60, milliseconds: 0 };
 //! let mut record = vec![0; p.record_len()];
-//! assert_eq!(write(&p, &h, &b, &u, &v, 0, &mut record), Ok(56));
+//! assert_eq!(write(&p, &h, &b, &u, &v, time, &mut record), Ok(61));
+//! let later_time = Timestamp { milliseconds: 250, ..time };
 //! let mut later = record.clone();
-//! assert_eq!(write(&p, &h, &b, &u, &v, 60, &mut later), Ok(56));
+//! assert_eq!(write(&p, &h, &b, &u, &v, later_time, &mut later), Ok(61));
 //! assert_eq!(compare(&record, &record), Ok(Comparison::Same));
 //! assert_eq!(compare(&record, &later), Ok(Comparison::SecondNewer));
+//!
+//! // A second has no more than 999 whole milliseconds.
+//! let no_time = Timestamp { milliseconds: 1000, ..time };
+//! let refused = write(&p, &h, &b, &u, &v, no_time, &mut later);
+//! assert_eq!(refused, Err(Refusal::Milliseconds));
 //!
 //! // Read into fields with room for two cells, of which the first is filled.
 //! let [mut h2, mut b2, mut u2, mut v2] = [[7; 2]; 4];
 //! let done = read(&later, &mut h2, &mut b2, &mut u2, &mut v2);
-//! assert_eq!(done, Ok(Read { parameters: p, timestamp: 60 }));
+//! assert_eq!(done, Ok(Read { parameters: p, timestamp: later_time }));
 //! assert_eq!((h2, b2, u2, v2), ([2000, 7], [0, 7], [100, 7], [-50, 7]));
 //!
-//! // The last field begins at byte 51. Its value is cut off.
-//! let damaged = Refusal::Record { offset: 51 };
-//! assert_eq!(read(&later[..55], &mut h2, &mut b2, &mut u2, &mut v2), Err(damaged));
-//! let refused = compare(&record, &later[..55]).unwrap_err();
+//! // The last field begins at byte 56. Its value is cut off.
+//! let damaged = Refusal::Record { offset: 56 };
+//! assert_eq!(read(&later[..60], &mut h2, &mut b2, &mut u2, &mut v2), Err(damaged));
+//! let refused = compare(&record, &later[..60]).unwrap_err();
 //! assert_eq!(refused, Refused { record: 2, refusal: damaged });
-//! assert_eq!(refused.to_string(), "record 2: refusal 7: a damaged record, at byte 51");
+//! assert_eq!(refused.to_string(), "record 2: refusal 7: a damaged record, at byte 56");
+//!
+//! // A record may lack that field: its milliseconds are 0 then.
+//! assert_eq!(compare(&record, &later[..56]), Ok(Comparison::Same));
 //!
 //! // A step needs 8 numbers of work space per cell, which it leaves 0.
 //! let mut work = vec![7; p.work_len()];
@@ -126,12 +138,24 @@ impl Parameters {
         self.w.saturating_mul(self.n).saturating_mul(8)
     }
 
-    /// How many bytes a record of such a state has: 44 + 12·w·n. Where that is
-    /// more than a `usize` holds, the grid is one that every call refuses.
+    /// How many bytes the record that [`write()`] makes of such a state has:
+    /// 49 + 12·w·n. Where that is more than a `usize` holds, the grid is one that
+    /// every call refuses.
     pub fn record_len(&self) -> usize {
         let fields = self.w.saturating_mul(self.n).saturating_mul(12);
-        fields.saturating_add(44)
+        fields.saturating_add(49)
     }
+}
+
+/// The moment of a state, counted from 2000-01-01 00:00 (01: the stamp). Any
+/// numbers may stand here; the calls test them. Of two moments the greater is the
+/// later one, by second and then by millisecond, as [`compare`] has it.
+#[derive(Clone, Copy, Debug, PartialEq, Eq, PartialOrd, Ord, Hash)]
+pub struct Timestamp {
+    /// Whole seconds.
+    pub seconds: u64,
+    /// Milliseconds past them, 0 to 999: more are refused with 9.
+    pub milliseconds: u64,
 }
 
 /// How far a run came.
@@ -150,15 +174,15 @@ pub struct Ran {
 pub struct Read {
     /// The scalars of the state.
     pub parameters: Parameters,
-    /// Whole seconds since 2000-01-01 00:00 (01: the stamp).
-    pub timestamp: u64,
+    /// The moment of the state.
+    pub timestamp: Timestamp,
 }
 
 /// What two records are to each other. Two states are the same where their
 /// parameters and fields are.
 #[derive(Clone, Copy, Debug, PartialEq, Eq, Hash)]
 pub enum Comparison {
-    /// The same state under the same timestamp.
+    /// The same state under the same timestamp, to the millisecond.
     Same,
     /// The first has the later timestamp, whatever the states.
     FirstNewer,
@@ -218,7 +242,7 @@ pub fn run(
     work: &mut [i64],
 ) -> Result<Ran, Refusal> {
     let answer = told(|answer| raw::run(p, h, b, u, v, inflow, steps, work, answer));
-    match accepted(answer) {
+    match accepted(&answer) {
         Ok(()) => Ok(Ran {
             steps: answer[1],
             stopped: None,
@@ -299,32 +323,36 @@ pub fn tendencies(
 }
 
 /// Writes the record of a state into the first [`Parameters::record_len`] bytes
-/// of `record`, by rising tag, and gives their number. `timestamp` is in whole
-/// seconds since 2000-01-01 00:00. The bytes past them are left as they were,
-/// and after a refusal all bytes are.
+/// of `record`, by rising tag, and gives their number. The bytes past them are
+/// left as they were, and after a refusal all bytes are.
 ///
-/// The tests go by number: 1 to 5 of the state, then 8, `record` too short.
+/// The tests go in the order 1, 2, 3 of the state; 9, milliseconds above 999; 4, 5;
+/// then 8, `record` too short.
 pub fn write(
     p: &Parameters,
     h: &[i64],
     b: &[i64],
     u: &[i64],
     v: &[i64],
-    timestamp: u64,
+    timestamp: Timestamp,
     record: &mut [u8],
 ) -> Result<usize, Refusal> {
-    let answer = told(|answer| raw::write(p, h, b, u, v, timestamp, record, answer));
-    accepted(answer)?;
+    let Timestamp {
+        seconds,
+        milliseconds,
+    } = timestamp;
+    let answer = told(|answer| raw::write(p, h, b, u, v, seconds, milliseconds, record, answer));
+    accepted(&answer)?;
     Ok(answer[1] as usize)
 }
 
 /// Reads a record, its tags in any order, into the first w·n places of `h`,
 /// `b`, `u` and `v`. The places past them are left as they were, and after a
-/// refusal all places are.
+/// refusal all places are. A record may lack tag 8: its milliseconds are 0 then.
 ///
 /// The tests go in the order 7, a damaged record; 1; 2; 8, one of the four
-/// shorter than w·n; 3, 4, 5. So what is read passes the tests of the state in
-/// every call.
+/// shorter than w·n; 3; 9, milliseconds above 999; 4, 5. So what is read passes
+/// the tests of state and timestamp in every call.
 pub fn read(
     record: &[u8],
     h: &mut [i64],
@@ -334,8 +362,8 @@ pub fn read(
 ) -> Result<Read, Refusal> {
     let mut constants = [0; 3];
     let answer = told(|answer| raw::read(record, h, b, u, v, &mut constants, answer));
-    accepted(answer)?;
-    let [_, w, n, kind, timestamp, ..] = answer;
+    accepted(&answer)?;
+    let [_, w, n, kind, seconds, milliseconds, ..] = answer;
     let [g, c, r] = constants;
     let parameters = Parameters {
         w: w as usize,
@@ -348,20 +376,24 @@ pub fn read(
     };
     Ok(Read {
         parameters,
-        timestamp,
+        timestamp: Timestamp {
+            seconds,
+            milliseconds,
+        },
     })
 }
 
-/// Compares two records by timestamp, and where that is the same by state. The
-/// order of their tags does not count.
+/// Compares two records by [`Timestamp`], and where that is the same by state. The
+/// order of their tags does not count, nor whether milliseconds of 0 are left out.
 ///
 /// The first is tested wholly before the second, each in the order 7, 1, 2, 3,
-/// 4, 5.
+/// 9, 4, 5.
 pub fn compare(first: &[u8], second: &[u8]) -> Result<Comparison, Refused> {
+    let answer = told(|answer| raw::compare(first, second, answer));
     // What comes next is the record that is refused, or the comparison's result.
-    let [number, next, values @ ..] = told(|answer| raw::compare(first, second, answer));
-    Refused::from_told(number, next, &values)?;
-    Ok(Comparison::from_told(next))
+    let [number, next, values @ ..] = &answer;
+    Refused::from_told(*number, *next, values)?;
+    Ok(Comparison::from_told(*next))
 }
 
 /// The answer of a call: a number, which it returns too, and what is told with
@@ -372,14 +404,14 @@ fn told(call: impl FnOnce(&mut [u64; 8]) -> u64) -> [u64; 8] {
     answer
 }
 
-fn accepted(answer: [u64; 8]) -> Result<(), Refusal> {
+fn accepted(answer: &[u64; 8]) -> Result<(), Refusal> {
     let [number, values @ ..] = answer;
-    Refusal::from_told(number, &values)
+    Refusal::from_told(*number, values)
 }
 
 /// Makes a call that tells no value with a 0.
 fn answered(call: impl FnOnce(&mut [u64; 8]) -> u64) -> Result<(), Refusal> {
-    accepted(told(call))
+    accepted(&told(call))
 }
 
 /// The version of the library that is linked: 10,000 times major, 100 times

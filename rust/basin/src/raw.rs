@@ -143,14 +143,14 @@ functions! {
     /// record; `answer` as above, with the number of its bytes after a 0.
     fn write(
         p: &Parameters, h: &[i64], b: &[i64], u: &[i64], v: &[i64],
-        timestamp: u64,
+        seconds: u64, milliseconds: u64,
         record: &mut [u8],
         answer: &mut [u64; 8],
     );
 
     /// The number of the refusal, 0 where `h`, `b`, `u` and `v` are filled and
-    /// `constants` are G, c and R; `answer` as above, with w, n, kind and timestamp
-    /// after a 0.
+    /// `constants` are G, c and R; `answer` as above, with w, n, kind, seconds and
+    /// milliseconds after a 0.
     fn read(
         record: &[u8],
         h: &mut [i64], b: &mut [i64], u: &mut [i64], v: &mut [i64],

@@ -104,7 +104,7 @@ macro_rules! refusals {
         }
 
         impl $Refusal {
-            /// 01's number for the refusal.
+            /// The number of 01, or of 02, for the refusal.
             pub fn number(&self) -> u8 {
                 match self {
                     $($Refusal::$refusal { .. } => $number,)*
@@ -123,14 +123,21 @@ macro_rules! refusals {
             ///
             /// Panics at a number, pass or field that is none. The proved library
             /// never tells one: another library was linked then.
+            #[inline]
             pub(crate) fn from_told(number: u64, values: &[u64]) -> Result<(), Self> {
-                if number == 0 {
-                    return Ok(());
+                match number {
+                    0 => Ok(()),
+                    number => Err(Self::refused(number, values)),
                 }
+            }
+
+            // apart, so that the values of a call that is done are not looked at
+            #[cold]
+            fn refused(number: u64, values: &[u64]) -> Self {
                 let known = Self::known(number, values.iter().copied());
-                Err(known.unwrap_or_else(|| {
+                known.unwrap_or_else(|| {
                     panic!("libbasin.a told refusal {number} with {values:?}, which is none")
-                }))
+                })
             }
 
             fn known(number: u64, mut values: impl Iterator<Item = u64>) -> Option<Self> {
@@ -176,6 +183,9 @@ refusals! {
         /// a field to be filled has fewer than w·n places, or a record to be
         /// written fewer than [`Parameters::record_len`](crate::Parameters::record_len).
         8: Destination = "a field or record to be filled is too short",
+        /// the milliseconds of a [`Timestamp`](crate::Timestamp) above 999;
+        /// tested straight after 3.
+        9: Milliseconds = "milliseconds above 999",
     }
 }
 
@@ -251,7 +261,7 @@ mod tests {
             assert_eq!(u64::from(field.number()), number);
         }
         assert_eq!(Field::from_told(6), None);
-        for number in 1..=8 {
+        for number in 1..=9 {
             // Good for a pass, for a field and for a cell.
             let refusal = Refusal::from_told(number, &[2; 7]).unwrap_err();
             assert_eq!(u64::from(refusal.number()), number);
@@ -271,7 +281,7 @@ mod tests {
     #[test]
     fn what_no_line_has_is_no_refusal() {
         let known = |number, values: [u64; 3]| Refusal::known(number, values.into_iter());
-        assert_eq!(known(9, [0; 3]), None);
+        assert_eq!(known(10, [0; 3]), None);
         assert_eq!(known(u64::MAX, [0; 3]), None);
         // No such field, and no such pass.
         assert_eq!(known(4, [6, 0, 0]), None);

@@ -8,6 +8,7 @@ mod balance;
 mod comparison;
 mod empty;
 mod limits;
+mod milliseconds;
 mod nothing_lost;
 mod program;
 mod record;

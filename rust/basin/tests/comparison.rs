@@ -9,8 +9,8 @@
 //! where the call was made at random the seed and the number of the case too.
 
 use crate::cases::calls::{answered, call_raw, compare, expect, independent, Written, UNANSWERED};
-use crate::cases::common::{Random, NUMBERS};
-use crate::cases::{add, any_numbers, random_case, record_size, Call, Case};
+use crate::cases::common::{first_told, record_size, Random, NUMBERS, TESTED};
+use crate::cases::{add, any_numbers, random_case, Call, Case};
 use crate::cases::{BOUNDS, CALLS, FAULTS, FILLING, H, TOTALS, U, V};
 
 // ---- random calls
@@ -135,7 +135,7 @@ impl Coverage {
                 often(destinations.as_flattened(), 200, "a destination");
             }
             if call == Call::Write {
-                often(&told[8..=8], 1_000, "refused with 8");
+                often(&told[8..=9], 1_000, "refused with 8 and 9");
                 often(&self.record, 200, "a record");
             }
         }
@@ -152,6 +152,10 @@ impl Coverage {
             often(&self.next[number][first..=5], 100, "two causes");
             often(&self.next[number][8..=8], 100, "8 as the second cause");
         }
+        let with_9 = [1, 2, 3].map(|number| self.next[number][9]);
+        often(&with_9, 20, "9 as the second cause");
+        let after_9 = [4, 5, 8].map(|number| self.next[9][number]);
+        often(&after_9, 20, "9 as the first cause");
         often(&self.next_field, 500, "two numbers outside");
     }
 }
@@ -360,7 +364,7 @@ fn a_record_of_fewer_bytes_is_refused() {
     for length in (0..=130).chain([1_000, 70_000]) {
         let mut case = Case::basin();
         case.record = length;
-        let told = if length < 116 { 8 } else { 0 };
+        let told = if length < 121 { 8 } else { 0 };
         for call in CALLS {
             let told = if call == Call::Write { told } else { 0 };
             expect(&case, call, &[told], "a record");
@@ -519,6 +523,7 @@ enum Cause {
     Destination(usize, usize),
     /// A record of so many bytes.
     Record(usize),
+    Milliseconds(u64),
 }
 
 impl Cause {
@@ -543,7 +548,8 @@ impl Cause {
         for which in 0..3 {
             causes.extend([0, 5].map(|length| Cause::Destination(which, length)));
         }
-        causes.extend([0, 115].map(Cause::Record));
+        causes.extend([0, 116, 120].map(Cause::Record));
+        causes.extend([1_000, 65_536, u64::MAX].map(Cause::Milliseconds));
         causes
     }
 
@@ -568,6 +574,7 @@ impl Cause {
             Cause::Edge(field, cell) => put(field, cell, 1),
             Cause::Destination(which, length) => case.destinations[which] = length,
             Cause::Record(length) => case.record = length,
+            Cause::Milliseconds(above) => case.timestamp.milliseconds = above,
         }
     }
 
@@ -585,13 +592,14 @@ impl Cause {
             Cause::Edge(field, cell) => (taken(&field), vec![5, field as u64, cell as u64]),
             Cause::Destination(which, _) => (which < call.destinations(), vec![8]),
             Cause::Record(_) => (call == Call::Write, vec![8]),
+            Cause::Milliseconds(_) => (call == Call::Write, vec![9]),
         };
         looked_at.then_some(told)
     }
 }
 
 #[test]
-fn of_two_causes_the_first_by_number_field_and_cell_is_told() {
+fn of_two_causes_the_first_by_test_field_and_cell_is_told() {
     let with = |causes: &[Cause]| {
         let mut case = Case::basin();
         causes.iter().for_each(|cause| cause.put(&mut case));
@@ -599,6 +607,8 @@ fn of_two_causes_the_first_by_number_field_and_cell_is_told() {
     };
     let causes = Cause::all();
     let mut pairs = 0;
+    // The numbers that stand beside a 9, of the writer.
+    let mut beside_9 = [0; NUMBERS];
     for &one in &causes {
         for &other in &causes {
             let case = with(&[one, other]);
@@ -608,16 +618,19 @@ fn of_two_causes_the_first_by_number_field_and_cell_is_told() {
             }
             pairs += 1;
             for call in CALLS {
-                let told = [one, other]
-                    .into_iter()
-                    .filter_map(|cause| cause.told(call));
-                let first = told.min().unwrap_or(vec![0]);
+                let told = [one, other].map(|cause| cause.told(call));
+                if let [Some(one), Some(other)] = &told {
+                    beside_9[other[0] as usize] += usize::from(one[0] == 9);
+                }
+                let told = told.into_iter().flatten();
+                let first = first_told(&TESTED, told).unwrap_or(vec![0]);
                 expect(&case, call, &first, &format!("{one:?}, {other:?}"));
             }
         }
     }
-    println!("{pairs} pairs");
+    println!("{pairs} pairs {beside_9:?}");
     assert!(pairs > 5_000, "{pairs}");
+    assert!([1, 2, 3, 4, 5, 8].iter().all(|&k| beside_9[k] > 1));
 }
 
 // ---- the C functions by themselves
@@ -649,7 +662,7 @@ fn all_eight_places_are_set_whatever_stood_there() {
         }
     }
     println!("{met:?}");
-    for number in [0, 1, 2, 3, 4, 5, 6, 8] {
+    for number in [0, 1, 2, 3, 4, 5, 6, 8, 9] {
         assert!(met[number] > 1_000, "{met:?}");
     }
 }

@@ -254,5 +254,6 @@ fn lists_that_start_or_end_beside_such_a_page() {
     }
     let others = [met[0][6], met[0][8], met[1][7], met[1][8], met[2][7]];
     assert!(others.iter().all(|&times| times > 30), "{met:?}");
+    assert!(met.iter().all(|met| met[9] > 30), "{met:?}");
     assert!(quotients.iter().all(|&times| times > 30), "{quotients:?}");
 }

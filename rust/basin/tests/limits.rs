@@ -9,12 +9,12 @@
 //! whose product is the length of the fields, are in comparison.rs too.)
 
 use crate::cases::calls::{answered, array, call_raw, compare, expect, independent, parameters};
-use crate::cases::calls::{Written, FENCE, FENCE_BYTE, UNANSWERED, UNTOUCHED};
-use crate::cases::common::{record_field, record_fields, record_of};
+use crate::cases::calls::{timestamp, Written, FENCE, FENCE_BYTE, UNANSWERED, UNTOUCHED};
+use crate::cases::common::{moment, record_field, record_fields, record_of, record_size};
 use crate::cases::memory::{Mapping, Plain};
 use crate::cases::records::{self, basin, expect_pair, expect_state, independent_pair};
 use crate::cases::records::{of_record, written, Lent, TIMESTAMP};
-use crate::cases::{record_size, Call, Case, CALLS, H, S, U, V};
+use crate::cases::{Call, Case, CALLS, H, S, U, V};
 use basin::{raw, Refusal};
 
 // ---- numbers
@@ -51,7 +51,7 @@ fn sides_whose_products_wrap() {
             case.destinations = [length; 3];
             for work in [cells.wrapping_mul(8), 48, 0, usize::MAX] {
                 case.work = work;
-                case.record = cells.wrapping_mul(12).wrapping_add(44).min(70_000);
+                case.record = cells.wrapping_mul(12).wrapping_add(49).min(70_000);
                 for call in CALLS {
                     expect(&case, call, &[1], "sides");
                 }
@@ -104,10 +104,11 @@ fn all_numbers_the_least_and_the_greatest() {
 
 #[test]
 fn the_first_and_the_last_timestamp() {
+    let end = moment(u64::MAX, 999);
     let first = written(&basin(), 0, "the first");
-    let last = written(&basin(), u64::MAX, "the last");
+    let last = written(&basin(), end, "the last");
     expect_state(&first, Lent::enough(6), (&basin(), 0), "the first");
-    expect_state(&last, Lent::enough(6), (&basin(), u64::MAX), "the last");
+    expect_state(&last, Lent::enough(6), (&basin(), end), "the last");
     expect_pair(&first, &last, &[0, 2], "the last is newer");
     expect_pair(&last, &first, &[0, 1], "the last is newer");
     expect_pair(&last, &last, &[0, 0], "the same");
@@ -361,21 +362,25 @@ fn records_are_read_into_long_lists() {
 /// Starts of records, and the offset that is told where zeros follow for long.
 fn damaged_by_zeros() -> Vec<(Vec<u8>, u64)> {
     let fields = record_fields(&basin(), TIMESTAMP);
-    let good = fields.concat();
+    let (good, old) = (fields.concat(), fields[..7].concat());
     let longest: Vec<_> = (4..8).map(|tag| record_field(tag, &[1; 0xFFFF])).collect();
     let longest = [fields[..3].concat(), longest.concat()].concat();
     let mut starts = vec![
         // No tag is 0.
         (vec![], 0),
-        (good.clone(), 116),
+        (good.clone(), 121),
         (longest, 44 + 4 * 0xFFFF),
         (fields[..6].concat(), 101),
         // Two bytes of a tag's length, and all of them, are zeros.
         (vec![1], 0),
         (vec![4], 3),
         // One tag once more, and one that is none.
-        ([good.clone(), vec![7, 0, 12]].concat(), 116),
-        ([good.clone(), vec![8]].concat(), 116),
+        ([good.clone(), vec![7, 0, 12]].concat(), 121),
+        ([good.clone(), vec![8, 0, 2]].concat(), 121),
+        ([good.clone(), vec![9]].concat(), 121),
+        // Tag 8 of no bytes, and of two, which the zeros are.
+        ([old.clone(), vec![8]].concat(), 116),
+        ([old, vec![8, 0, 2]].concat(), 121),
     ];
     // The last value goes on into the zeros, which are enough for it.
     starts.push((good[..110].to_vec(), 116));
@@ -459,11 +464,11 @@ fn destinations_and_work_space_are_long_at_once() {
     assert_eq!([h1, u1, v1], independent(&case, Call::Run).written.stepped);
     long.assert_left(&[0; 48], "a long work space");
 
-    let record = record_of(&case.state(), 5);
+    let record = record_of(&case.state(), moment(5, 250));
     let read = basin::read(&record, h, b, u, v);
     assert_eq!(
         read.map(|read| (read.parameters, read.timestamp)),
-        Ok((*p, 5))
+        Ok((*p, timestamp(moment(5, 250))))
     );
     for (list, field) in [h, b, u, v].into_iter().zip(&case.fields) {
         assert_eq!(list[..6], field[..]);
@@ -491,8 +496,8 @@ fn all_fields_are_long_at_once() {
     assert_eq!(refused, Err(lengths));
     let refused = basin::tendencies(p, long, long, long, long, long, h, u, v);
     assert_eq!(refused, Err(lengths));
-    let mut record = [0; 116];
-    let refused = basin::write(p, long, long, long, long, 0, &mut record);
+    let (time, mut record) = (timestamp(0.into()), [0; 121]);
+    let refused = basin::write(p, long, long, long, long, time, &mut record);
     assert_eq!(refused, Err(lengths));
     // Of sides whose product is that length, test 1 comes first.
     let wide = &basin::Parameters {

@@ -18,7 +18,7 @@ use std::path::Path;
 
 use crate::cases::calls::{answered, array, independent, parameters};
 use crate::cases::changes::Changed;
-use crate::cases::common::{record_of, two_cells, Random};
+use crate::cases::common::{moment, record_of, two_cells, Random};
 use crate::cases::memory::{Guarded, Plain};
 use crate::cases::records::{self, answer_for, independent_pair, Lent, TIMESTAMP};
 use crate::cases::{add, any_numbers, random_case, Call, Case, H, S, TOTALS};
@@ -154,7 +154,8 @@ fn a_record_that_is_read_gives_its_constants() {
         };
         let example = record_of(&Case::example_2().state(), TIMESTAMP);
         let given = read(&example, Lent::enough(1));
-        let answer = [0, 1, 1, 0, TIMESTAMP, 0, 0, 0];
+        let (seconds, milliseconds) = (TIMESTAMP.seconds, TIMESTAMP.milliseconds);
+        let answer = [0, 1, 1, 0, seconds, milliseconds, 0, 0];
         let fields = [2_000, 0, 100, -50].map(|number| vec![number]);
         assert_eq!(given, (0, [9_810, 10, 1_000], answer, fields));
 
@@ -187,7 +188,8 @@ fn a_comparison_that_returns_0_says_what_it_came_to() {
         };
         let mut other = two_cells();
         other.h[1] += 1;
-        for (time, other_time) in [(5, 5), (5, 4), (4, 5)] {
+        let times = [(5, 0), (5, 1), (4, 999)].map(|(seconds, ms)| moment(seconds, ms));
+        for [time, other_time] in times.iter().flat_map(|&a| times.map(|b| [a, b])) {
             let first = record_of(&two_cells(), time);
             for (second, same) in [(&two_cells(), true), (&other, false)] {
                 let second = record_of(second, other_time);

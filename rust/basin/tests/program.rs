@@ -15,10 +15,10 @@ use std::time::Duration;
 use std::{env, fs, thread};
 
 use crate::cases::changes::Changed;
-use crate::cases::common::{at_rest, random_state, record_of, record_of_length};
-use crate::cases::common::{Random, NUMBERS, SPREADS};
+use crate::cases::common::{at_rest, moment, random_state, random_timestamp, record_of};
+use crate::cases::common::{record_of_length, record_without_8, Random, NUMBERS, SPREADS};
 use crate::cases::records::{hex, shuffled};
-use crate::cases::{add, random_timestamp, Case};
+use crate::cases::{add, Case};
 use reference::{step_program, State};
 
 // ---- the program
@@ -115,13 +115,14 @@ const EXAMPLE_10: &str = "total 2000\n0 0 2000 99 -51\n";
 
 #[test]
 fn worked_example_10() {
-    let record = record_of(&Case::example_2().state(), 0);
+    let record = record_without_8(&Case::example_2().state(), 0);
     let input = "010003010100 02000C000026520000000A000003E8 0300080000000000000000 \
                  040004000007D0 05000400000000 0600020064 070002FFCE";
     assert_eq!(hex(&record), input.replace(' ', ""));
     expect(&record, EXAMPLE_10, "example 10");
 
-    // From a file, as the README has it.
+    // From a file, as the README has it, with tag 8.
+    let record = record_of(&Case::example_2().state(), 0);
     let path = in_repository("examples/one_cell.rec");
     assert_eq!(fs::read(&path).expect("the file"), record);
     let file = File::open(&path).expect("the file");
@@ -184,6 +185,8 @@ fn every_refusal_is_printed() {
     expect(&good[..good.len() - 1], "refused 7\n", "cut off");
     expect(&[&good[..], &[1]].concat(), "refused 7\n", "a byte more");
     expect(&[], "refused 7\n", "nothing");
+    let late = record_of(&Case::basin().state(), moment(1, 1_000));
+    expect(&late, "refused 9\n", "milliseconds");
 }
 
 #[test]
@@ -198,9 +201,13 @@ fn more_than_1_024_cells_are_an_8() {
     for (w, n) in [(25, 41), (41, 25), (33, 32), (64, 17), (64, 64)] {
         let mut state = at_rest(w, n);
         expect(&record_of(&state, 1), "refused 8\n", "more cells");
-        // 8 comes before 3, 4 and 5, and after 7, 1 and 2.
+        // 8 comes before 3, 9, 4 and 5, and after 7, 1 and 2.
         (state.parameters.g, state.h[0]) = (0, 0);
-        expect(&record_of(&state, 1), "refused 8\n", "8 first");
+        expect(
+            &record_of(&state, moment(1, 1_000)),
+            "refused 8\n",
+            "8 first",
+        );
         state.h.pop();
         expect(&record_of(&state, 1), "refused 2\n", "2 first");
         state.parameters.kind = 3;
@@ -250,7 +257,7 @@ fn damaged_records() {
         met[refusal(&compare(&record, &format!("record {number}")))] += 1;
     }
     println!("{met:?}");
-    for number in [0, 1, 2, 3, 4, 7] {
+    for number in [0, 1, 2, 3, 4, 7, 9] {
         assert!(met[number] > 1, "{met:?}");
     }
 }

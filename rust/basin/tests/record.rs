@@ -12,12 +12,13 @@
 use crate::cases::calls::UNANSWERED;
 use crate::cases::changes::Changed;
 use crate::cases::common::{any_state, random_state, within_limits, Random, NUMBERS, SPREADS};
-use crate::cases::common::{every_order, record_fields, record_of, two_cells};
+use crate::cases::common::{every_order, moment, random_timestamp, record_fields, record_of};
+use crate::cases::common::{record_without_8, two_cells};
 use crate::cases::records::{answer_for, basin, TIMESTAMP};
 use crate::cases::records::{compare_pair, compare_read, expect_pair, expect_read, expect_state};
 use crate::cases::records::{field, hex, of_record, shuffled, written, Lent};
-use crate::cases::{add, any_numbers, random_timestamp, Case, BOUNDS, U, V};
-use reference::{Parameters, State};
+use crate::cases::{add, any_numbers, Case, BOUNDS, U, V};
+use reference::{Parameters, State, Timestamp};
 
 // ---- good records
 
@@ -27,8 +28,13 @@ fn example_10_one_cell() {
                   040004000007D0 05000400000000 0600020064 070002FFCE";
     let record = record.replace(' ', "");
     let state = Case::example_2().state();
+    // 01's record has no tag 8, which the writer adds.
+    let old = record_without_8(&state, 0);
+    assert_eq!(hex(&old), record);
+    expect_state(&old, Lent::enough(1), (&state, 0), "example 10");
     let written = written(&state, 0, "example 10");
-    assert_eq!(hex(&written), record);
+    assert_eq!(hex(&written), record + "0800020000");
+    expect_pair(&old, &written, &[0, 0], "example 10");
     expect_state(&written, Lent::enough(1), (&state, 0), "example 10");
     expect_pair(&written, &written, &[0, 0], "example 10");
     let p = basin::Parameters {
@@ -39,7 +45,7 @@ fn example_10_one_cell() {
         c: 10,
         r: 1_000,
     };
-    assert_eq!(p.record_len(), 56);
+    assert_eq!(p.record_len(), 61);
 }
 
 #[test]
@@ -55,33 +61,48 @@ fn lengths_of_records_and_work_spaces_do_not_overflow() {
         };
         [p.record_len(), p.work_len()]
     };
-    assert_eq!(lengths(64, 64), [49_196, 32_768]);
-    assert_eq!(lengths(0, 7), [44, 0]);
+    assert_eq!(lengths(64, 64), [49_201, 32_768]);
+    assert_eq!(lengths(0, 7), [49, 0]);
     for (w, n) in [(1 << 32, 1 << 32), (usize::MAX, 1), (1, usize::MAX / 8)] {
         assert_eq!(lengths(w, n)[0], usize::MAX, "{w} {n}");
     }
 }
 
-#[test]
-fn tags_in_every_order_of_small_grids() {
+/// In every order these fields read as the state at this time; gives the number of
+/// orders.
+fn every_order_reads(state: &State, time: Timestamp, fields: &mut [Vec<u8>]) -> usize {
     let mut random = Random::new(61);
+    let cells = state.h.len();
+    let rising = written(state, time, "an order");
+    let mut neighbour = state.clone();
+    neighbour.h[cells - 1] += 1;
+    let neighbour = record_of(&neighbour, time);
     let mut orders = 0;
+    every_order(fields, 0, &mut |fields| {
+        let record = fields.concat();
+        let lent = Lent::any(&mut random, cells);
+        expect_state(&record, lent, (state, time), "an order");
+        expect_pair(&rising, &record, &[0, 0], "an order");
+        expect_pair(&record, &neighbour, &[0, 3], "an order");
+        orders += 1;
+    });
+    orders
+}
+
+#[test]
+fn seven_tags_in_every_order_of_small_grids() {
     for state in [Case::example_2().state(), two_cells(), basin()] {
-        let rising = written(&state, TIMESTAMP, "an order");
-        let cells = state.h.len();
-        let mut neighbour = state.clone();
-        neighbour.h[cells - 1] += 1;
-        let neighbour = record_of(&neighbour, TIMESTAMP);
-        every_order(&mut record_fields(&state, TIMESTAMP), 0, &mut |fields| {
-            let record = fields.concat();
-            let lent = Lent::any(&mut random, cells);
-            expect_state(&record, lent, (&state, TIMESTAMP), "an order");
-            expect_pair(&rising, &record, &[0, 0], "an order");
-            expect_pair(&record, &neighbour, &[0, 3], "an order");
-            orders += 1;
-        });
+        let time = moment(TIMESTAMP.seconds, 0);
+        let mut fields = record_fields(&state, time);
+        assert_eq!(every_order_reads(&state, time, &mut fields[..7]), 5_040);
     }
-    assert_eq!(orders, 3 * 5_040);
+}
+
+#[test]
+fn eight_tags_in_every_order() {
+    let state = Case::example_2().state();
+    let mut fields = record_fields(&state, TIMESTAMP);
+    assert_eq!(every_order_reads(&state, TIMESTAMP, &mut fields), 40_320);
 }
 
 #[test]
@@ -143,8 +164,8 @@ fn records_of_every_size_are_written_and_read_to_the_last_cell() {
 fn what_was_written_reads_back_and_what_was_read_writes_back() {
     let seed = 63;
     let mut random = Random::new(seed);
-    // By kind; with tags that rise; with every constant at a bound.
-    let (mut kinds, mut rising_tags, mut at_bounds) = ([0; 3], 0, 0);
+    // By kind; with tags that rise; without tag 8; with every constant at a bound.
+    let (mut kinds, mut rising_tags, mut old, mut at_bounds) = ([0; 3], 0, 0, 0);
     for number in 0..12_000 {
         let at = format!("seed {seed}, case {number}");
         let state = any_state(&mut random);
@@ -156,23 +177,24 @@ fn what_was_written_reads_back_and_what_was_read_writes_back() {
             let outcome = compare_read(record, lent, &at);
             let read = outcome.state().expect("it was written so");
             assert_eq!(read, (state.clone(), timestamp), "{at}: {}", hex(record));
-            // From another order the tags rise again.
+            // From another order the tags rise again, and tag 8 is there.
             assert_eq!(written(&read.0, read.1, &at), rising, "{at}");
         }
         kinds[usize::from(state.parameters.kind)] += 1;
-        rising_tags += usize::from(record == rising);
+        rising_tags += usize::from(rising.starts_with(&record));
+        old += usize::from(record.len() < rising.len());
         let Parameters { g, c, r, .. } = state.parameters;
         let ends = [1, 10_000].contains(&g) && c.abs() == 10_000;
         at_bounds += usize::from(ends && [1_000, 1_000_000].contains(&r));
     }
-    println!("{kinds:?} {rising_tags} {at_bounds}");
+    println!("{kinds:?} {rising_tags} {old} {at_bounds}");
     assert!(kinds.iter().all(|&k| k > 3_000), "{kinds:?}");
-    assert!(at_bounds > 2_000 && rising_tags > 0);
+    assert!(at_bounds > 2_000 && rising_tags > 0 && old > 2_000);
 }
 
 #[test]
-fn timestamps_of_every_bit_are_kept_and_compared_without_a_sign() {
-    let mut timestamps = vec![0, 2, 3, u64::MAX, u64::MAX - 1, TIMESTAMP];
+fn seconds_of_every_bit_are_kept_and_compared_without_a_sign() {
+    let mut timestamps = vec![0, 2, 3, u64::MAX, u64::MAX - 1, TIMESTAMP.seconds];
     timestamps.extend((0..64).map(|bit| 1 << bit));
     timestamps.extend((0..64).map(|bit| u64::MAX >> bit));
     let state = two_cells();
@@ -208,6 +230,7 @@ fn constants_and_answers_are_set_or_kept_whatever_stood_there() {
         with(|s| s.u[1] = 5_001),
         with(|s| s.parameters.kind = 2),
         good[..60].to_vec(),
+        record_of(&two_cells(), moment(5, 1_000)),
     ];
     let mut random = Random::new(75);
     // All of one kind; G, c and R of this record or of another; anything.
@@ -224,7 +247,7 @@ fn constants_and_answers_are_set_or_kept_whatever_stood_there() {
         [1; 8],
         [u64::MAX; 8],
         [0, 0, 0, 0, 0, 0, 0, 1],
-        [0, 2, 1, 0, TIMESTAMP, 0, 0, 0],
+        [0, 2, 1, 0, TIMESTAMP.seconds, TIMESTAMP.milliseconds, 0, 0],
         [5, 2, 2, 0, 0, 0, 0, 0],
         UNANSWERED,
         any_numbers(&mut random),
@@ -247,7 +270,7 @@ fn constants_and_answers_are_set_or_kept_whatever_stood_there() {
             }
         }
     }
-    assert!([0, 1, 2, 3, 4, 5, 7, 8].iter().all(|&k| met[k] > 40));
+    assert!([0, 1, 2, 3, 4, 5, 7, 8, 9].iter().all(|&k| met[k] > 40));
 }
 
 // ---- comparison
@@ -308,6 +331,13 @@ fn states_that_differ_in_one_part_are_told_apart() {
     still.u.fill(0);
     still.v.fill(0);
     let mut by_answer = [0; 4];
+    let times = [
+        (moment(5, 0), moment(5, 0)),
+        (moment(5, 0), moment(4, 999)),
+        (moment(5, 1), moment(5, 2)),
+        (moment(0, 999), moment(u64::MAX, 0)),
+        (moment(u64::MAX, 0), moment(1 << 63, 999)),
+    ];
     for state in &neighbours {
         assert!(within_limits(state), "{state:?}");
         // The one with its sides changed differs from the still one alone.
@@ -316,7 +346,7 @@ fn states_that_differ_in_one_part_are_told_apart() {
         } else {
             &basin()
         };
-        for (time, other_time) in [(5, 5), (5, 4), (4, 5), (0, u64::MAX), (u64::MAX, 1 << 63)] {
+        for (time, other_time) in times {
             let told = answer_for(time, other_time, false);
             for _ in 0..4 {
                 let first = shuffled(&mut random, from, time);
@@ -338,7 +368,7 @@ fn states_that_differ_in_one_part_are_told_apart() {
 
 #[test]
 fn the_first_record_is_tested_wholly_before_the_second() {
-    let good = |time| record_of(&basin(), time);
+    let good = |time: u64| record_of(&basin(), time);
     let bad = |time: u64| {
         let with = |change: fn(&mut State)| {
             let mut state = basin();
@@ -346,12 +376,15 @@ fn the_first_record_is_tested_wholly_before_the_second() {
             record_of(&state, time)
         };
         let whole = good(time);
-        let records: [(Vec<u8>, &[u64]); 13] = [
+        let late = moment(time, 1_000);
+        let records: [(Vec<u8>, &[u64]); 15] = [
             (vec![], &[7, 0]),
             (whole[..1].to_vec(), &[7, 0]),
             (whole[..115].to_vec(), &[7, 101]),
-            ([&whole[..], &[1]].concat(), &[7, 116]),
+            (whole[..120].to_vec(), &[7, 116]),
+            ([&whole[..], &[1]].concat(), &[7, 121]),
             (whole[..101].to_vec(), &[7, 101]),
+            (record_of(&basin(), late), &[9]),
             (with(|s| s.parameters.n = 65), &[1]),
             (with(|s| s.u.push(0)), &[2]),
             (with(|s| s.parameters.r = 999), &[3]),
@@ -379,7 +412,7 @@ fn the_first_record_is_tested_wholly_before_the_second() {
             }
         }
     }
-    assert_eq!(pairs, 9 * 13 * 13);
+    assert_eq!(pairs, 9 * 15 * 15);
 }
 
 #[test]
@@ -404,9 +437,11 @@ fn random_pairs_are_compared_alike_and_the_other_way_round() {
             second = any_state(&mut random);
         }
         let time = random_timestamp(&mut random);
-        let other_time = match random.below(5) {
+        let (seconds, ms) = (time.seconds, time.milliseconds);
+        let other_time = match random.below(6) {
             0..=2 => time,
-            3 => time ^ 1 << random.below(64),
+            3 => moment(seconds ^ 1 << random.below(64), ms),
+            4 => moment(seconds, random.pick(&[(ms + 1) % 1_000, 999 - ms, 0])),
             _ => random_timestamp(&mut random),
         };
         let told = answer_for(time, other_time, first == second);
@@ -471,14 +506,14 @@ impl Coverage {
             assert!(counts.iter().all(|&k| k >= least), "{what}: {self:#?}");
         };
         assert!(self.records >= 150_000, "{self:#?}");
-        for number in [0, 1, 2, 3, 4, 5, 7, 8] {
+        for number in [0, 1, 2, 3, 4, 5, 7, 8, 9] {
             often(&self.read[number..=number], 2_000, "reads");
         }
         often(&self.damage, 2_000, "damage");
         often(&self.fields[0], 500, "a 4 by field");
         often(&self.fields[1][U..], 500, "a 5 by field");
         often(&self.answers, 500, "answers");
-        for number in [1, 2, 3, 4, 5, 7] {
+        for number in [1, 2, 3, 4, 5, 7, 9] {
             for refused in self.refused {
                 often(&refused[number..=number], 500, "refused records");
             }

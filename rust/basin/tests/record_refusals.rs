@@ -3,38 +3,53 @@
 //! small record set to any, taken out, put in; every w, n and kind (1); other
 //! lengths than the grid's (2); destinations too short (8); every bound from
 //! both sides (3, 4); every closed edge (5); and of two causes the first, in the
-//! order 7, 1, 2, 8, 3, 4, 5. A comparison is refused for the same, but for 8.
+//! order 7, 1, 2, 8, 3, 9, 4, 5. A comparison is refused for the same, but for 8.
+//! (The milliseconds by themselves, 9, are in milliseconds.rs.)
 //!
 //! As in record.rs, all that is told and all that is lent is compared.
 
 use crate::cases::calls::UNANSWERED;
-use crate::cases::common::{record_field, record_fields, record_of, two_cells, Random, NUMBERS};
-use crate::cases::records::{basin, TIMESTAMP};
+use crate::cases::common::{first_told, record_field, record_fields, record_of, two_cells};
+use crate::cases::common::{Random, NUMBERS, TESTED_IN_READ};
+use crate::cases::records::{basin, TAG_8, TIMESTAMP};
 use crate::cases::records::{
     compare_pair, compare_read, expect_read, expect_refused, expect_state,
 };
 use crate::cases::records::{field, hex, of_record, shuffle, shuffled, told_for, Lent};
 use crate::cases::{BOUNDS, U, V};
-use reference::{Parameters, State};
+use reference::{Parameters, State, Timestamp};
 
 // ---- damage
 
-/// The fields of the two cells' record, rising, falling and in a third order.
-fn three_orders() -> [Vec<Vec<u8>>; 3] {
+/// The fields of the two cells' record, rising, falling, in a third order, and in
+/// a fourth without tag 8.
+fn four_orders() -> [Vec<Vec<u8>>; 4] {
     let rising = record_fields(&two_cells(), TIMESTAMP);
     let falling = rising.iter().rev().cloned().collect();
-    let third = [3, 6, 0, 4, 2, 5, 1].map(|k: usize| rising[k].clone());
-    [rising, falling, third.to_vec()]
+    let third = [3, 6, 0, 4, 7, 2, 5, 1].map(|k: usize| rising[k].clone());
+    let fourth = [2, 0, 5, 6, 1, 3, 4].map(|k: usize| rising[k].clone());
+    [rising, falling, third.to_vec(), fourth.to_vec()]
+}
+
+/// The length of a value that has but one.
+fn fixed_length(tag: u8) -> Option<usize> {
+    match tag {
+        1 => Some(3),
+        2 => Some(12),
+        3 => Some(8),
+        8 => Some(2),
+        _ => None,
+    }
 }
 
 #[test]
 fn a_record_cut_off_anywhere_is_refused() {
-    // Cut off within a field, and between two.
-    let mut cuts = [0; 2];
+    // Cut off within a field, and between two; and before a tag 8 that is last.
+    let mut cuts = [0; 3];
     let larger = record_fields(&basin(), TIMESTAMP);
-    for fields in three_orders().into_iter().chain([larger]) {
+    for fields in four_orders().into_iter().chain([larger]) {
         // Each field is the last of some record.
-        for turn in 0..7 {
+        for turn in 0..fields.len() {
             let mut fields = fields.clone();
             fields.rotate_left(turn);
             let record = fields.concat();
@@ -51,20 +66,26 @@ fn a_record_cut_off_anywhere_is_refused() {
                 // Where a tag is missing, the length is told.
                 let offset = starts.iter().filter(|&&start| start <= length).max();
                 let offset = *offset.expect("0 is one");
+                if record[length] == 8 && length + TAG_8 == record.len() {
+                    let told = compare_read(&record[..length], Lent::enough(6), "no tag 8").told;
+                    assert_eq!(told[4..], [TIMESTAMP.seconds, 0], "{}", hex(&record));
+                    cuts[2] += 1;
+                    continue;
+                }
                 expect_refused(&record[..length], &[7, offset as u64], "cut off");
                 cuts[usize::from(offset == length)] += 1;
             }
         }
     }
     println!("{cuts:?}");
-    assert_eq!(cuts[1], 4 * 7 * 7);
+    assert_eq!(cuts[1..], [4 * 8 * 8 + 7 * 7 - 4, 4]);
     assert!(cuts[0] > 2_000, "{cuts:?}");
 }
 
 #[test]
 fn one_or_two_bytes_left_are_refused() {
-    for fields in three_orders() {
-        for count in 0..=7 {
+    for fields in four_orders() {
+        for count in 0..=fields.len() {
             let record = fields[..count].concat();
             let offset = record.len() as u64;
             for byte in 0..=255 {
@@ -96,7 +117,7 @@ fn every_bit_flipped_and_every_byte_set_to_any() {
             assert_eq!(as_second, of_record(&told, 2), "{}", hex(record));
         }
     };
-    let orders = three_orders().map(|fields| fields.concat());
+    let orders = four_orders().map(|fields| fields.concat());
     for record in orders.iter().chain([&channel]) {
         for place in 0..record.len() {
             for bit in 0..8 {
@@ -116,17 +137,18 @@ fn every_bit_flipped_and_every_byte_set_to_any() {
         }
     }
     println!("{met:?}");
-    assert_eq!(met[0].iter().sum::<usize>(), 8 * (3 * 68 + 116));
-    assert_eq!(met[1].iter().sum::<usize>(), 256 * 3 * 68);
+    assert_eq!(met[0].iter().sum::<usize>(), 8 * (3 * 73 + 68 + 121));
+    assert_eq!(met[1].iter().sum::<usize>(), 256 * (3 * 73 + 68));
     for met in met {
         assert!([0, 1, 3, 4, 7].iter().all(|&k| met[k] > 40), "{met:?}");
+        assert!(met[9] > 10, "{met:?}");
     }
 }
 
 #[test]
 fn a_byte_taken_out_or_put_in_anywhere() {
     let mut refused = 0;
-    for fields in three_orders() {
+    for fields in four_orders() {
         let record = fields.concat();
         for place in 0..=record.len() {
             if place < record.len() {
@@ -144,18 +166,18 @@ fn a_byte_taken_out_or_put_in_anywhere() {
             }
         }
     }
-    assert_eq!(refused, 3 * 69 * 256);
+    assert_eq!(refused, (3 * 74 + 69) * 256);
 }
 
 #[test]
 fn an_unknown_tag_is_refused_at_every_place() {
-    for fields in three_orders() {
-        for tag in (0..=255).filter(|tag| !(1..=7).contains(tag)) {
-            for place in 0..=7 {
+    for fields in four_orders() {
+        for tag in (0..=255).filter(|tag| !(1..=8).contains(tag)) {
+            for place in 0..=fields.len() {
                 let offset = fields[..place].concat().len() as u64;
                 // For a field, and between two.
                 let mut instead = fields.clone();
-                if place < 7 {
+                if place < fields.len() {
                     instead[place][0] = tag;
                     expect_refused(&instead.concat(), &[7, offset], "an unknown tag");
                 }
@@ -173,8 +195,8 @@ fn a_repeated_tag_is_refused_at_every_place() {
     let mut other = two_cells();
     (other.h[0], other.b[0], other.u[0], other.v[0]) = (5_000, 5, 5, 5);
     let others = record_fields(&other, 9);
-    for fields in three_orders() {
-        for again in 0..7 {
+    for fields in four_orders() {
+        for again in 0..fields.len() {
             let tag = fields[again][0];
             let repeats = [
                 fields[again].clone(),
@@ -185,13 +207,13 @@ fn a_repeated_tag_is_refused_at_every_place() {
                 record_field(tag, &[1; 5]),
             ];
             for repeat in repeats {
-                for place in again + 1..=7 {
+                for place in again + 1..=fields.len() {
                     let offset = fields[..place].concat().len() as u64;
                     let mut damaged = fields.clone();
                     damaged.insert(place, repeat.clone());
                     expect_refused(&damaged.concat(), &[7, offset], "a repeated tag");
                     // For another field, which is then missing.
-                    if place < 7 {
+                    if place < fields.len() {
                         damaged.remove(place + 1);
                         expect_refused(&damaged.concat(), &[7, offset], "a repeat instead");
                     }
@@ -199,7 +221,7 @@ fn a_repeated_tag_is_refused_at_every_place() {
             }
         }
         // Before the first as well: then the first is the second.
-        for again in 0..7 {
+        for again in 0..fields.len() {
             let mut damaged = fields.clone();
             damaged.insert(0, fields[again].clone());
             let offset = damaged[..=again].concat().len() as u64;
@@ -210,13 +232,13 @@ fn a_repeated_tag_is_refused_at_every_place() {
 
 #[test]
 fn a_value_past_the_end_is_refused() {
-    for fields in three_orders() {
-        for turn in 0..7 {
+    for fields in four_orders() {
+        for turn in 0..fields.len() {
             let mut fields = fields.clone();
             fields.rotate_left(turn);
-            let record = fields.concat();
-            let offset = record.len() - fields[6].len();
-            let length = fields[6].len() - 3;
+            let (record, last) = (fields.concat(), &fields[fields.len() - 1]);
+            let offset = record.len() - last.len();
+            let length = last.len() - 3;
             let most = 0xFFFF - length;
             for more in (1..=300).chain([most - 1, most]) {
                 let mut record = record.clone();
@@ -233,8 +255,8 @@ fn huge_lengths_are_refused_at_every_place() {
     let lengths = [
         0x7FFF, 0x8000, 0x8001, 0xFF00, 0xFFFE, 0xFFFF, 0x0100, 0x0201,
     ];
-    for fields in three_orders() {
-        for place in 0..7 {
+    for fields in four_orders() {
+        for place in 0..fields.len() {
             let offset = fields[..place].concat().len();
             for length in lengths {
                 let mut record = fields.concat();
@@ -245,25 +267,26 @@ fn huge_lengths_are_refused_at_every_place() {
                 let mut whole = fields.clone();
                 let tag = fields[place][0];
                 whole[place] = record_field(tag, &vec![0; length.into()]);
-                let told: &[u64] = match tag {
-                    1..=3 => &[7, offset as u64],
-                    _ => &[2],
+                let told: &[u64] = match fixed_length(tag) {
+                    Some(_) => &[7, offset as u64],
+                    None => &[2],
                 };
                 expect_refused(&whole.concat(), told, "a huge value");
             }
         }
     }
     // As long as a record can be that is damaged nowhere, and then damaged at
-    // its end.
+    // its end. Tag 8, which it could do without, goes to the front.
     let mut fields = record_fields(&two_cells(), TIMESTAMP);
-    for field in &mut fields[3..] {
+    for field in &mut fields[3..7] {
         *field = record_field(field[0], &[0; 0xFFFF]);
     }
+    fields.rotate_right(1);
     let mut record = fields.concat();
     expect_refused(&record, &[2], "the longest");
     let length = record.len() as u64;
-    assert_eq!(length, 44 + 4 * 0xFFFF);
-    let last = fields.pop().expect("seven");
+    assert_eq!(length, 49 + 4 * 0xFFFF);
+    let last = fields.pop().expect("eight");
     expect_refused(&fields.concat(), &[7, length - 3 - 0xFFFF], "no last field");
     fields.push(last);
     record.push(1);
@@ -273,14 +296,13 @@ fn huge_lengths_are_refused_at_every_place() {
 }
 
 #[test]
-fn tags_1_2_and_3_of_a_wrong_length_are_refused() {
-    for fields in three_orders() {
-        for place in 0..7 {
+fn tags_1_2_3_and_8_of_a_wrong_length_are_refused() {
+    for fields in four_orders() {
+        for place in 0..fields.len() {
             let tag = fields[place][0];
-            if tag > 3 {
+            let Some(right) = fixed_length(tag) else {
                 continue;
-            }
-            let right = [3, 12, 8][usize::from(tag) - 1];
+            };
             let offset = fields[..place].concat().len() as u64;
             let value = &fields[place][3..];
             for length in (0..300).chain([512 + right, 65_535]) {
@@ -302,12 +324,16 @@ fn tags_1_2_and_3_of_a_wrong_length_are_refused() {
 fn missing_tags_are_refused_at_the_records_length() {
     let mut random = Random::new(64);
     // The empty record is one of them.
-    for fields in three_orders() {
-        for set in 0..127 {
-            let mut some: Vec<_> = (0..7)
+    for fields in four_orders() {
+        for set in 0..1 << fields.len() {
+            let mut some: Vec<_> = (0..fields.len())
                 .filter(|k| set >> k & 1 == 1)
                 .map(|k| fields[k].clone())
                 .collect();
+            // Tag 8 is not missed.
+            if some.iter().filter(|field| field[0] != 8).count() == 7 {
+                continue;
+            }
             for _ in 0..3 {
                 let record = some.concat();
                 expect_refused(&record, &[7, record.len() as u64], "missing tags");
@@ -327,8 +353,8 @@ fn of_two_damages_the_first_in_the_record_is_told() {
         |fields, place| fields[place].truncate(2),
     ];
     let mut pairs = 0;
-    for fields in three_orders() {
-        for place in 1..7 {
+    for fields in four_orders() {
+        for place in 1..fields.len() {
             for damage in damages {
                 let mut damaged = fields.clone();
                 damage(&mut damaged, place);
@@ -359,10 +385,10 @@ fn of_two_damages_the_first_in_the_record_is_told() {
             }
         }
     }
-    assert_eq!(pairs, 3 * 15 * 3 * 4);
+    assert_eq!(pairs, (3 * 21 + 15) * 3 * 4);
 }
 
-// ---- refusals 1, 2, 8, 3, 4 and 5
+// ---- refusals 1, 2, 8, 3, 4, 5, and the order of all
 
 #[test]
 fn every_width_height_and_kind_is_known_or_not() {
@@ -611,6 +637,7 @@ enum Cause {
     Gravity(i64),
     Coriolis(i64),
     Ratio(i64),
+    Milliseconds(u64),
     /// A number outside, in this field at this cell.
     Value(usize, usize, i64),
     /// A velocity on a closed edge, in this field at this cell.
@@ -633,6 +660,7 @@ impl Cause {
         causes.extend([0, 10_001].map(Cause::Gravity));
         causes.extend([-10_001, 10_001].map(Cause::Coriolis));
         causes.extend([999, 1_000_001].map(Cause::Ratio));
+        causes.extend([1_000, 0xFFFF].map(Cause::Milliseconds));
         for (which, (low, high)) in BOUNDS[..4].iter().enumerate() {
             for cell in [0, 2, 5] {
                 causes.extend([low - 1, high + 1].map(|x| Cause::Value(which, cell, x)));
@@ -643,7 +671,13 @@ impl Cause {
         causes
     }
 
-    fn put(self, state: &mut State, lent: &mut Lent, damage: &mut [bool; 2]) {
+    fn put(self, to: &mut Caused) {
+        let Caused {
+            state,
+            time,
+            lent,
+            damage,
+        } = to;
         let mut put = |which: usize, cell: usize, x| {
             // A shortened field may not have the cell.
             if let Some(place) = field(state, which).get_mut(cell) {
@@ -663,43 +697,53 @@ impl Cause {
             Cause::Gravity(g) => state.parameters.g = g,
             Cause::Coriolis(c) => state.parameters.c = c,
             Cause::Ratio(r) => state.parameters.r = r,
+            Cause::Milliseconds(above) => time.milliseconds = above,
         }
     }
 }
 
+/// What causes are put into.
+struct Caused {
+    state: State,
+    time: Timestamp,
+    lent: Lent,
+    /// A byte past the record, and a field of an unknown tag at the front.
+    damage: [bool; 2],
+}
+
 /// What these causes make of the basin: its record in this order, and what is
 /// lent.
-fn with(causes: &[Cause], order: &[usize; 7]) -> (Vec<u8>, Lent) {
-    let (mut state, mut lent, mut damage) = (basin(), Lent::enough(6), [false; 2]);
-    for cause in causes {
-        cause.put(&mut state, &mut lent, &mut damage);
-    }
-    let fields = record_fields(&state, TIMESTAMP);
+fn with(causes: &[Cause], order: &[usize; 8]) -> (Vec<u8>, Lent) {
+    let mut caused = Caused {
+        state: basin(),
+        time: TIMESTAMP,
+        lent: Lent::enough(6),
+        damage: [false; 2],
+    };
+    causes.iter().for_each(|cause| cause.put(&mut caused));
+    let fields = record_fields(&caused.state, caused.time);
     let mut record = order.map(|k| fields[k].clone()).concat();
-    if damage[1] {
+    let [byte_past, in_front] = caused.damage;
+    if in_front {
         record.splice(0..0, record_field(0, &[]));
     }
-    if damage[0] {
+    if byte_past {
         record.push(1);
     }
-    (record, lent)
+    (record, caused.lent)
 }
 
 #[test]
-fn of_two_causes_the_first_of_7_1_2_8_3_4_5_is_told() {
-    let rank = |told: &Vec<u64>| {
-        let order = [7, 1, 2, 8, 3, 4, 5, 0];
-        let rank = order.iter().position(|&number| number == told[0]);
-        (rank.expect("a number"), told.clone())
-    };
+fn of_two_causes_the_first_of_7_1_2_8_3_9_4_5_is_told() {
+    let good = record_of(&basin(), TIMESTAMP);
     let mut random = Random::new(67);
     let causes = Cause::all();
     // By the two numbers that they are told by themselves.
     let mut met = [[0; NUMBERS]; NUMBERS];
     for &one in &causes {
         for &other in &causes {
-            let mut order = [0, 1, 2, 3, 4, 5, 6];
-            for k in (1..7).rev() {
+            let mut order = [0, 1, 2, 3, 4, 5, 6, 7];
+            for k in (1..8).rev() {
                 order.swap(k, random.below(k + 1));
             }
             let (record, lent) = with(&[one, other], &order);
@@ -714,33 +758,34 @@ fn of_two_causes_the_first_of_7_1_2_8_3_4_5_is_told() {
             let [a, b] = alone.each_ref().map(|told| told[0] as usize);
             met[a][b] += 1;
             let told = compare_read(&record, lent, &format!("{one:?}, {other:?}")).told;
-            let first = alone.iter().min_by_key(|told| rank(told)).expect("two");
+            let first = first_told(&TESTED_IN_READ, alone.clone()).expect("two");
             let at = format!("{one:?}, {other:?}: {} {lent:?}", hex(&record));
             assert_eq!(told[0], first[0], "{at}");
             // A byte past the record is told at its length, which the other
             // cause may change.
             if told[0] != 7 {
-                assert_eq!(told, *first, "{at}");
+                assert_eq!(told, first, "{at}");
             }
-            // A comparison is lent no destination.
-            let without: Vec<_> = alone.iter().filter(|told| told[0] != 8).collect();
-            let first = without.iter().min_by_key(|told| rank(told));
-            let good = record_of(&basin(), TIMESTAMP);
-            let pair = compare_pair(&record, &good, UNANSWERED, "causes");
-            let number = first.map_or(0, |told| told[0]);
-            assert_eq!(pair[0], number, "{at}");
+            // A comparison is lent no destination, and says which record it is.
+            let without = alone.into_iter().filter(|told| told[0] != 8);
+            let number = first_told(&TESTED_IN_READ, without).map_or(0, |told| told[0]);
+            for (first, second, which) in [(&record, &good, 1), (&good, &record, 2)] {
+                let pair = compare_pair(first, second, UNANSWERED, "causes");
+                assert_eq!(pair[0], number, "{at}");
+                assert!(number == 0 || pair[1] == which, "{at}");
+            }
         }
     }
     println!("{met:?}");
-    for one in [1, 2, 3, 4, 5, 7, 8] {
-        for other in [1, 2, 3, 4, 5, 7, 8] {
+    for one in TESTED_IN_READ {
+        for other in TESTED_IN_READ {
             assert!(met[one][other] > 1, "{one} {other} {met:?}");
         }
     }
 }
 
 #[test]
-fn every_cause_of_a_basin_goes_in_the_order_7_1_2_8_3_4_5() {
+fn every_cause_of_a_basin_goes_in_the_order_7_1_2_8_3_9_4_5() {
     // Bad in every way; each cause is then taken away in turn.
     let causes = [
         (Cause::DamageInFront, vec![7, 0]),
@@ -748,6 +793,7 @@ fn every_cause_of_a_basin_goes_in_the_order_7_1_2_8_3_4_5() {
         (Cause::Length(3, 7), vec![2]),
         (Cause::Destination(3, 5), vec![8]),
         (Cause::Ratio(999), vec![3]),
+        (Cause::Milliseconds(1_000), vec![9]),
         (Cause::Value(0, 5, 100_001), vec![4, 0, 5]),
         (Cause::Value(1, 4, -1), vec![4, 1, 4]),
         (Cause::Value(2, 1, 5_001), vec![4, 2, 1]),
@@ -758,10 +804,10 @@ fn every_cause_of_a_basin_goes_in_the_order_7_1_2_8_3_4_5() {
         (Cause::Edge(V, 2), vec![5, 3, 2]),
     ];
     let orders = [
-        [0, 1, 2, 3, 4, 5, 6],
-        [6, 5, 4, 3, 2, 1, 0],
-        [5, 6, 3, 4, 2, 0, 1],
-        [4, 3, 6, 5, 1, 2, 0],
+        [0, 1, 2, 3, 4, 5, 6, 7],
+        [7, 6, 5, 4, 3, 2, 1, 0],
+        [5, 6, 3, 7, 4, 2, 0, 1],
+        [4, 3, 6, 5, 1, 2, 7, 0],
     ];
     for order in orders {
         for taken in 0..=causes.len() {

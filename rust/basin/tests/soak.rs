@@ -23,12 +23,12 @@ use std::time::{Instant, SystemTime, UNIX_EPOCH};
 
 use crate::cases::calls;
 use crate::cases::changes::{change_bytes, Changed};
-use crate::cases::common::{Random, NUMBERS};
+use crate::cases::common::{random_timestamp, Random, NUMBERS};
 use crate::cases::lists::{take_stepped, Entry};
 use crate::cases::records::{answer_for, compare_pair, compare_read, expect_state, Lent};
 use crate::cases::rounding::{compare_rnd, random_quotient, Rounded};
-use crate::cases::{any_numbers, put_faults, random_timestamp, Call, Case, CALLS, Q};
-use reference::State;
+use crate::cases::{any_numbers, put_faults, Call, Case, CALLS, Q};
+use reference::{State, Timestamp};
 
 /// Places in [`Soak::told`] after those of the calls on a state.
 const READ: usize = CALLS.len();
@@ -143,7 +143,7 @@ impl Soak {
 struct Last {
     record: Vec<u8>,
     state: State,
-    timestamp: u64,
+    timestamp: Timestamp,
 }
 
 impl Soak {
@@ -216,6 +216,11 @@ impl Soak {
         let state = case.state();
         let timestamp = match &last {
             Some(last) if random.once_in(2) => last.timestamp,
+            // In the same second.
+            Some(last) if random.once_in(2) => Timestamp {
+                milliseconds: random.below(1_000) as u64,
+                ..last.timestamp
+            },
             _ => random_timestamp(random),
         };
         case.timestamp = timestamp;
@@ -254,14 +259,13 @@ impl Soak {
     fn assert_enough(&self) {
         let least = self.calls() / 4_000;
         let numbers = |call: usize| match call {
-            READ => vec![0, 1, 2, 3, 4, 5, 7, 8],
-            COMPARE => vec![0, 1, 2, 3, 4, 5, 7],
+            READ => vec![0, 1, 2, 3, 4, 5, 7, 8, 9],
+            COMPARE => vec![0, 1, 2, 3, 4, 5, 7, 9],
             RND => vec![0, 1],
             _ => match CALLS[call] {
                 Call::Step | Call::Run => vec![0, 1, 2, 3, 4, 5, 6],
-                Call::PotentialVorticity | Call::Tendencies | Call::Write => {
-                    vec![0, 1, 2, 3, 4, 5, 8]
-                }
+                Call::PotentialVorticity | Call::Tendencies => vec![0, 1, 2, 3, 4, 5, 8],
+                Call::Write => vec![0, 1, 2, 3, 4, 5, 8, 9],
                 _ => vec![0, 1, 2, 3, 4, 5],
             },
         };

@@ -24,7 +24,10 @@ use reference::{Parameters, RunAnswer, State, StepAnswer};
 /// what a call takes beside its cells counts most.
 const GRIDS: [(usize, usize); 5] = [(16, 16), (64, 64), (64, 1), (1, 64), (1, 1)];
 const KIND: u8 = 2;
-const TIMESTAMP: u64 = 848_880_000;
+const TIMESTAMP: Moment = Moment {
+    seconds: 848_880_000,
+    milliseconds: 250,
+};
 /// Cells of all the states that a call is timed on, one after the other: the
 /// branches of a single one are learnt by the processor, more or less by chance.
 /// Each step of a run has a state of its own.
@@ -101,10 +104,36 @@ const CALLS: [Call; 8] = [
     call!("potential vorticity", |l| potential_vorticity(&l.h, &l.b, &l.u, &l.v, &mut l.own_q)),
     call!("tendencies", |l| tendencies(&l.h, &l.b, &l.u, &l.v, &l.q, &mut l.dh, &mut l.du, &mut l.dv)),
     call!("total depth", |l| total_depth(&l.h, &l.b, &l.u, &l.v)),
-    call!("write", |l| write(&l.h, &l.b, &l.u, &l.v, TIMESTAMP, &mut l.written)),
+    call!("write", |l| write(&l.h, &l.b, &l.u, &l.v, TIMESTAMP.into(), &mut l.written)),
     call!("read", record |l| read(&l.record, &mut l.own_q, &mut l.dh, &mut l.du, &mut l.dv)),
     call!("compare", record |l| compare(&l.record, &l.same)),
 ];
+
+/// A timestamp, for both versions.
+struct Moment {
+    seconds: u64,
+    milliseconds: u64,
+}
+
+impl From<Moment> for basin::Timestamp {
+    fn from(of: Moment) -> Self {
+        let (seconds, milliseconds) = (of.seconds, of.milliseconds);
+        basin::Timestamp {
+            seconds,
+            milliseconds,
+        }
+    }
+}
+
+impl From<Moment> for reference::Timestamp {
+    fn from(of: Moment) -> Self {
+        let (seconds, milliseconds) = (of.seconds, of.milliseconds);
+        reference::Timestamp {
+            seconds,
+            milliseconds,
+        }
+    }
+}
 
 /// All that the calls can be lent.
 #[derive(PartialEq)]
@@ -271,7 +300,7 @@ impl<E> Answer for Result<usize, E> {
 
 impl<E> Answer for Result<basin::Read, E> {
     fn accepted(&self) -> bool {
-        matches!(self, Ok(read) if read.timestamp == TIMESTAMP)
+        matches!(self, Ok(read) if read.timestamp == TIMESTAMP.into())
     }
 }
 
@@ -320,7 +349,7 @@ impl Answer for WriteAnswer {
 
 impl Answer for ReadAnswer {
     fn accepted(&self) -> bool {
-        matches!(self, ReadAnswer::Read { timestamp, .. } if *timestamp == TIMESTAMP)
+        matches!(self, ReadAnswer::Read { timestamp, .. } if *timestamp == TIMESTAMP.into())
     }
 }
 

@@ -3,15 +3,18 @@
 use std::ffi::OsString;
 use std::slice::Iter;
 use std::str::FromStr;
+use std::time::Duration;
 
+use crate::date::split_fraction;
 use crate::failure::Failure;
 
 /// How the tool is called, and how a text description is written.
 pub const USAGE: &str = "\
 usage: forecast make TEXT RECORD
        forecast show [--text] RECORD
-       forecast step RECORD [OUT] [--inflow I J MM]... [--seconds S]
-       forecast run RECORD --steps N [OUT] [--inflow I J MM]... [--seconds S]
+       forecast step RECORD [OUT] [--inflow I J MM]... [--seconds S[.mmm]]
+       forecast run RECORD --steps N [OUT] [--inflow I J MM]...
+                [--seconds S[.mmm]]
        forecast compare RECORD RECORD
        forecast draw RECORD SVG
        forecast draw RECORD DIR --steps N [--every K] [--inflow I J MM]...
@@ -26,7 +29,7 @@ draw     draws level and current; of a run, a frame every K steps (a fifth of
 RECORD   a file, or - for standard input (TEXT too)
 OUT      gets the record after the last step; none is written after a stop
 --inflow mm that come into cell I J with each step; may be repeated
---seconds added to the timestamp of OUT
+--seconds added to the timestamp of OUT: 5, or to the millisecond 0.500
 
 A text description has one line for each thing it says; # starts a comment.
 
@@ -36,7 +39,7 @@ A text description has one line for each thing it says; # starts a comment.
   gravity 9810                 mm/s²
   coriolis 10                  Coriolis parameter times spacing, mm/s
   spacing-per-step 40000       spacing over time step, mm/s
-  time 2026-11-16 06:00:00
+  time 2026-11-16 06:00:00     or to the millisecond 06:00:00.250
 
   bottom 0                     height of the bottom, mm: everywhere,
   bottom 8000 box 3 2 9 6      in a box, its corner cells included,
@@ -63,7 +66,7 @@ pub struct Arguments {
     pub text: bool,
     pub steps: Option<u64>,
     pub every: Option<u64>,
-    pub seconds: Option<u64>,
+    pub seconds: Option<Duration>,
     /// Cell (column, row) and mm a step.
     pub inflow: Vec<(usize, usize, i64)>,
 }
@@ -96,7 +99,7 @@ impl Arguments {
             "--text" => self.text = true,
             "--steps" => self.steps = Some(value(option, rest)?),
             "--every" => self.every = Some(value(option, rest)?),
-            "--seconds" => self.seconds = Some(value(option, rest)?),
+            "--seconds" => self.seconds = Some(seconds(option, rest)?),
             _ => {
                 let cell = (value(option, rest)?, value(option, rest)?);
                 self.inflow.push((cell.0, cell.1, value(option, rest)?));
@@ -108,7 +111,29 @@ impl Arguments {
 
 /// The next argument as a whole number.
 fn value<T: FromStr>(option: &str, rest: &mut Iter<OsString>) -> Result<T, Failure> {
+    next(option, rest, "a whole number here", |word| {
+        word.parse().ok()
+    })
+}
+
+/// The next argument as seconds, with milliseconds or without.
+fn seconds(option: &str, rest: &mut Iter<OsString>) -> Result<Duration, Failure> {
+    let form = "seconds, whole or with three digits after the point, as 5 or 0.500";
+    next(option, rest, form, |word| {
+        let (whole, milliseconds) = split_fraction(word)?;
+        let milliseconds = Duration::from_millis(milliseconds.unwrap_or(0));
+        Duration::from_secs(whole.parse().ok()?).checked_add(milliseconds)
+    })
+}
+
+/// The next argument, of which something must be made.
+fn next<T>(
+    option: &str,
+    rest: &mut Iter<OsString>,
+    form: &str,
+    made: impl Fn(&str) -> Option<T>,
+) -> Result<T, Failure> {
     let word = rest.next().and_then(|word| word.to_str());
-    let missing = || Failure::Usage(format!("{option} takes a whole number here"));
-    word.and_then(|word| word.parse().ok()).ok_or_else(missing)
+    let missing = || Failure::Usage(format!("{option} takes {form}"));
+    word.and_then(made).ok_or_else(missing)
 }

@@ -4,10 +4,12 @@ use std::ffi::OsString;
 use std::fs;
 use std::io::{self, Read, Write};
 use std::path::{Path, PathBuf};
+use std::time::Duration;
 
 use basin::{Comparison, Ran, Refusal};
 
 use crate::arguments::{Arguments, USAGE};
+use crate::date::later;
 use crate::describe::to_text;
 use crate::draw;
 use crate::failure::{cell_name, in_words, name, Failure};
@@ -16,7 +18,7 @@ use crate::show::shown;
 use crate::state::State;
 use crate::text::{from_text, Unread};
 
-/// So many bytes of a file are read. A record has seven fields of at most
+/// So many bytes of a file are read. A record has eight fields of at most
 /// 3 + 65,535 bytes, so a longer one is refused at a tag that is among these; a
 /// longer text is no description.
 const LIMIT: u64 = 1 << 20;
@@ -176,15 +178,15 @@ fn advance(arguments: Arguments, around: &mut Surroundings, one: bool) -> Result
     progress.end();
     let ran = ran.map_err(refused_of(&state))?;
     if let (Some(out), None) = (out, ran.stopped) {
-        leave(&mut state, out, arguments.seconds.unwrap_or(0))?;
+        leave(&mut state, out, arguments.seconds.unwrap_or_default())?;
     }
     told(&state, ran, before)
 }
 
-/// Writes the record of a state so many seconds later.
-fn leave(state: &mut State, out: &Path, seconds: u64) -> Result<(), Failure> {
+/// Writes the record of a state so much later.
+fn leave(state: &mut State, out: &Path, by: Duration) -> Result<(), Failure> {
     let full = || usage("a timestamp has no room for so many --seconds");
-    state.timestamp = state.timestamp.checked_add(seconds).ok_or_else(full)?;
+    state.timestamp = later(state.timestamp, by).ok_or_else(full)?;
     save(state, out)
 }
 

@@ -1,5 +1,9 @@
-//! Timestamps as dates: whole seconds since 2000-01-01 00:00, in the calendar
-//! of today, each day with 86,400 seconds.
+//! Timestamps as dates: seconds and milliseconds since 2000-01-01 00:00, in the
+//! calendar of today, each day with 86,400 seconds.
+
+use std::time::Duration;
+
+use basin::Timestamp;
 
 const DAY: u64 = 86_400;
 /// Days from 0000-03-01 to 2000-01-01. A year that begins in March has its leap
@@ -10,32 +14,64 @@ const ERA: u64 = 146_097;
 /// A year past the last timestamp, whose number of days still fits.
 const PAST_LAST: u64 = 600_000_000_000;
 
-/// `2026-11-16 06:00:00`. The year has as many digits as it needs.
-pub fn to_date(timestamp: u64) -> String {
-    let (year, month, day) = date_of(timestamp / DAY);
-    let second = timestamp % DAY;
+/// `2026-11-16 06:00:00`, or `2026-11-16 06:00:00.250` where there are
+/// milliseconds. The year has as many digits as it needs.
+pub fn to_date(timestamp: Timestamp) -> String {
+    let (year, month, day) = date_of(timestamp.seconds / DAY);
+    let second = timestamp.seconds % DAY;
     let (hour, minute) = (second / 3600, second / 60 % 60);
     let second = second % 60;
-    format!("{year:04}-{month:02}-{day:02} {hour:02}:{minute:02}:{second:02}")
+    let date = format!("{year:04}-{month:02}-{day:02} {hour:02}:{minute:02}:{second:02}");
+    match timestamp.milliseconds {
+        0 => date,
+        milliseconds => format!("{date}.{milliseconds:03}"),
+    }
 }
 
-/// The timestamp of a date such as `2026-11-16` and a time such as `06:00:00`
-/// or `06:00`. `None` where there is no such day or time, and before 2000.
-pub fn from_date(date: &str, time: &str) -> Option<u64> {
+/// The timestamp of a date such as `2026-11-16` and a time such as `06:00`,
+/// `06:00:00` or `06:00:00.250`. `None` where there is no such day or time, and
+/// before 2000.
+pub fn from_date(date: &str, time: &str) -> Option<Timestamp> {
     let [year, month, day] = numbers(date, '-')?[..] else {
         return None;
     };
+    let (time, milliseconds) = split_fraction(time)?;
     let (hour, minute, second) = match numbers(time, ':')?[..] {
-        [hour, minute] => (hour, minute, 0),
+        [hour, minute] if milliseconds.is_none() => (hour, minute, 0),
         [hour, minute, second] => (hour, minute, second),
         _ => return None,
     };
     if hour > 23 || minute > 59 || second > 59 {
         return None;
     }
-    let day = day_of(year, month, day)?;
-    day.checked_mul(DAY)?
-        .checked_add(hour * 3600 + minute * 60 + second)
+    let day = day_of(year, month, day)?.checked_mul(DAY)?;
+    Some(Timestamp {
+        seconds: day.checked_add(hour * 3600 + minute * 60 + second)?,
+        milliseconds: milliseconds.unwrap_or(0),
+    })
+}
+
+/// What stands before a point, and the milliseconds after it, where there is
+/// one. `None` where these are not three digits.
+pub fn split_fraction(text: &str) -> Option<(&str, Option<u64>)> {
+    let Some((whole, fraction)) = text.split_once('.') else {
+        return Some((text, None));
+    };
+    let digits = fraction.len() == 3 && fraction.bytes().all(|byte| byte.is_ascii_digit());
+    let milliseconds = fraction.parse().ok().filter(|_| digits)?;
+    Some((whole, Some(milliseconds)))
+}
+
+/// The timestamp so much later: full seconds are carried. `None` where its
+/// seconds do not fit.
+pub fn later(timestamp: Timestamp, by: Duration) -> Option<Timestamp> {
+    let sum = Duration::from_secs(timestamp.seconds)
+        .checked_add(Duration::from_millis(timestamp.milliseconds))?
+        .checked_add(by)?;
+    Some(Timestamp {
+        seconds: sum.as_secs(),
+        milliseconds: sum.subsec_millis().into(),
+    })
 }
 
 /// Numbers of digits alone, parted by a sign.
@@ -84,23 +120,61 @@ fn day_of(year: u64, month: u64, day: u64) -> Option<u64> {
 mod tests {
     use super::*;
 
-    #[test]
-    fn known_dates() {
-        assert_eq!(to_date(0), "2000-01-01 00:00:00");
-        assert_eq!(to_date(59 * DAY + 86_399), "2000-02-29 23:59:59");
-        assert_eq!(to_date(60 * DAY), "2000-03-01 00:00:00");
-        assert_eq!(to_date(848_124_000), "2026-11-16 06:00:00");
-        assert_eq!(from_date("2026-11-16", "06:00"), Some(848_124_000));
+    fn at(seconds: u64, milliseconds: u64) -> Timestamp {
+        Timestamp {
+            seconds,
+            milliseconds,
+        }
     }
 
     #[test]
-    fn every_day_of_four_hundred_years_and_the_ends() {
-        let days = (0..146_097).map(|day| day * DAY);
-        for timestamp in days.chain([u64::MAX - 1, u64::MAX]) {
-            let date = to_date(timestamp);
-            let (date, time) = date.split_once(' ').unwrap();
-            assert_eq!(from_date(date, time), Some(timestamp), "{date} {time}");
+    fn known_dates() {
+        assert_eq!(to_date(at(0, 0)), "2000-01-01 00:00:00");
+        assert_eq!(to_date(at(59 * DAY + 86_399, 0)), "2000-02-29 23:59:59");
+        assert_eq!(to_date(at(60 * DAY, 0)), "2000-03-01 00:00:00");
+        assert_eq!(to_date(at(848_124_000, 0)), "2026-11-16 06:00:00");
+        assert_eq!(to_date(at(848_124_000, 7)), "2026-11-16 06:00:00.007");
+        assert_eq!(to_date(at(848_124_000, 250)), "2026-11-16 06:00:00.250");
+        for (time, milliseconds) in [
+            ("06:00", 0),
+            ("06:00:00", 0),
+            ("06:00:00.000", 0),
+            ("06:00:00.250", 250),
+        ] {
+            let timestamp = from_date("2026-11-16", time);
+            assert_eq!(timestamp, Some(at(848_124_000, milliseconds)), "{time}");
         }
+    }
+
+    fn goes_round(timestamp: Timestamp) {
+        let date = to_date(timestamp);
+        let (date, time) = date.split_once(' ').unwrap();
+        assert_eq!(from_date(date, time), Some(timestamp), "{date} {time}");
+    }
+
+    #[test]
+    fn every_day_of_four_hundred_years_every_millisecond_and_the_ends() {
+        (0..146_097).for_each(|day| goes_round(at(day * DAY, day % 1_000)));
+        for milliseconds in 0..1_000 {
+            for seconds in [0, 86_399, u64::MAX - 1, u64::MAX] {
+                goes_round(at(seconds, milliseconds));
+            }
+        }
+    }
+
+    #[test]
+    fn a_sum_carries_full_seconds_and_has_an_end() {
+        let sum = |seconds, milliseconds, by| later(at(seconds, milliseconds), by);
+        let by = Duration::from_millis(750);
+        assert_eq!(sum(5, 500, by), Some(at(6, 250)));
+        assert_eq!(sum(5, 249, by), Some(at(5, 999)));
+        assert_eq!(sum(5, 250, by), Some(at(6, 0)));
+        assert_eq!(sum(5, 250, Duration::ZERO), Some(at(5, 250)));
+        let last = at(u64::MAX, 999);
+        assert_eq!(sum(u64::MAX, 249, by), Some(last));
+        assert_eq!(sum(u64::MAX, 250, by), None);
+        assert_eq!(sum(0, 999, Duration::from_secs(u64::MAX)), Some(last));
+        assert_eq!(sum(1, 0, Duration::from_secs(u64::MAX)), None);
     }
 
     #[test]
@@ -131,6 +205,16 @@ mod tests {
             "12",
             "12:00:00:00",
             "-1:00",
+            "12:00.250",
+            "12:00:00.",
+            "12:00:00.5",
+            "12:00:00.25",
+            "12:00:00.2500",
+            "12:00:00.-25",
+            "12:00:00.+25",
+            "12:00:00.2.5",
+            "12:00:00,250",
+            ".250",
             "",
         ] {
             assert_eq!(from_date("2026-04-01", time), None, "{time}");

@@ -74,6 +74,7 @@ pub fn in_words(refusal: Refusal, w: Option<usize>) -> String {
             format!("pass {pass} takes {} out of its bounds", at(field, cell))
         }
         Refusal::Record { offset } => format!("the record is damaged at byte {offset}"),
+        Refusal::Milliseconds => "the milliseconds of the timestamp are above 999".into(),
         // The tool lends room enough, so no other is met yet.
         other => other.cause(),
     };

@@ -1,17 +1,19 @@
 //! A state with its timestamp, owned, and the core's calls on it.
 
-use basin::{Parameters, Read, Refusal};
+use basin::{Parameters, Read, Refusal, Timestamp};
 
-/// Cells of the largest grid that the core knows: room for any record.
-const MOST_CELLS: usize = 64 * 64;
+/// Columns and rows of the largest grid that the core knows.
+const LONGEST_SIDE: usize = 64;
+/// Its cells: room for any record.
+const MOST_CELLS: usize = LONGEST_SIDE * LONGEST_SIDE;
 
 /// What a record holds.
 #[derive(Clone, Debug, PartialEq, Eq)]
 pub struct State {
     /// Grid, boundary and constants.
     pub parameters: Parameters,
-    /// Whole seconds since 2000-01-01 00:00.
-    pub timestamp: u64,
+    /// The moment of the state.
+    pub timestamp: Timestamp,
     /// Depth of each cell, mm.
     pub h: Vec<i64>,
     /// Height of the bottom of each cell, mm.
@@ -48,8 +50,12 @@ impl State {
     pub fn write(&self) -> Result<Vec<u8>, Refusal> {
         let p = &self.parameters;
         // A grid that the core refuses may ask for any room.
-        let room = p.record_len().min(44 + 12 * MOST_CELLS);
-        let mut record = vec![0; room];
+        let largest = Parameters {
+            w: LONGEST_SIDE,
+            n: LONGEST_SIDE,
+            ..*p
+        };
+        let mut record = vec![0; p.record_len().min(largest.record_len())];
         let (h, b, u, v) = (&self.h, &self.b, &self.u, &self.v);
         let length = basin::write(p, h, b, u, v, self.timestamp, &mut record)?;
         record.truncate(length);

@@ -8,9 +8,9 @@ use std::fmt::Display;
 use std::iter::Enumerate;
 use std::str::{FromStr, Lines};
 
-use basin::{total_depth, Parameters, Refusal};
+use basin::{total_depth, Parameters, Refusal, Timestamp};
 
-use crate::date::from_date;
+use crate::date::{from_date, split_fraction};
 use crate::state::State;
 
 /// The words for the kinds of boundary, by 01's number.
@@ -66,7 +66,7 @@ struct Reader<'a> {
     gravity: Option<i64>,
     coriolis: Option<i64>,
     spacing_per_step: Option<i64>,
-    time: Option<u64>,
+    time: Option<Timestamp>,
     depth_given: bool,
     /// h, b, u and v, empty until the grid is known.
     fields: [Vec<i64>; 4],
@@ -370,12 +370,16 @@ fn boundary(line: usize, rest: &[&str]) -> Result<u8, Unread> {
     )
 }
 
-fn time(line: usize, rest: &[&str]) -> Result<u64, Unread> {
+fn time(line: usize, rest: &[&str]) -> Result<Timestamp, Unread> {
     let timestamp = match rest {
         [date] => from_date(date, "00:00"),
+        [_, time] if split_fraction(time).is_none() => {
+            let form = "milliseconds are three digits after the point, as 06:00:00.250";
+            return fault(line, format!("`{time}` is no time: {form}"));
+        }
         [date, time] => from_date(date, time),
         _ => None,
     };
-    let form = "`time` is a date and a time from 2000 on, as 2026-11-16 06:00:00";
+    let form = "`time` is a date and a time from 2000 on, as 2026-11-16 06:00:00 or 06:00:00.250";
     timestamp.map_or_else(|| fault(line, form), Ok)
 }

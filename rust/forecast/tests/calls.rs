@@ -22,23 +22,43 @@ fn the_answers_of_compare() {
         path
     };
     let later = made("later", "06:00:00", "06:00:01");
+    let soon = made("soon", "06:00:00", "06:00:00.001");
     let other = made("other", "gravity 9810", "gravity 9811");
     assert_eq!(said(&["compare", &dock, &dock]), "same\n");
     assert_eq!(said(&["compare", &later, &dock]), "first newer\n");
     assert_eq!(said(&["compare", &dock, &later]), "second newer\n");
     assert_eq!(said(&["compare", &dock, &other]), "clash\n");
+    // In one second the milliseconds decide.
+    assert_eq!(said(&["compare", &soon, &other]), "first newer\n");
+    assert_eq!(said(&["compare", &soon, &later]), "second newer\n");
 
     let input = fs::read(&dock).unwrap();
     assert_eq!(
         given(&input, &["compare", "-", &later]).out,
         "second newer\n"
     );
+    // The same without tag 8, whose milliseconds are 0.
+    let old = &input[..input.len() - 5];
+    assert_eq!(given(old, &["compare", "-", &dock]).out, "same\n");
     let refused = given(&[9], &["compare", &dock, "-"]);
     let words = "refused 7: the record is damaged at byte 0 (second record)\n";
     assert_eq!((refused.status, &refused.out[..]), (1, words));
     let refused = given(&[], &["compare", "-", &dock]);
     let words = "refused 7: the record is damaged at byte 0 (first record)\n";
     assert_eq!((refused.status, &refused.out[..]), (1, words));
+}
+
+#[test]
+fn milliseconds_that_are_refused() {
+    let mut record = fs::read(example("one_cell.rec")).unwrap();
+    let value = record.len() - 2..;
+    record[value].copy_from_slice(&1_000u16.to_be_bytes());
+    let words = "refused 9: the milliseconds of the timestamp are above 999";
+    let shown = given(&record, &["show", "-"]);
+    assert_eq!((shown.status, shown.out), (1, format!("{words}\n")));
+    let compared = given(&record, &["compare", &example("dock.rec"), "-"]);
+    let words = format!("{words} (second record)\n");
+    assert_eq!((compared.status, compared.out), (1, words));
 }
 
 #[test]
@@ -62,6 +82,14 @@ fn arguments_that_are_none() {
         &["run", "-", "--steps", "3", "--inflow", "1", "2"],
         &["step", "-", "-"],
         &["step", "-", "--seconds", "3"],
+        &["step", "-", "out", "--seconds", "3."],
+        &["step", "-", "out", "--seconds", "3.5"],
+        &["step", "-", "out", "--seconds", "3.5000"],
+        &["step", "-", "out", "--seconds", "3.-50"],
+        &["step", "-", "out", "--seconds", ".500"],
+        &["step", "-", "out", "--seconds", "-1.500"],
+        &["step", "-", "out", "--seconds", "1,500"],
+        &["step", "-", "out", "--seconds", "18446744073709551616.000"],
         &["make", "-", "-"],
         &["draw", "-", "-"],
         &["compare", "-"],

@@ -4,7 +4,7 @@ mod common;
 
 use std::fs;
 
-use common::{example, folder, given, repository, said, state, tool, EXAMPLES};
+use common::{example, folder, given, repository, said, state, tool, words, EXAMPLES};
 
 #[test]
 fn each_record_is_made_from_its_text() {
@@ -40,7 +40,8 @@ fn a_later_state_goes_round_too() {
     let (later, again) = (format!("{folder}/later"), format!("{folder}/again"));
     for name in EXAMPLES {
         let record = example(&format!("{name}.rec"));
-        said(&["run", &record, "--steps", "40", &later, "--seconds", "77"]);
+        let line = "run @ @ --steps 40 --seconds 77.125";
+        said(&words(line, &[&record, &later]));
         let text = said(&["show", "--text", &later]);
         given(text.as_bytes(), &["make", "-", &again]);
         assert_eq!(said(&["compare", &later, &again]), "same\n", "{name}");
@@ -72,6 +73,7 @@ fn each_runs_a_thousand_steps_and_keeps_total_depth() {
 #[test]
 fn what_is_shown_of_the_dock() {
     let text = said(&["show", &example("dock.rec")]);
+    // Milliseconds of 0 are not shown.
     for line in [
         "grid 32 columns, 20 rows",
         "boundary basin: walls on all sides",
@@ -112,8 +114,8 @@ fn a_refused_record_is_told_by_number() {
     let record = fs::read(example("dock.rec")).unwrap();
     let answer = given(&record[..record.len() - 1], &["show", "-"]);
     assert_eq!(answer.status, 1);
-    // The last field begins 3 + 2·640 bytes before the end.
-    let offset = record.len() - 3 - 2 * 640;
+    // The last field, of the milliseconds, begins 3 + 2 bytes before the end.
+    let offset = record.len() - 3 - 2;
     let words = format!("refused 7: the record is damaged at byte {offset}\n");
     assert_eq!(answer.out, words);
     let missing = tool(&["show", &example("no such record")]);

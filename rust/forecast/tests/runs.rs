@@ -4,7 +4,7 @@ mod common;
 
 use std::fs;
 
-use basin::Ran;
+use basin::{Ran, Timestamp};
 use common::{call, example, folder, said, state, tool, words};
 use forecast::{run, State};
 
@@ -82,9 +82,47 @@ fn the_record_left_has_its_timestamp() {
     let seconds = u64::MAX.to_string();
     let full = tool(&["step", &dock, &same, "--seconds", &seconds]);
     assert_eq!(full.status, 2);
+    assert_eq!(timestamp_in(&later), after_the_dock(5, 0));
+}
+
+fn timestamp_in(record: &str) -> Timestamp {
+    State::read(&fs::read(record).unwrap()).unwrap().timestamp
+}
+
+/// So much after the timestamp of the dock, which is a whole second.
+fn after_the_dock(seconds: u64, milliseconds: u64) -> Timestamp {
+    Timestamp {
+        seconds: state("dock").timestamp.seconds + seconds,
+        milliseconds,
+    }
+}
+
+/// Half a second, and then three quarters: a second and a quarter.
+#[test]
+fn milliseconds_are_added_and_full_seconds_carried() {
+    let folder = folder("carry");
+    let (half, sum) = (format!("{folder}/half"), format!("{folder}/sum"));
+    let dock = example("dock.rec");
+    said(&words("step @ @ --seconds 0.500", &[&dock, &half]));
+    assert_eq!(timestamp_in(&half), after_the_dock(0, 500));
+    said(&words("step @ @ --seconds 0.750", &[&half, &sum]));
+    assert_eq!(timestamp_in(&sum), after_the_dock(1, 250));
+    assert_eq!(said(&["compare", &half, &sum]), "second newer\n");
+    let shown = said(&["show", &sum]);
     assert!(
-        State::read(&fs::read(later).unwrap()).unwrap().timestamp == state("dock").timestamp + 5
+        shown.contains("\ntimestamp 2026-11-16 06:00:01.250\n"),
+        "{shown}"
     );
+
+    // Up to the last millisecond, and no further.
+    let seconds = u64::MAX - timestamp_in(&half).seconds;
+    let add = |by: String| tool(&["step", &half, &sum, "--seconds", &by]);
+    assert_eq!(add(format!("{seconds}.499")).status, 0);
+    let full = add(format!("{seconds}.500"));
+    let words = "forecast: a timestamp has no room for so many --seconds\n";
+    assert_eq!((full.status, full.trouble.starts_with(words)), (2, true));
+    let last = timestamp_in(&sum);
+    assert_eq!((last.seconds, last.milliseconds), (u64::MAX, 999));
 }
 
 /// A metre a step into a cell that is 2 m deep: it is full after 98 steps. The

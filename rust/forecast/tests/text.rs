@@ -4,7 +4,9 @@ mod common;
 
 use std::fs;
 
+use basin::Timestamp;
 use common::{folder, given, repository, tool};
+use forecast::describe::to_text;
 use forecast::text::{from_text, Unread};
 use forecast::State;
 
@@ -19,9 +21,13 @@ fn described(fields: &str) -> State {
 #[test]
 fn the_forms_of_a_field() {
     let even = described("depth 2000");
+    let minute = Timestamp {
+        seconds: 60,
+        milliseconds: 0,
+    };
     assert_eq!(
         (even.timestamp, even.parameters.w, even.parameters.n),
-        (60, 3, 2)
+        (minute, 3, 2)
     );
     assert_eq!((&even.h[..], &even.u[..]), (&[2000; 6][..], &[0; 6][..]));
     // A later line goes over an earlier one.
@@ -32,6 +38,31 @@ fn the_forms_of_a_field() {
     // North comes first; lines that say nothing do not count.
     let rows = described("depth 2000\nv rows\n\n 1 2 3\n# between\r\n\t4 5 6 # south\r\n");
     assert_eq!(rows.v, [4, 5, 6, 1, 2, 3]);
+}
+
+/// Milliseconds are kept from text to record to text, and shown where not 0.
+#[test]
+fn milliseconds_of_a_time() {
+    for (time, milliseconds, shown) in [
+        ("00:01:00", 0, "00:01:00\n"),
+        ("00:01:00.000", 0, "00:01:00\n"),
+        ("00:01:00.007", 7, "00:01:00.007\n"),
+        ("00:01:00.250", 250, "00:01:00.250\n"),
+        ("00:01:00.999", 999, "00:01:00.999\n"),
+    ] {
+        let text = format!("{HEAD}depth 2000").replace("00:01:00", time);
+        let state = from_text(text.as_bytes()).unwrap();
+        let timestamp = Timestamp {
+            seconds: 60,
+            milliseconds,
+        };
+        assert_eq!(state.timestamp, timestamp, "{time}");
+        let read = State::read(&state.write().unwrap()).unwrap();
+        let again = to_text(&read);
+        let line = format!("\ntime 2000-01-01 {shown}");
+        assert!(again.contains(&line), "{again}");
+        assert!(from_text(again.as_bytes()).unwrap() == state, "{time}");
+    }
 }
 
 /// The description on the page about them is one.
@@ -99,6 +130,17 @@ fn faults_of_the_head() {
         ("grid 3 2\nboundary", 2, "periodic, channel and basin"),
         ("grid 3 2\ngravity 1 2", 2, "`gravity` takes one number"),
         ("grid 3 2\ntime 2026-02-30 00:00", 2, "`time` is a date"),
+        ("time 2026-02-28 06:00.250", 1, "`time` is a date"),
+        ("time 2026-02-28 06:00:00,250", 1, "`time` is a date"),
+        ("time 2026-02-28 06:00:00 .250", 1, "`time` is a date"),
+        ("\ntime 2026-02-28 06:00:00.5", 2, "`06:00:00.5` is no time"),
+        (
+            "time 2026-02-28 06:00:00.",
+            1,
+            "three digits after the point",
+        ),
+        ("time 2026-02-28 06:00:00.2500", 1, "three digits after the"),
+        ("time 2026-02-28 06:00:00.+25", 1, "three digits after the"),
         ("grid 3 2\ndepth 2000\n", 2, "without `boundary`"),
         ("grid 3 2\ngrid 3 2\n", 2, "`grid` is given twice"),
         (

@@ -1,10 +1,11 @@
 //! An independent version of the shallow-water core that document 01
 //! specifies: the Arakawa-Lamb C-grid scheme in whole numbers, its two-pass
-//! time step, and the record a state is stored in.
+//! time step, and the record a state is stored in, with timestamps to the
+//! millisecond (request U1 of document 02).
 //!
-//! It was written from 01 and the open points decided in docs/DECISIONS.md,
+//! It was written from 01, 02 and the open points decided in docs/DECISIONS.md,
 //! apart from the proved core and its model, and is meant to be compared with
-//! them call by call. 01 decides every question.
+//! them call by call. 01 and 02 decide every question.
 //!
 //! The calls take the scalars of a state as [`Parameters`] and its fields as
 //! slices of `i64`. They take any numbers and any lengths and never panic:
@@ -29,5 +30,5 @@ pub use refusal::{
     WriteAnswer,
 };
 pub use scheme::{energy_rate, enstrophy_rate, potential_vorticity, tendencies};
-pub use state::{Boundary, Parameters, State};
+pub use state::{Boundary, Parameters, State, Timestamp};
 pub use stepping::{run, step, total_depth, total_energy};

@@ -2,26 +2,30 @@
 //!
 //! A record is a row of fields, each a one-byte tag, a two-byte length and a
 //! value; numbers are big-endian. Tag 1 holds w, n and kind, 2 holds G, c and
-//! R, 3 the timestamp (01: stamp), 4 to 7 hold h, b, u and v.
+//! R, 3 the seconds of the timestamp (01: stamp), 4 to 7 hold h, b, u and v, and
+//! 8 holds the milliseconds. A record may lack tag 8: its milliseconds are 0.
 
 use std::cmp::Ordering;
 
 use crate::refusal::{CompareAnswer, ReadAnswer, Refusal, WriteAnswer};
 use crate::state::{
-    test_destinations, test_grid, test_state, test_values, Fields, Parameters, State,
+    test_destinations, test_grid, test_lengths, test_recorded, Fields, Parameters, State, Timestamp,
 };
 
-const TAGS: usize = 7;
+const TAGS: usize = 8;
+/// Tags 1 to 7 must be there.
+const REQUIRED: usize = 7;
 /// Tag and length of a field.
 const HEAD: usize = 3;
-/// Lengths of the values under tags 1, 2 and 3.
-const FIXED_LENGTHS: [usize; 3] = [3, 12, 8];
+/// Lengths of the values under tags 1 to 8, where a tag has but one.
+const FIXED_LENGTHS: [Option<usize>; TAGS] =
+    [Some(3), Some(12), Some(8), None, None, None, None, Some(2)];
 /// Bytes of a cell under tags 4, 5, 6 and 7.
 const CELL_LENGTHS: [usize; 4] = [4, 4, 2, 2];
 
 /// Bytes of a record of so many cells.
 pub const fn record_size(cells: usize) -> usize {
-    44 + 12 * cells
+    49 + 12 * cells
 }
 
 /// Writes the record of a state, by rising tag.
@@ -31,7 +35,7 @@ pub fn write(
     b: &[i64],
     u: &[i64],
     v: &[i64],
-    timestamp: u64,
+    timestamp: Timestamp,
     out: &mut [u8],
 ) -> WriteAnswer {
     match try_write(p, Fields { h, b, u, v }, timestamp, out) {
@@ -43,10 +47,13 @@ pub fn write(
 fn try_write(
     p: &Parameters,
     fields: Fields,
-    timestamp: u64,
+    timestamp: Timestamp,
     out: &mut [u8],
 ) -> Result<usize, Refusal> {
-    let cells = test_state(p, fields, None)?.cells();
+    let grid = test_grid(p)?;
+    test_lengths(grid, fields, None)?;
+    test_recorded(p, timestamp, grid, fields)?;
+    let cells = grid.cells();
     test_destinations(record_size(cells), [out.len()])?;
 
     // Every number is within its bound by now, so the casts keep it.
@@ -56,7 +63,7 @@ fn try_write(
     writer.head(2, 12);
     writer.put_4([p.g, p.c, p.r].iter());
     writer.head(3, 8);
-    writer.put(&timestamp.to_be_bytes());
+    writer.put(&timestamp.seconds.to_be_bytes());
     writer.head(4, 4 * cells);
     writer.put_4(fields.h.iter());
     writer.head(5, 4 * cells);
@@ -65,6 +72,8 @@ fn try_write(
     writer.put_2(fields.u.iter());
     writer.head(7, 2 * cells);
     writer.put_2(fields.v.iter());
+    writer.head(8, 2);
+    writer.put(&(timestamp.milliseconds as u16).to_be_bytes());
     Ok(writer.at)
 }
 
@@ -143,10 +152,10 @@ pub fn compare(first: &[u8], second: &[u8]) -> CompareAnswer {
     }
 }
 
-/// The state and timestamp of a record, after tests 7, 1, 2, 8, 3, 4, 5;
+/// The state and timestamp of a record, after tests 7, 1, 2, 8, 3, 9, 4, 5;
 /// `room` is the length of the shortest destination.
-fn decode(record: &[u8], room: usize) -> Result<(State, u64), Refusal> {
-    let [sizes, constants, timestamp, h, b, u, v] = values_by_tag(record)?;
+fn decode(record: &[u8], room: usize) -> Result<(State, Timestamp), Refusal> {
+    let [sizes, constants, seconds, h, b, u, v, milliseconds] = values_by_tag(record)?;
     let constant = |k: usize| signed(&constants[4 * k..][..4]);
     let parameters = Parameters {
         w: usize::from(sizes[0]),
@@ -174,15 +183,16 @@ fn decode(record: &[u8], room: usize) -> Result<(State, u64), Refusal> {
         u: numbers(u, 2),
         v: numbers(v, 2),
     };
-    test_values(&parameters, grid, state.fields(), None)?;
-    let timestamp = timestamp
-        .iter()
-        .fold(0, |number, &byte| number << 8 | u64::from(byte));
+    let timestamp = Timestamp {
+        seconds: unsigned(seconds),
+        milliseconds: unsigned(milliseconds),
+    };
+    test_recorded(&parameters, timestamp, grid, state.fields())?;
     Ok((state, timestamp))
 }
 
-/// Test 7: the values under tags 1 to 7, those of 1, 2 and 3 of the right
-/// length.
+/// Test 7: the values under tags 1 to 8, those of 1, 2, 3 and 8 of the right
+/// length. Where tag 8 is absent, its value is that of 0 milliseconds.
 fn values_by_tag(record: &[u8]) -> Result<[&[u8]; TAGS], Refusal> {
     let mut values = [None; TAGS];
     let mut offset = 0;
@@ -198,18 +208,30 @@ fn values_by_tag(record: &[u8]) -> Result<[&[u8]; TAGS], Refusal> {
         }
         let length = usize::from(u16::from_be_bytes([*high, *low]));
         let value = rest.get(..length).ok_or(damage)?;
-        if FIXED_LENGTHS.get(index).is_some_and(|&l| l != length) {
+        if FIXED_LENGTHS[index].is_some_and(|right| right != length) {
             return Err(damage);
         }
         *slot = Some(value);
         offset += HEAD + length;
     }
     let missing = Refusal::Record { offset };
-    let mut found = [&[][..]; TAGS];
-    for (place, value) in found.iter_mut().zip(values) {
-        *place = value.ok_or(missing)?;
+    // What is not found keeps these bytes, and only tag 8 may.
+    let mut found = [&[0, 0][..]; TAGS];
+    for (index, value) in values.into_iter().enumerate() {
+        match value {
+            Some(value) => found[index] = value,
+            None if index < REQUIRED => return Err(missing),
+            None => {}
+        }
     }
     Ok(found)
+}
+
+/// A big-endian number without a sign.
+fn unsigned(bytes: &[u8]) -> u64 {
+    bytes
+        .iter()
+        .fold(0, |number, &byte| number << 8 | u64::from(byte))
 }
 
 /// A big-endian number in two's complement.

@@ -3,7 +3,7 @@
 //! `told` gives the list of 01's number and values for an answer. Accepted
 //! calls begin with 0, refused ones with the number of the refusal.
 
-use crate::state::Parameters;
+use crate::state::{Parameters, Timestamp};
 
 /// A field of numbers, one per cell, that a refusal can name, with its number.
 #[derive(Clone, Copy, Debug, PartialEq, Eq, PartialOrd, Ord)]
@@ -48,10 +48,12 @@ pub enum Refusal {
     Record { offset: usize },
     /// A lent destination is too short.
     Destination,
+    /// Milliseconds above 999.
+    Milliseconds,
 }
 
 impl Refusal {
-    /// 01's table: the number of each refusal, then its values.
+    /// 01's table, and 02's: the number of each refusal, then its values.
     pub fn told(&self) -> Vec<i128> {
         match *self {
             Refusal::Grid => vec![1],
@@ -61,6 +63,7 @@ impl Refusal {
             Refusal::ClosedEdge { field, cell } => vec![5, field.told(), cell as i128],
             Refusal::Record { offset } => vec![7, offset as i128],
             Refusal::Destination => vec![8],
+            Refusal::Milliseconds => vec![9],
         }
     }
 }
@@ -198,13 +201,13 @@ impl WriteAnswer {
 pub enum ReadAnswer {
     Read {
         parameters: Parameters,
-        timestamp: u64,
+        timestamp: Timestamp,
     },
     Refused(Refusal),
 }
 
 impl ReadAnswer {
-    /// `[0, w, n, kind, G, c, R, timestamp]`, or the refusal.
+    /// `[0, w, n, kind, G, c, R, seconds, milliseconds]`, or the refusal.
     pub fn told(&self) -> Vec<i128> {
         match *self {
             ReadAnswer::Read {
@@ -218,7 +221,8 @@ impl ReadAnswer {
                 p.g.into(),
                 p.c.into(),
                 p.r.into(),
-                timestamp.into(),
+                timestamp.seconds.into(),
+                timestamp.milliseconds.into(),
             ],
             ReadAnswer::Refused(refusal) => refusal.told(),
         }
@@ -228,7 +232,7 @@ impl ReadAnswer {
 /// The answer of the comparison of two records.
 #[derive(Clone, Copy, Debug, PartialEq, Eq)]
 pub enum CompareAnswer {
-    /// Same state, same timestamp.
+    /// Same state, same second and millisecond.
     Same,
     FirstNewer,
     SecondNewer,

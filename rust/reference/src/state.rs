@@ -1,4 +1,5 @@
-//! A state, its limits, its grid, and refusals 1 to 5 and 8.
+//! A state and its timestamp, their limits, the grid, and refusals 1 to 5, 8 and
+//! 9.
 
 use std::ops::RangeInclusive;
 
@@ -24,6 +25,8 @@ pub const CORIOLIS: RangeInclusive<i64> = -10_000..=10_000;
 pub const RATIO: RangeInclusive<i64> = 1_000..=1_000_000;
 /// Most steps of one run.
 pub const MAX_STEPS: u64 = 10_000;
+/// Milliseconds of a timestamp.
+pub const MILLISECONDS: RangeInclusive<u64> = 0..=999;
 /// Work space of a step or run, in numbers per cell.
 pub const WORK_PER_CELL: usize = 8;
 
@@ -42,6 +45,26 @@ pub struct Parameters {
     pub c: i64,
     /// R, spacing over time step, mm/s.
     pub r: i64,
+}
+
+/// A moment, counted from 2000-01-01 00:00 (01: stamp). Any numbers may stand
+/// here; the calls test them. Moments are ordered by second, then millisecond.
+#[derive(Clone, Copy, Debug, PartialEq, Eq, PartialOrd, Ord)]
+pub struct Timestamp {
+    /// Whole seconds.
+    pub seconds: u64,
+    /// Milliseconds past them.
+    pub milliseconds: u64,
+}
+
+/// A whole second.
+impl From<u64> for Timestamp {
+    fn from(seconds: u64) -> Self {
+        Timestamp {
+            seconds,
+            milliseconds: 0,
+        }
+    }
 }
 
 /// A whole state that owns its fields.
@@ -270,16 +293,26 @@ pub(crate) fn test_room(
     Ok(grid)
 }
 
-/// Tests 3, 4 and 5; the lengths have been tested.
-pub(crate) fn test_values(
-    p: &Parameters,
-    grid: Grid,
-    fields: Fields,
-    extra: Extra,
-) -> Result<(), Refusal> {
-    if !(GRAVITY.contains(&p.g) && CORIOLIS.contains(&p.c) && RATIO.contains(&p.r)) {
-        return Err(Refusal::Constants);
+/// Test 3.
+fn test_constants(p: &Parameters) -> Result<(), Refusal> {
+    if GRAVITY.contains(&p.g) && CORIOLIS.contains(&p.c) && RATIO.contains(&p.r) {
+        Ok(())
+    } else {
+        Err(Refusal::Constants)
     }
+}
+
+/// Test 9.
+fn test_milliseconds(timestamp: Timestamp) -> Result<(), Refusal> {
+    if MILLISECONDS.contains(&timestamp.milliseconds) {
+        Ok(())
+    } else {
+        Err(Refusal::Milliseconds)
+    }
+}
+
+/// Tests 4 and 5; the lengths have been tested.
+fn test_fields(grid: Grid, fields: Fields, extra: Extra) -> Result<(), Refusal> {
     let state = [
         (Field::Depth, fields.h),
         (Field::Bottom, fields.b),
@@ -292,6 +325,29 @@ pub(crate) fn test_values(
         }
     }
     grid.test_closed_edges(fields.u, fields.v)
+}
+
+/// Tests 3, 4 and 5; the lengths have been tested.
+pub(crate) fn test_values(
+    p: &Parameters,
+    grid: Grid,
+    fields: Fields,
+    extra: Extra,
+) -> Result<(), Refusal> {
+    test_constants(p)?;
+    test_fields(grid, fields, extra)
+}
+
+/// Tests 3, 9, 4 and 5 of what a record holds; the lengths have been tested.
+pub(crate) fn test_recorded(
+    p: &Parameters,
+    timestamp: Timestamp,
+    grid: Grid,
+    fields: Fields,
+) -> Result<(), Refusal> {
+    test_constants(p)?;
+    test_milliseconds(timestamp)?;
+    test_fields(grid, fields, None)
 }
 
 /// Tests 1 to 5.

@@ -206,10 +206,11 @@ fn shallow(w: usize, n: usize) -> String {
         v: zeros,
     };
     let printed = step_program(&record_of(&state, 0));
-    format!("prints (encode (shallow {w} {n}) 0) {printed:?}")
+    format!("prints (encode (shallow {w} {n}) (timeOf 0 0)) {printed:?}")
 }
 
-/// The same for worked example 10's record with `m` bytes for its depth.
+/// The same for worked example 10's record, which has no tag 8, with `m` bytes for
+/// its depth.
 fn lengthened(m: usize) -> String {
     let state = State {
         parameters: Parameters {
@@ -227,7 +228,7 @@ fn lengthened(m: usize) -> String {
     };
     let mut fields = record_fields(&state, 0);
     fields[3] = record_field(4, &vec![0; m]);
-    let printed = step_program(&fields.concat());
+    let printed = step_program(&fields[..7].concat());
     format!("prints (lengthened {m}) {printed:?}")
 }
 

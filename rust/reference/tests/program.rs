@@ -4,7 +4,10 @@ use std::io::Write;
 use std::process::{Command, Stdio};
 
 use crate::common::literal::PAPER;
-use crate::common::{at_rest, random_state, record_of, record_of_length, Random, Spread};
+use crate::common::{
+    at_rest, milliseconds_field, moment, random_state, random_timestamp, record_of,
+};
+use crate::common::{record_of_length, record_without_8, Random, Spread};
 use reference::{step_program, Parameters, State};
 
 /// Runs the program itself.
@@ -54,8 +57,12 @@ fn worked_example_10() {
         0x00, 0x00, 0x04, 0x00, 0x04, 0x00, 0x00, 0x07, 0xD0, 0x05, 0x00, 0x04, 0x00, 0x00, 0x00,
         0x00, 0x06, 0x00, 0x02, 0x00, 0x64, 0x07, 0x00, 0x02, 0xFF, 0xCE,
     ];
-    assert_eq!(record_of(&one_cell(), 0), input);
-    assert_prints(&input, "total 2000\n0 0 2000 99 -51\n");
+    assert_eq!(record_without_8(&one_cell(), 0), input);
+    let text = "total 2000\n0 0 2000 99 -51\n";
+    assert_prints(&input, text);
+    // With tag 8, wherever it stands.
+    assert_prints(&record_of(&one_cell(), 0), text);
+    assert_prints(&[milliseconds_field(250), input.to_vec()].concat(), text);
 }
 
 #[test]
@@ -82,7 +89,7 @@ fn cells_are_printed_in_index_order() {
             }
             Err(_) => "refused 6\n".to_string(),
         };
-        let input = record_of(&state, random.next());
+        let input = record_of(&state, random_timestamp(&mut random));
         assert_eq!(step_program(&input), expected, "{state:?}");
         if case < 5 {
             assert_eq!(run_binary(&input), expected, "{state:?}");
@@ -119,6 +126,9 @@ fn every_refusal_is_printed() {
     });
     assert_prints(&[], "refused 7\n");
     assert_prints(&record_of(&one_cell(), 1)[..55], "refused 7\n");
+    let mut late = one_cell();
+    late.h[0] = 999;
+    assert_prints(&record_of(&late, moment(1, 1_000)), "refused 9\n");
 }
 
 #[test]

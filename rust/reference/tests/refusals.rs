@@ -4,10 +4,14 @@
 //! record.rs.
 
 use crate::common::literal::PAPER;
-use crate::common::{any_state, numbers, random_state, run_state, step_state, within_limits};
-use crate::common::{Random, Spread, NUMBERS, SPREADS};
+use crate::common::{
+    any_state, first_told, moment, numbers, random_number, random_state, record_size,
+};
+use crate::common::{
+    run_state, step_state, within_limits, Random, Spread, NUMBERS, SPREADS, TESTED,
+};
 use reference::{potential_vorticity, run, step, tendencies, total_depth, total_energy, write};
-use reference::{Parameters, State};
+use reference::{Parameters, State, Timestamp};
 
 #[derive(Clone, Copy, Debug, PartialEq)]
 enum Call {
@@ -48,7 +52,7 @@ struct Lent {
     dh: Vec<i64>,
     du: Vec<i64>,
     dv: Vec<i64>,
-    timestamp: u64,
+    timestamp: Timestamp,
     out: Vec<u8>,
 }
 
@@ -70,8 +74,8 @@ impl Lent {
             dh: vec![73; cells + 2],
             du: vec![74; cells + 2],
             dv: vec![75; cells + 2],
-            timestamp: 76,
-            out: vec![77; 44 + 12 * cells + 2],
+            timestamp: moment(76, 78),
+            out: vec![77; record_size(cells) + 2],
         }
     }
 
@@ -128,7 +132,7 @@ impl Lent {
         assert_eq!(lent, after, "{call:?}, {what}, left changed: {self:?}");
     }
 
-    /// Tests 1 to 5 and 8 pass; a step may still leave a bound.
+    /// No test refuses; a step may still leave a bound.
     fn assert_accepted(&self, call: Call, what: &str) {
         let mut lent = self.clone();
         let got = lent.make(call);
@@ -211,6 +215,12 @@ fn faults() -> Vec<Fault> {
         faults.push(fault("R", &[3], ALL, move |l| l.p.r = bad));
     }
 
+    for bad in [1_000, 65_536, 1 << 32, u64::MAX] {
+        faults.push(fault("milliseconds", &[9], &[Write], move |l| {
+            l.timestamp.milliseconds = bad
+        }));
+    }
+
     for (name, field, low, high, calls, pick) in FIELDS {
         for cell in [1, 4, 5] {
             for bad in [low - 1, high + 1, i64::MIN, i64::MAX] {
@@ -253,7 +263,7 @@ fn faults() -> Vec<Fault> {
             faults.push(fault(name, &[8], calls, move |l| pick(l).truncate(length)));
         }
     }
-    for length in [0, 44 + 12 * 6 - 1] {
+    for length in [0, record_size(6) - 1] {
         faults.push(fault(
             "destination of the record",
             &[8],
@@ -290,7 +300,10 @@ fn each_cause_is_refused_with_its_number_and_leaves_all_as_it_was() {
     }
     for (call, met) in ALL.iter().zip(met) {
         let fills = matches!(call, Vorticity | Tendencies | Write);
-        let expected = [1, 2, 3, 4, 5].into_iter().chain(fills.then_some(8));
+        let expected = [1, 2, 3, 4, 5]
+            .into_iter()
+            .chain(fills.then_some(8))
+            .chain((*call == Write).then_some(9));
         let met = (0..NUMBERS).filter(|&number| met[number]);
         assert!(met.eq(expected), "{call:?}");
     }
@@ -307,8 +320,8 @@ fn of_two_causes_the_first_in_the_table_is_told() {
             let mut lent = Lent::basin();
             (first.apply)(&mut lent);
             (second.apply)(&mut lent);
-            // Number, then field, then cell.
-            let told = first.told.clone().min(second.told.clone());
+            let causes = [first.told.clone(), second.told.clone()];
+            let told = first_told(&TESTED, causes).expect("two");
             let what = format!("{} and {}", first.what, second.what);
             for call in ALL {
                 if first.calls.contains(call) && second.calls.contains(call) {
@@ -389,8 +402,15 @@ fn every_bound_itself_is_accepted() {
     ] {
         destination.truncate(6);
     }
-    exact.out.truncate(44 + 12 * 6);
+    exact.out.truncate(record_size(6));
     accepted(ALL, "exact lengths", &exact);
+    for seconds in [0, u64::MAX] {
+        for milliseconds in [0, 999] {
+            let mut lent = Lent::basin();
+            lent.timestamp = moment(seconds, milliseconds);
+            accepted(ALL, "timestamp at its bounds", &lent);
+        }
+    }
 }
 
 #[test]
@@ -420,7 +440,7 @@ fn the_boundary_says_which_edges_are_closed() {
     }
 }
 
-/// The table of refusals 1 to 5 and 8 over again, by whole scans.
+/// The table of refusals 1 to 5, 8 and 9 over again, by whole scans.
 fn expected_refusal(call: Call, l: &Lent) -> Option<Vec<i128>> {
     let p = l.p;
     let small = |size: usize| size.wrapping_sub(1) < 64;
@@ -442,6 +462,9 @@ fn expected_refusal(call: Call, l: &Lent) -> Option<Vec<i128>> {
     if p.g < 1 || p.g > 10_000 || p.c < -10_000 || p.c > 10_000 || p.r < 1_000 || p.r > 1_000_000 {
         return Some(vec![3]);
     }
+    if call == Write && l.timestamp.milliseconds >= 1_000 {
+        return Some(vec![9]);
+    }
     for (field, low, high, values) in fields {
         for (cell, value) in values.into_iter().enumerate() {
             if value < low || value > high {
@@ -462,7 +485,7 @@ fn expected_refusal(call: Call, l: &Lent) -> Option<Vec<i128>> {
     let short = match call {
         Vorticity => l.vorticity.len() < cells,
         Tendencies => [&l.dh, &l.du, &l.dv].iter().any(|d| d.len() < cells),
-        Write => l.out.len() < 44 + 12 * cells,
+        Write => l.out.len() < record_size(cells),
         Step | Run | TotalDepth | TotalEnergy => false,
     };
     short.then(|| vec![8])
@@ -482,7 +505,7 @@ fn random_lent(random: &mut Random) -> Lent {
             2 => random.between(-6_000, 110_000),
             _ => random.next() as i64,
         };
-        match random.below(16) {
+        match random.below(17) {
             0 if random.once_in(4) => lent.p.w = wild as usize,
             1 if random.once_in(4) => lent.p.n = wild as usize,
             2 if random.once_in(4) => lent.p.kind = wild as u8,
@@ -501,7 +524,8 @@ fn random_lent(random: &mut Random) -> Lent {
                 };
                 destination.truncate(random.below(cells + 2));
             }
-            10 => {
+            10 => lent.timestamp = moment(random_number(random), wild as u64),
+            11 => {
                 let (_, _, low, _, _, pick) = random.pick(&FIELDS);
                 pick(&mut lent).resize(random.below(2 * cells + 1), low);
             }
@@ -541,17 +565,17 @@ fn any_numbers_and_lengths_are_answered_by_the_table() {
         }
     }
     println!("{met:?}");
-    let told = [0, 1, 2, 3, 4, 5, 6, 8];
+    let told = [0, 1, 2, 3, 4, 5, 6, 8, 9];
     assert!(told.iter().all(|&k| met[k] > 100), "{met:?}");
 }
 
-/// Makes a call that tests 1 to 5 and 8 pass, checks that it changes only
+/// Makes a call that no test refuses, checks that it changes only
 /// what it is to fill, and gives the number it tells.
 fn accepted_call(call: Call, before: &Lent) -> i128 {
     let mut after = before.clone();
     let told = after.make(call);
     let cells = before.p.w * before.p.n;
-    let size = 44 + 12 * cells;
+    let size = record_size(cells);
     // What was filled is put back; then nothing else may differ.
     let filled = after.clone();
     match call {
@@ -619,7 +643,7 @@ fn huge_numbers_are_answered() {
                             v: vec![g],
                         });
                         lent.steps = steps;
-                        lent.timestamp = steps;
+                        lent.timestamp = moment(steps, steps);
                         for &call in ALL {
                             let told = expected_refusal(call, &lent).expect("lengths are bad");
                             lent.assert_refused(call, &told, "huge");

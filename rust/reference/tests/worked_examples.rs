@@ -1,9 +1,9 @@
 //! The worked examples of 01 (01: soundings), one test each.
 
-use crate::common::{run_state, step_state, within_limits};
+use crate::common::{run_state, step_state, within_limits, written};
 use reference::scheme::round_div;
 use reference::{
-    potential_vorticity, read, step_program, tendencies, total_depth, total_energy, write, Field,
+    potential_vorticity, read, step_program, tendencies, total_depth, total_energy, Field,
     FillAnswer, Parameters, Refusal, RunAnswer, State, StepAnswer, TotalAnswer,
 };
 
@@ -225,17 +225,13 @@ fn example_10_step_program() {
     let record: Vec<u8> = digits.chunks(2).map(|two| two[0] << 4 | two[1]).collect();
     assert_eq!(step_program(&record), "total 2000\n0 0 2000 99 -51\n");
 
-    // The input is the record of example 2 at time 0.
+    // The input is the record of example 2 at time 0, which is written with tag 8.
     let state = example_2();
     let [mut h, mut b, mut u, mut v] = [[1]; 4];
     let answer = read(&record, &mut h, &mut b, &mut u, &mut v);
-    assert_eq!(answer.told(), [0, 1, 1, 0, 9810, 10, 1000, 0]);
+    assert_eq!(answer.told(), [0, 1, 1, 0, 9810, 10, 1000, 0, 0]);
     assert_eq!((h, b, u, v), ([2000], [0], [100], [-50]));
-    let mut out = vec![0; 56];
-    let p = &state.parameters;
-    let answer = write(p, &state.h, &state.b, &state.u, &state.v, 0, &mut out);
-    assert_eq!(answer.told(), [0, 56]);
-    assert_eq!(out, record);
-    let total = total_depth(p, &h, &b, &u, &v);
+    assert_eq!(written(&state, 0), [&record[..], &[8, 0, 2, 0, 0]].concat());
+    let total = total_depth(&state.parameters, &h, &b, &u, &v);
     assert_eq!(total, TotalAnswer::Total(2000));
 }

@@ -4,7 +4,8 @@
 use basin::{raw, Ran, Refusal};
 
 use super::common::literal::{self, Three};
-use super::{record_size, Call, Case, H, Q, U, V};
+use super::common::record_size;
+use super::{Call, Case, H, Q, U, V};
 
 /// Numbers that no call gives.
 pub const FENCE: i64 = 0x3333_3333_3333_3333;
@@ -49,7 +50,7 @@ pub struct Written<T = Vec<i64>, R = Vec<u8>> {
 }
 
 impl Outcome {
-    /// What tests 1 to 5 and 8 tell: 0 where a step or run goes on.
+    /// What the tests before the first step tell: 0 where a step or run goes on.
     pub fn tested(&self) -> &[u64] {
         match self.told[0] {
             0 | 6 => &[0],
@@ -166,6 +167,7 @@ pub fn told(result: Result<(), Refusal>) -> Vec<u64> {
         }
         Refusal::Record { offset } => vec![7, offset as u64],
         Refusal::Destination => vec![8],
+        Refusal::Milliseconds => vec![9],
         _ => panic!("{refusal:?} is no refusal of these calls"),
     };
     assert_eq!(u64::from(refusal.number()), told[0]);
@@ -216,13 +218,18 @@ pub fn parameters(case: &Case) -> basin::Parameters {
     }
 }
 
+pub fn timestamp(of: reference::Timestamp) -> basin::Timestamp {
+    basin::Timestamp {
+        seconds: of.seconds,
+        milliseconds: of.milliseconds,
+    }
+}
+
 /// The proved library, by its safe calls.
 fn proved(case: &Case, call: Call) -> Outcome {
     let p = &parameters(case);
     let [h, b, u, v, q, s] = &case.fields;
-    let &Case {
-        steps, timestamp, ..
-    } = case;
+    let (steps, time) = (case.steps, timestamp(case.timestamp));
     let mut written = Written::before(case, call);
     let lent = written.slices();
     let [first, second, third] = lent.destinations;
@@ -238,7 +245,7 @@ fn proved(case: &Case, call: Call) -> Outcome {
         )),
         Call::TotalDepth => told_total(basin::total_depth(p, h, b, u, v), lent.total),
         Call::TotalEnergy => told_total(basin::total_energy(p, h, b, u, v), lent.total),
-        Call::Write => told_write(basin::write(p, h, b, u, v, timestamp, lent.record)),
+        Call::Write => told_write(basin::write(p, h, b, u, v, time, lent.record)),
     };
     Outcome { told, written }
 }
@@ -290,9 +297,7 @@ pub fn call_raw(
 ) -> u64 {
     let p = &parameters(case);
     let [h, b, u, v, q, s] = fields;
-    let &Case {
-        steps, timestamp, ..
-    } = case;
+    let (steps, time) = (case.steps, case.timestamp);
     let [first, second, third] = lent.destinations;
     let [h_stepped, u_stepped, v_stepped] = lent.stepped;
     match call {
@@ -304,7 +309,10 @@ pub fn call_raw(
         ),
         Call::TotalDepth => raw::total_depth(p, h, b, u, v, &mut lent.total[0], answer),
         Call::TotalEnergy => raw::total_energy(p, h, b, u, v, &mut lent.total[0], answer),
-        Call::Write => raw::write(p, h, b, u, v, timestamp, lent.record, answer),
+        Call::Write => {
+            let (seconds, milliseconds) = (time.seconds, time.milliseconds);
+            raw::write(p, h, b, u, v, seconds, milliseconds, lent.record, answer)
+        }
     }
 }
 
@@ -335,7 +343,7 @@ fn sides(case: &Case, call: Call, at: &str) -> String {
     )
 }
 
-/// Both tell this by tests 1 to 5 and 8, 0 where none refuses.
+/// Both tell this by the tests before the first step, 0 where none refuses.
 pub fn expect(case: &Case, call: Call, told: &[u64], at: &str) {
     let outcome = compare(case, call, at);
     assert_eq!(outcome.tested(), told, "{at}: {call:?} {case:?}");

@@ -1,17 +1,17 @@
 //! Records changed at random: in the state that is written, in the row of
 //! fields, in single bytes.
 
-use reference::State;
+use reference::{State, Timestamp};
 
-use super::common::{random_state, record_field, record_fields, record_of, Random, SPREADS};
-use super::records::{field, shuffle, shuffled};
-use super::{random_timestamp, BOUNDS, U, V};
+use super::common::{random_state, random_timestamp, record_field, Random, SPREADS};
+use super::records::{field, shuffle, shuffled, some_fields};
+use super::{BOUNDS, U, V};
 
 /// A byte that means something in a record, or any.
 fn byte(random: &mut Random) -> u8 {
     match random.below(3) {
         0 => random.next() as u8,
-        1 => random.below(9) as u8,
+        1 => random.below(10) as u8,
         _ => random.pick(&[0, 64, 65, 0x7F, 0x80, 0xEC, 0xFF]),
     }
 }
@@ -70,6 +70,15 @@ fn change_state(random: &mut Random, state: &mut State) {
     }
 }
 
+/// Changes the milliseconds to some that fit tag 8, which may be above 999.
+fn change_milliseconds(random: &mut Random, timestamp: &mut Timestamp) {
+    timestamp.milliseconds = match random.below(3) {
+        0 => random.pick(&[0, 999, 1_000, 1_001, 0x8000, 0xFFFF]),
+        1 => 1_000 + random.below(1_000) as u64,
+        _ => random.below(0x1_0000) as u64,
+    };
+}
+
 /// Changes the row of fields: one twice, one less, or its tag, length or bytes.
 fn change_fields(random: &mut Random, fields: &mut Vec<Vec<u8>>) {
     let which = random.below(fields.len());
@@ -84,7 +93,7 @@ fn change_fields(random: &mut Random, fields: &mut Vec<Vec<u8>>) {
             let bit = 1 << random.below(16);
             let lengths = [length ^ bit, length + 1, length.wrapping_sub(1)];
             let near = random.pick(&lengths);
-            let length = random.pick(&[near, near, 0, 3, 8, 12, 0xFFFF]);
+            let length = random.pick(&[near, near, 0, 2, 3, 8, 12, 0xFFFF]);
             fields[which][1..3].copy_from_slice(&length.to_be_bytes());
         }
         4 => {
@@ -123,7 +132,7 @@ pub struct Changed {
     pub cells: usize,
     /// The record of the state before any change.
     pub good: Vec<u8>,
-    /// That of the changed state, with tags that rise.
+    /// That of what was changed of state and timestamp, with tags that rise.
     pub rising: Vec<u8>,
     /// And before fields and bytes of it were changed.
     pub unchanged: Vec<u8>,
@@ -134,15 +143,18 @@ impl Changed {
     pub fn random(random: &mut Random) -> Self {
         let mut state = any_small_state(random);
         let cells = state.h.len();
-        let timestamp = match random.below(2) {
-            0 => random.pick(&[0, 1]),
+        let mut timestamp = match random.below(2) {
+            0 => random.pick(&[0, 1]).into(),
             _ => random_timestamp(random),
         };
         let good = shuffled(random, &state, timestamp);
         let times = random.pick(&[0, 1, 1, 2, 3]);
         (0..times).for_each(|_| change_state(random, &mut state));
-        let rising = record_of(&state, timestamp);
-        let mut fields = record_fields(&state, timestamp);
+        if random.once_in(10) {
+            change_milliseconds(random, &mut timestamp);
+        }
+        let mut fields = some_fields(random, &state, timestamp);
+        let rising = fields.concat();
         if !random.once_in(4) {
             shuffle(random, &mut fields);
         }

@@ -12,8 +12,12 @@ pub mod rounding;
 pub mod common;
 
 use calls::{UNANSWERED, UNFILLED};
-use common::{literal, numbers, random_q, random_state, Random, Spread, SPREADS};
-use reference::{Parameters, State};
+use common::{
+    literal, numbers, random_number, random_q, random_state, random_timestamp, record_size,
+};
+use common::{Random, Spread, SPREADS};
+use records::TAG_8;
+use reference::{Parameters, State, Timestamp};
 
 /// The places of the fields in [`Case::fields`], which are 01's numbers.
 pub const H: usize = 0;
@@ -117,7 +121,7 @@ pub struct Case {
     pub work: usize,
     /// Lengths of the destinations: q, or dh, du, dv.
     pub destinations: [usize; 3],
-    pub timestamp: u64,
+    pub timestamp: Timestamp,
     /// Bytes for the record.
     pub record: usize,
     /// What stands in the total and in the answer before the call.
@@ -142,7 +146,7 @@ impl Case {
             steps: 3,
             work: 8 * cells,
             destinations: [cells; 3],
-            timestamp: 0,
+            timestamp: 0.into(),
             record: record_size(cells),
             total: UNFILLED,
             answer: UNANSWERED,
@@ -381,6 +385,7 @@ impl Case {
                 self.destinations = [cells; 3];
                 self.record = record_size(cells);
             }
+            [9] => self.timestamp.milliseconds = 999,
             _ => panic!("{told:?} is no refusal of these calls: {self:?}"),
         }
     }
@@ -447,6 +452,8 @@ pub enum Fault {
     OtherDestinations,
     /// A record one byte too short, or shorter.
     ShortRecord,
+    /// Milliseconds at their bound or above it.
+    Milliseconds,
     /// A velocity on a closed edge.
     ClosedEdge,
     /// Velocities on some closed edges of u and v.
@@ -457,7 +464,7 @@ pub enum Fault {
     ClosedEdgePast,
 }
 
-pub const FAULTS: [Fault; 21] = [
+pub const FAULTS: [Fault; 22] = [
     Fault::OnePast,
     Fault::FarPast,
     Fault::SeveralPast,
@@ -475,6 +482,7 @@ pub const FAULTS: [Fault; 21] = [
     Fault::ShortDestination,
     Fault::OtherDestinations,
     Fault::ShortRecord,
+    Fault::Milliseconds,
     Fault::ClosedEdge,
     Fault::ClosedEdges,
     Fault::OpenEdges,
@@ -621,8 +629,13 @@ impl Fault {
             Fault::ShortRecord => {
                 let cells = destination_needed(case);
                 let needed = record_size(cells);
-                // Short by a cell, of the fields alone, of no cell at all.
-                let lengths = [needed - 12, 12 * cells, 44.min(needed - 1)];
+                // Short by a cell, by tag 8, of the fields alone, of no cell at all.
+                let lengths = [
+                    needed - 12,
+                    needed - TAG_8,
+                    12 * cells,
+                    record_size(0).min(needed - 1),
+                ];
                 case.record = match random.below(4) {
                     0 => needed - 1,
                     1 => 0,
@@ -630,6 +643,7 @@ impl Fault {
                     _ => random.below(needed),
                 };
             }
+            Fault::Milliseconds => case.timestamp.milliseconds = late_milliseconds(random),
             Fault::ClosedEdge => put_on_edges(random, case, 1, velocity),
             Fault::ClosedEdges => {
                 let times = 2 + random.below(4);
@@ -690,24 +704,21 @@ pub fn add<const N: usize>(counts: &mut [usize; N], happened: [bool; N]) {
     }
 }
 
-/// A timestamp: any, with those at the ends of its range, of few bytes and of
-/// the highest bit.
-pub fn random_timestamp(random: &mut Random) -> u64 {
-    match random.below(4) {
-        0 => random.pick(&[0, 1, 1 << 63, u64::MAX]),
-        1 => random.next() >> random.below(64),
-        _ => random.next(),
-    }
-}
-
 /// Eight numbers that may stand in an answer before a call.
 pub fn any_numbers(random: &mut Random) -> [u64; 8] {
-    [(); 8].map(|()| random_timestamp(random))
+    [(); 8].map(|()| random_number(random))
 }
 
-/// 01's number of bytes of a record of so many cells.
-pub fn record_size(cells: usize) -> usize {
-    44 + 12 * cells
+/// Milliseconds near their bound, above it, or so large that their low bytes are
+/// those of a number within.
+fn late_milliseconds(random: &mut Random) -> u64 {
+    let within = random.below(1_000) as u64;
+    match random.below(4) {
+        0 => random.pick(&[999, 1_000, 1_001, 1_023, 1_024, 0xFFFF]),
+        1 => within + (1 << random.pick(&[10, 16, 32, 63])),
+        2 => random.pick(&[1 << 16, 1 << 32, 1 << 63, u64::MAX]),
+        _ => random_number(random),
+    }
 }
 
 /// Places that a destination has to have, in a grid that can be known.

@@ -5,12 +5,13 @@
 use std::cmp::Ordering;
 
 use basin::{raw, Comparison, Read, Refusal, Refused};
-use reference::{Parameters, ReadAnswer, State};
+use reference::{Parameters, ReadAnswer, State, Timestamp};
 
 use super::calls::{self, answered, array, fenced, inside, junk, told};
 use super::calls::{FENCE, FENCE_BYTE, UNANSWERED, UNFILLED, UNTOUCHED};
-use super::common::{record_fields, record_of, two_cells, within_limits, Random};
-use super::{any_numbers, record_size, Call, Case};
+use super::common::Random;
+use super::common::{moment, record_fields, record_of, record_size, two_cells, within_limits};
+use super::{any_numbers, Call, Case};
 
 pub fn hex(record: &[u8]) -> String {
     record.iter().map(|byte| format!("{byte:02X}")).collect()
@@ -23,7 +24,14 @@ pub fn basin() -> State {
     Case::basin().state()
 }
 
-pub const TIMESTAMP: u64 = 0x0102_0304_0506_0708;
+/// No two of its bytes are the same.
+pub const TIMESTAMP: Timestamp = Timestamp {
+    seconds: 0x0405_0607_0809_0A0B,
+    milliseconds: 0x0102,
+};
+
+/// The bytes of tag 8, which a record may lack.
+pub const TAG_8: usize = 5;
 
 /// Shuffles the fields of a record.
 pub fn shuffle(random: &mut Random, fields: &mut [Vec<u8>]) {
@@ -32,9 +40,18 @@ pub fn shuffle(random: &mut Random, fields: &mut [Vec<u8>]) {
     }
 }
 
-/// A record in some order of its tags.
-pub fn shuffled(random: &mut Random, state: &State, timestamp: u64) -> Vec<u8> {
+/// The fields of a record by rising tag; of a whole second, mostly without tag 8.
+pub fn some_fields(random: &mut Random, state: &State, timestamp: Timestamp) -> Vec<Vec<u8>> {
     let mut fields = record_fields(state, timestamp);
+    if timestamp.milliseconds == 0 && !random.once_in(3) {
+        fields.pop();
+    }
+    fields
+}
+
+/// A record in some order of its tags; of a whole second, mostly without tag 8.
+pub fn shuffled(random: &mut Random, state: &State, timestamp: impl Into<Timestamp>) -> Vec<u8> {
+    let mut fields = some_fields(random, state, timestamp.into());
     shuffle(random, &mut fields);
     fields.concat()
 }
@@ -83,7 +100,8 @@ impl Lent {
 /// answer.
 #[derive(Clone, Debug, PartialEq)]
 pub struct Outcome {
-    /// 0, w, n, kind and timestamp; or 01's number and values.
+    /// 0, w, n, kind, seconds and milliseconds; or the refusal's number and
+    /// values.
     pub told: Vec<u64>,
     /// h, b, u, v
     pub fields: [Vec<i64>; 4],
@@ -106,8 +124,8 @@ impl Outcome {
     }
 
     /// The state and timestamp that were read, if one was.
-    pub fn state(&self) -> Option<(State, u64)> {
-        let [0, w, n, kind, timestamp] = self.told[..] else {
+    pub fn state(&self) -> Option<(State, Timestamp)> {
+        let [0, w, n, kind, seconds, milliseconds] = self.told[..] else {
             return None;
         };
         let [g, c, r] = self.constants;
@@ -128,8 +146,14 @@ impl Outcome {
             u,
             v,
         };
-        Some((state, timestamp))
+        Some((state, moment(seconds, milliseconds)))
     }
+}
+
+/// What an accepted read tells of w, n and kind, and of the timestamp.
+fn accepted([w, n, kind]: [usize; 3], time: Timestamp) -> [u64; 6] {
+    let [w, n, kind] = [w, n, kind].map(|number| number as u64);
+    [0, w, n, kind, time.seconds, time.milliseconds]
 }
 
 /// The independent version.
@@ -142,7 +166,7 @@ pub fn independent(record: &[u8], lent: Lent) -> Outcome {
             timestamp,
         } => {
             outcome.constants = [p.g, p.c, p.r];
-            vec![0, p.w as u64, p.n as u64, p.kind.into(), timestamp]
+            accepted([p.w, p.n, p.kind.into()], timestamp).to_vec()
         }
         ReadAnswer::Refused(refusal) => refusal.told().iter().map(|&x| x as u64).collect(),
     };
@@ -156,10 +180,11 @@ fn proved(record: &[u8], lent: Lent) -> Outcome {
     outcome.told = match basin::read(record, h, b, u, v) {
         Ok(Read {
             parameters: p,
-            timestamp,
+            timestamp: time,
         }) => {
             outcome.constants = [p.g, p.c, p.r];
-            vec![0, p.w as u64, p.n as u64, p.kind.into(), timestamp]
+            let time = moment(time.seconds, time.milliseconds);
+            accepted([p.w, p.n, p.kind.into()], time).to_vec()
         }
         Err(refusal) => told(Err(refusal)),
     };
@@ -227,7 +252,8 @@ fn assert_left(record: &[u8], before: &Outcome, got: &Outcome, at: &str) {
         return;
     }
     let cells = (got.told[1] * got.told[2]) as usize;
-    assert_eq!(record.len(), record_size(cells), "{at}");
+    let lacking = record_size(cells) - record.len();
+    assert!([0, TAG_8].contains(&lacking), "{at}: {}", hex(record));
     for (after, before) in got.fields.iter().zip(&before.fields) {
         let (after, before) = (&after[cells..], &before[cells..]);
         assert_eq!(after, before, "{at}: not left by {}", hex(record));
@@ -288,8 +314,10 @@ pub fn of_record(told: &[u64], record: u8) -> Vec<u64> {
 }
 
 /// What a comparison of two good records tells after its 0.
-pub fn answer_for(time: u64, other_time: u64, same: bool) -> u64 {
-    match time.cmp(&other_time) {
+pub fn answer_for(time: impl Into<Timestamp>, other_time: impl Into<Timestamp>, same: bool) -> u64 {
+    let (time, other) = (time.into(), other_time.into());
+    let by_second = time.seconds.cmp(&other.seconds);
+    match by_second.then(time.milliseconds.cmp(&other.milliseconds)) {
         Ordering::Greater => 1,
         Ordering::Less => 2,
         Ordering::Equal if same => 0,
@@ -306,14 +334,19 @@ pub fn expect_pair(first: &[u8], second: &[u8], told: &[u64], at: &str) {
 // ---- what a record of this state does
 
 /// What a read of this state's record tells.
-pub fn told_for(state: &State, timestamp: u64) -> [u64; 5] {
+pub fn told_for(state: &State, timestamp: impl Into<Timestamp>) -> [u64; 6] {
     let p = state.parameters;
-    [0, p.w as u64, p.n as u64, p.kind.into(), timestamp]
+    accepted([p.w, p.n, p.kind.into()], timestamp.into())
 }
 
 /// Reads a record of a state within the limits: what is told and filled in is
 /// that state.
-pub fn expect_state(record: &[u8], lent: Lent, (state, timestamp): (&State, u64), at: &str) {
+pub fn expect_state(
+    record: &[u8],
+    lent: Lent,
+    (state, timestamp): (&State, impl Into<Timestamp>),
+    at: &str,
+) {
     let outcome = expect_read(record, lent, &told_for(state, timestamp), at);
     let cells = state.h.len();
     let State { h, b, u, v, .. } = state;
@@ -334,10 +367,10 @@ pub fn expect_refused(record: &[u8], told: &[u64], at: &str) {
 }
 
 /// Writes a state by both versions.
-pub fn written(state: &State, timestamp: u64, at: &str) -> Vec<u8> {
+pub fn written(state: &State, timestamp: impl Into<Timestamp>, at: &str) -> Vec<u8> {
     let cells = state.h.len();
     let mut case = Case::beside(state.clone(), vec![0; cells], vec![0; cells]);
-    case.timestamp = timestamp;
+    case.timestamp = timestamp.into();
     let outcome = calls::compare(&case, Call::Write, at);
     assert_eq!(outcome.told, [0, record_size(cells) as u64], "{at}");
     outcome.written.record

@@ -8,7 +8,7 @@ mod panel;
 mod scale;
 mod svg;
 
-use basin::{Parameters, Ran, Refusal};
+use basin::{Parameters, Ran, Refusal, Timestamp};
 
 use crate::date::to_date;
 use crate::run::run;
@@ -57,7 +57,7 @@ impl Frame {
 /// Frames of one run, all drawn to one scale.
 pub struct Series {
     parameters: Parameters,
-    timestamp: u64,
+    timestamp: Timestamp,
     bottom: Vec<i64>,
     frames: Vec<Frame>,
     scale: Scale,

@@ -12,11 +12,30 @@ pub use random::Random;
 use std::fs;
 use std::path::Path;
 
-use reference::{Parameters, RunAnswer, State, StepAnswer};
+use reference::{Parameters, RunAnswer, State, StepAnswer, Timestamp};
 
 /// Places of counts by number: 0, and the numbers of the refusals. 02 goes up to
 /// 13.
 pub const NUMBERS: usize = 14;
+
+/// The order in which a call on a state tests for its refusals, and that of a
+/// record that is read.
+pub const TESTED: [usize; 8] = [1, 2, 3, 9, 4, 5, 6, 8];
+pub const TESTED_IN_READ: [usize; 8] = [7, 1, 2, 8, 3, 9, 4, 5];
+
+/// Of what some causes tell each by itself, what they tell together: by the order
+/// of the tests, then by the values, field and cell. A 0 comes after all.
+pub fn first_told<T>(order: &[usize], told: impl IntoIterator<Item = Vec<T>>) -> Option<Vec<T>>
+where
+    T: Copy + Ord + TryInto<usize>,
+{
+    let rank = |told: &Vec<T>| {
+        let number = told[0].try_into().ok();
+        order.iter().position(|&k| Some(k) == number)
+    };
+    told.into_iter()
+        .min_by_key(|told| (rank(told).unwrap_or(order.len()), told.clone()))
+}
 
 /// How the numbers of a random state are spread.
 #[derive(Clone, Copy, Debug, PartialEq)]
@@ -189,8 +208,45 @@ pub fn run_state(state: &mut State, inflow: &[i64], steps: u64, work: &mut [i64]
     )
 }
 
+/// A moment to the millisecond. (Where none is wanted, a number stands for a
+/// whole second.)
+pub fn moment(seconds: u64, milliseconds: u64) -> Timestamp {
+    Timestamp {
+        seconds,
+        milliseconds,
+    }
+}
+
+/// Seconds, and milliseconds, at their bounds and at those of narrower numbers.
+pub const TIME_NUMBERS: [u64; 9] = [0, 1, 998, 999, 1_000, 65_535, 1 << 16, 1 << 32, u64::MAX];
+
+/// A number of 64 bits: any, with those at the ends of its range, of few bytes and
+/// of the highest bit.
+pub fn random_number(random: &mut Random) -> u64 {
+    match random.below(4) {
+        0 => random.pick(&[0, 1, 1 << 63, u64::MAX]),
+        1 => random.next() >> random.below(64),
+        _ => random.next(),
+    }
+}
+
+/// A timestamp that a record can have, often of a whole second.
+pub fn random_timestamp(random: &mut Random) -> Timestamp {
+    let milliseconds = match random.below(4) {
+        0 | 1 => 0,
+        2 => random.pick(&[1, 255, 256, 998, 999]),
+        _ => random.below(1_000) as u64,
+    };
+    moment(random_number(random), milliseconds)
+}
+
+/// The bytes of a record of so many cells, apart from the library.
+pub fn record_size(cells: usize) -> usize {
+    49 + 12 * cells
+}
+
 /// The public writer on an owned state, into a record of the right size.
-pub fn written(state: &State, timestamp: u64) -> Vec<u8> {
+pub fn written(state: &State, timestamp: impl Into<Timestamp>) -> Vec<u8> {
     let State {
         parameters,
         h,
@@ -198,8 +254,8 @@ pub fn written(state: &State, timestamp: u64) -> Vec<u8> {
         u,
         v,
     } = state;
-    let mut record = vec![0; 44 + 12 * h.len()];
-    let answer = reference::write(parameters, h, b, u, v, timestamp, &mut record);
+    let mut record = vec![0; record_size(h.len())];
+    let answer = reference::write(parameters, h, b, u, v, timestamp.into(), &mut record);
     assert_eq!(answer.told(), [0, record.len() as i128], "{state:?}");
     record
 }
@@ -212,10 +268,18 @@ pub fn record_field(tag: u8, value: &[u8]) -> Vec<u8> {
     field
 }
 
-/// The seven fields of a state's record by rising tag, apart from the
-/// library. The state need not be within the limits.
-pub fn record_fields(state: &State, timestamp: u64) -> Vec<Vec<u8>> {
+/// Tag 8 of so many milliseconds, which need not be within the limits.
+pub fn milliseconds_field(milliseconds: u64) -> Vec<u8> {
+    let value = u16::try_from(milliseconds).expect("fits two bytes");
+    record_field(8, &value.to_be_bytes())
+}
+
+/// The eight fields of a state's record by rising tag, apart from the
+/// library. State and timestamp need not be within the limits. Where the
+/// milliseconds are 0, a record may do without the last field.
+pub fn record_fields(state: &State, timestamp: impl Into<Timestamp>) -> Vec<Vec<u8>> {
     let p = state.parameters;
+    let timestamp = timestamp.into();
     let four = |numbers: &[i64]| -> Vec<u8> {
         numbers
             .iter()
@@ -231,17 +295,23 @@ pub fn record_fields(state: &State, timestamp: u64) -> Vec<Vec<u8>> {
     vec![
         record_field(1, &[p.w as u8, p.n as u8, p.kind]),
         record_field(2, &four(&[p.g, p.c, p.r])),
-        record_field(3, &timestamp.to_be_bytes()),
+        record_field(3, &timestamp.seconds.to_be_bytes()),
         record_field(4, &four(&state.h)),
         record_field(5, &four(&state.b)),
         record_field(6, &two(&state.u)),
         record_field(7, &two(&state.v)),
+        milliseconds_field(timestamp.milliseconds),
     ]
 }
 
 /// The record of a state, apart from the library.
-pub fn record_of(state: &State, timestamp: u64) -> Vec<u8> {
+pub fn record_of(state: &State, timestamp: impl Into<Timestamp>) -> Vec<u8> {
     record_fields(state, timestamp).concat()
+}
+
+/// The record of a state at a whole second, without tag 8.
+pub fn record_without_8(state: &State, seconds: u64) -> Vec<u8> {
+    record_fields(state, seconds)[..7].concat()
 }
 
 /// Two cells that wrap, with a negative number wherever one is allowed.
