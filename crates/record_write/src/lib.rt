@@ -133,14 +133,12 @@ fn test_write(
 ) -> Answer
     ensures { λ r. ⌜ r ≡ answerOf (writeTest (before p h b u v) timestamp room) ⌝ }
 {
-    let m = tests::cells_of(p);
-    let grid = tests::then_grid(Answer::Accepted, p);
-    let lengths = tests::then_lengths(grid, m, h, b, u, v);
-    let constants = tests::then_constants(lengths, p);
-    let time = tests::then_time(constants, timestamp);
+    let outline = tests::test_outline(p, h, b, u, v);
+    let time = tests::then_time(outline, timestamp);
     let values = tests::then_fields(time, p, h, b, u, v);
     let edges = tests::then_edges(values, p, u, v);
-    tests::then_room(edges, 49 + 12 * m, room)
+    let needed = 49 + 12 * tests::cells_of(p);
+    tests::then_room(edges, needed, room)
 }
 
 // The record of a state under a timestamp (01: stamp), into the first 49+12w·n bytes of d. Refusals: 1, 2, 3, 9, 4, 5, 8.

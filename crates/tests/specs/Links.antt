@@ -6,9 +6,9 @@ use Prim.Native.Nat.{ℕ}
 use lib.Dec.{eqb→eq}
 use lib.IntN.{ℤ}
 use lib.ListN.{length}
-use Rattle.model.specs.State.{State, cells}
+use Rattle.model.specs.State.{State, parametersOf, cells}
 use Rattle.model.specs.Tests.{Test, _then_, firstFound}
-use Rattle.model.specs.Refusals.{fieldsOf, lengthTest, lengthTests}
+use Rattle.model.specs.Refusals.{fieldsOf, gridTest, lengthTest, lengthTests, constantsTest}
 use Rattle.model.specs.Promises.{answerOf}
 use Rattle.model.specs.Claims.{EachPasses}
 use Rattle.model.specs.declared.Refusal.{Refusal}
@@ -104,3 +104,7 @@ fields-long-after-two s {k = k} c h = long-by s k (passed c h .1 .1)
 -- test 2 of a state's own fields, where they must have m numbers
 abbrev pub ownLengths : (h b u v : List ℤ) (m : ℕ) → List (Test Refusal)
 ownLengths h b u v m = lengthTest m (length h) ∷ lengthTest m (length b) ∷ lengthTest m (length u) ∷ lengthTest m (length v) ∷ []
+
+-- tests 1, 2 and 3 of a state
+abbrev pub outlineTests : State → List (Test Refusal)
+outlineTests s = gridTest (parametersOf s) ∷ (lengthTests (fieldsOf s) ++ (constantsTest (parametersOf s) ∷ []))

@@ -19,7 +19,7 @@ ghost use Rattle.model.specs.declared.Answer.the-variants.{Accepted};
 ghost use Rattle.model.specs.declared.Refusal.the-variants.{Value, ClosedEdge};
 ghost use Rattle.integers.specs.Ranges.{between};
 ghost use Rattle.tests.specs.Sought.{bare, foundBy, answerBy, outsideIn, movingAt, badIn, ColumnsOf, RowsOf, stillTest};
-ghost use Rattle.tests.specs.Links.{after, ownLengths, FieldsLong};
+ghost use Rattle.tests.specs.Links.{after, ownLengths, outlineTests, FieldsLong};
 use integers::Range;
 use model::Answer;
 use model::Field;
@@ -384,15 +384,23 @@ pub fn then_room(earlier: Answer, m: usize, room: usize) -> Answer
 
 // ---- a state alone
 
+// Tests 1, 2 and 3 of a state: its grid, the lengths of its fields and its constants. It rules out, for instance: 3 told before 2; a
+// field's length left out.
+pub fn test_outline(p: Parameters, h: &[i64], b: &[i64], u: &[i64], v: &[i64]) -> Answer
+    ensures { λ r. ⌜ r ≡ answerOf (firstFound (outlineTests (before p h b u v))) ⌝ }
+{
+    let m = cells_of(p);
+    let grid = then_grid(Answer::Accepted, p);
+    let lengths = then_lengths(grid, m, h, b, u, v);
+    then_constants(lengths, p)
+}
+
 // Tests 1 to 5 of a state, and of nothing beside it. It rules out, for instance: 3 told before 2; the last cell outside instead of the
 // first.
 pub fn test_state(p: Parameters, h: &[i64], b: &[i64], u: &[i64], v: &[i64]) -> Answer
     ensures { λ r. ⌜ r ≡ answerOf (firstFound (stateTests (before p h b u v) [] [] [])) ⌝ }
 {
-    let m = cells_of(p);
-    let grid = then_grid(Answer::Accepted, p);
-    let lengths = then_lengths(grid, m, h, b, u, v);
-    let constants = then_constants(lengths, p);
-    let values = then_fields(constants, p, h, b, u, v);
+    let outline = test_outline(p, h, b, u, v);
+    let values = then_fields(outline, p, h, b, u, v);
     then_edges(values, p, u, v)
 }
