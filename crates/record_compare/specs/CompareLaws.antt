@@ -15,6 +15,7 @@ use Rattle.model.specs.declared.Timestamp.{Timestamp}
 use Rattle.model.specs.declared.Refusal.{Refusal}
 use Rattle.model.specs.declared.CompareAnswer.{CompareAnswer}
 use Rattle.model.specs.declared.CompareAnswer.the-variants.{Same, FirstNewer, SecondNewer, Conflict, FirstRefused, SecondRefused}
+use Rattle.theorems.specs.Truth.{or-false}
 use Rattle.theorems.specs.Limits.{known-iff}
 use Rattle.record_tags.specs.Places.{partsIn}
 use Rattle.record_tests.specs.RecordTested.{stateRead, Accepted}
@@ -33,10 +34,6 @@ newer-level a b e =
 pub newer-apart : (a b : Timestamp) → (a .seconds ≡ b .seconds → ⊥) → ltb (b .seconds) (a .seconds) ≡ newer a b
 unfolding newer
 newer-apart a b n = sym (ap (λ x. ltb (b .seconds) (a .seconds) || (x && ltb (b .milliseconds) (a .milliseconds))) (ne-eqb (b .seconds) (a .seconds) (λ e. n (sym e))) ∙ or-false (ltb (b .seconds) (a .seconds)))
-  where
-    or-false : (x : Bool) → x || false ≡ x
-    or-false true = refl
-    or-false false = refl
 
 -- ---- two accepted records, by the tests in order
 

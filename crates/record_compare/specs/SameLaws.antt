@@ -1,6 +1,6 @@
 -- Two accepted records have the same state exactly where each tag that is required, but for 3, has the same bytes in both. Assumes nothing.
 use mathlib.Core.Path.{_≡_, refl, sym, ap, subst, _∙_}
-use mathlib.Core.Bool.{Bool, true, false}
+use mathlib.Core.Bool.{true, false}
 use mathlib.Core.List.{List}
 use Prim.Native.Nat.{ℕ, _+_, _*_, _≤_, _<_}
 use native.Mathlib.Omega.{arith}
@@ -11,7 +11,7 @@ use Rattle.model.specs.Numbers.{sameBy}
 use Rattle.model.specs.State.{State}
 use Rattle.model.specs.Record.{valueOf, partsOf, signed2, signed4, numbers, stateIn, timestampIn, sameState}
 use Rattle.model.specs.declared.Timestamp.{Timestamp}
-use Rattle.theorems.specs.Truth.{T-true, true-T, same-by, by-same}
+use Rattle.theorems.specs.Truth.{T-true, true-T, not-T, same-by, by-same}
 use Rattle.theorems.specs.Walks.{whole-record}
 use Rattle.theorems.specs.TagLaws.{lastRequired, each-required, required-known, there}
 use Rattle.theorems.specs.Damage.{whole-iff}
@@ -24,15 +24,11 @@ use Rattle.record_compare.specs.Read.{rooms, BothRead}
 
 -- ---- two lists, by a test of their numbers
 
-not-so : (b : Bool) → (T b → ⊥) → false ≡ b
-not-so true h = absurd (h tt)
-not-so false h = refl
-
 pub lists-same : {a b : List ℕ} → a ≡ b → true ≡ sameBy eqb a b
 lists-same {a} {b} e = sym (ap (sameBy eqb a) (sym e) ∙ T-true (sameBy eqb a a) (by-same eqb eqb-refl a))
 
 pub lists-differ : (a b : List ℕ) → (a ≡ b → ⊥) → false ≡ sameBy eqb a b
-lists-differ a b n = not-so (sameBy eqb a b) (λ t. n (same-by eqb eqb→eq a b t))
+lists-differ a b n = sym (not-T (sameBy eqb a b) (λ t. n (same-by eqb eqb→eq a b t)))
 
 -- ---- the state tells the values: they are what the writer makes of it
 
@@ -56,14 +52,14 @@ pub other-read : {first p second q : List ℕ} → ((k : ℕ) → getD first k 0
     → (t : ℕ) → 1 ≤ t → t ≤ lastRequired → (t ≡ 3 → ⊥) → sameBy eqb (valueOf t (partsIn first)) (valueOf t (partsIn second)) ≡ false
     → false ≡ sameState (stateRead first) (stateRead second)
 other-read {first} {p} {second} {q} f s r t l h o e =
-    not-so (sameState (stateRead first) (stateRead second)) (λ x.
+    sym (not-T (sameState (stateRead first) (stateRead second)) (λ x.
     let same = same-state (stateRead first) (stateRead second) x in
     let x = timestampIn (partsIn first) in
     let y = timestampIn (partsIn second) in
     let value =
     told f (r .first-read) t l h ∙ ap (λ s. valueOf t (partsOf s x)) same ∙ by-state (stateRead second) x y t l h o
     ∙ sym (told s (r .second-read) t l h) in
-    subst T (lists-same value ∙ e) tt)
+    subst T (lists-same value ∙ e) tt))
 
 -- ---- the values tell the state
 

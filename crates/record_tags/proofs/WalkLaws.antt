@@ -16,11 +16,11 @@ use Rattle.model.specs.Promises.{answerOf}
 use Rattle.model.specs.declared.Refusal.{Refusal}
 use Rattle.model.specs.declared.Answer.{Answer}
 use Rattle.model.specs.declared.Answer.the-variants.{Accepted, Refused}
-use Rattle.theorems.specs.Truth.{T-true, differ}
+use Rattle.theorems.specs.Truth.{or-false, T-true, differ}
 use Rattle.theorems.specs.Walks.{Sound, sound-iff, walk-step, walk-end, atEnd}
 use Rattle.theorems.specs.TagLaws.{known-iff, there}
 use Rattle.theorems.specs.Damage.{whole-iff}
-use Rattle.theorems.specs.OneFieldMore.{or-false, has-one, value-new, value-else}
+use Rattle.theorems.specs.OneFieldMore.{has-one, value-new, value-else}
 use Rattle.theorems.specs.Written.{absent-value}
 use Rattle.record_tags.specs.Places.{places, Stands, Seen, partsBy, partsIn, Placed, Found, IsValue}
 use Rattle.record_tags.proofs.TagLaws.{not-seen}

@@ -8,7 +8,7 @@ use lib.Dec.{eqb}
 use borrow.Author.Tests.{eq-eqb, ne-eqb}
 use Rattle.model.specs.Record.{Part, has, valueOf}
 use Rattle.model.specs.Claims.{Among}
-use Rattle.theorems.specs.Truth.{differ}
+use Rattle.theorems.specs.Truth.{or-false, differ}
 use Rattle.theorems.specs.Walks.{Fine, AllFine}
 
 -- ---- whether a tag is among them
@@ -20,10 +20,6 @@ has-more t (p ∷ a) b = ap (λ x. eqb (p .tag) t || x) (has-more t a b) ∙ gro
     grouped : (x y z : Bool) → x || (y || z) ≡ x || y || z
     grouped true y z = refl
     grouped false y z = refl
-
-pub or-false : (b : Bool) → b || false ≡ b
-or-false true = refl
-or-false false = refl
 
 pub has-one : (t : ℕ) (parts : List Part) (p : Part) → has t (parts ++ (p ∷ [])) ≡ (has t parts || eqb (p .tag) t)
 has-one t parts p = has-more t parts (p ∷ []) ∙ ap (λ x. has t parts || x) (or-false (eqb (p .tag) t))

@@ -16,7 +16,7 @@ use Rattle.model.specs.Record.{Size, fixed, perCell, TagRow, tagTable, Part, ha
 use Rattle.model.specs.Claims.{Among, WrongLength, BadTag, Missing}
 use Rattle.model.specs.declared.Refusal.{Refusal}
 use Rattle.model.specs.declared.Refusal.the-variants.{Record}
-use Rattle.theorems.specs.Truth.{_⟫_, eq-iff, not-iff, and-iff, or-iff, same, either, differ, some≢}
+use Rattle.theorems.specs.Truth.{_⟫_, eq-iff, not-iff, and-iff, or-iff, same, either, differ}
 
 -- ---- tests that have one refusal
 
@@ -220,10 +220,7 @@ end-judged rec parts = judge (all (λ t. has t parts) required) (Record (length 
 pub none-missing : (rec : List ℕ) (parts : List Part) → (Missing parts → ⊥) → missingTest rec parts ≡ none
 none-missing rec parts n = untold (end-judged rec parts) n
 
--- where none is missing, each that a record must have is there
-pub none-absent : (rec : List ℕ) (parts : List Part) → missingTest rec parts ≡ none → Missing parts → ⊥
-none-absent rec parts e m = some≢ (sym (told (end-judged rec parts) m) ∙ e)
-
+-- each that a record must have is there then
 pub there : (parts : List Part) → (Missing parts → ⊥) → (t : ℕ) → 1 ≤ t → t ≤ lastRequired → T (has t parts)
 there parts n t a b = by (has t parts) refl
   where

@@ -115,25 +115,18 @@ struct Moment {
     milliseconds: u64,
 }
 
-impl From<Moment> for basin::Timestamp {
-    fn from(of: Moment) -> Self {
-        let (seconds, milliseconds) = (of.seconds, of.milliseconds);
-        basin::Timestamp {
-            seconds,
-            milliseconds,
-        }
-    }
+macro_rules! timestamps {
+    ($($version:ident)*) => {
+        $(impl From<Moment> for $version::Timestamp {
+            fn from(of: Moment) -> Self {
+                let (seconds, milliseconds) = (of.seconds, of.milliseconds);
+                Self { seconds, milliseconds }
+            }
+        })*
+    };
 }
 
-impl From<Moment> for reference::Timestamp {
-    fn from(of: Moment) -> Self {
-        let (seconds, milliseconds) = (of.seconds, of.milliseconds);
-        reference::Timestamp {
-            seconds,
-            milliseconds,
-        }
-    }
-}
+timestamps! { basin reference }
 
 /// All that the calls can be lent.
 #[derive(PartialEq)]
