@@ -10,8 +10,8 @@ use lib.IntN.{ℤ, pos, negℤ, natAbs, _+ℤ_, _-ℤ_, _*ℤ_}
 use lib.ListN.{length, getD, take, drop, replicate}
 use lib.Signed.{_≤ℤ_}
 use Rattle.model.specs.Numbers.{rnd, vorticityLimits, inflowLimits, longestRun, mostMilliseconds, tendencyScale, divergenceScale}
-use Rattle.model.specs.Grid.{at, byCell, filled, firstFrom}
-use Rattle.model.specs.State.{State, stateOf, parametersOf, withFlow, cells, WithinLimits, FieldWithin, OpenEverywhere}
+use Rattle.model.specs.Grid.{at, byCell, firstFrom}
+use Rattle.model.specs.State.{State, Fields, stateFrom, parametersOf, withFlow, cells, WithinLimits, FieldWithin, OpenEverywhere}
 use Rattle.model.specs.Answers.{number}
 use Rattle.model.specs.Tests.{Test, asks, seeks, firstFound}
 use Rattle.model.specs.Refusals.{Taken, workLength, stateTests, callTests}
@@ -19,9 +19,9 @@ use Rattle.model.specs.Scheme.{vorticityAt, vorticity, D, tendencyU, ten
 use Rattle.model.specs.Rates.{energyRate, enstrophyRate}
 use Rattle.model.specs.Totals.{totalDepth, energy4}
 use Rattle.model.specs.Step.{Place, place, pass, leaves, moved, stuck, twoPass, stepTests, stepTest, runTests, stepAnswer, cleared, workLeft}
-use Rattle.model.specs.Record.{Part, joined, valueOf, tagAt, sizeAt, partAt, stateIn, timestampIn, recordLength, rising, restored, kept, recordTests, decode, accepted, refused}
+use Rattle.model.specs.Record.{bytes, Part, joined, valueOf, tagAt, sizeAt, partAt, stateIn, timestampIn, recordLength, rising, restored, kept, recordTests, decode, accepted, refused}
 use Rattle.model.specs.Program.{programCells, programWork, outputRoom, programOutput}
-use Rattle.model.specs.Promises.{Filling, Fills, vorticityTests, tendenciesTests, totalTests, writeTests, VorticityPromise, TendenciesPromise, StepPromise, RunPromise, TotalDepthPromise, TotalEnergyPromise, WritePromise, ReadPromise, ComparePromise}
+use Rattle.model.specs.Promises.{Filling, Fills, vorticityTests, tendenciesTests, totalTests, writeTests, VorticityPromise, TendenciesPromise, StepPromise, RunPromise, TotalDepthPromise, TotalEnergyPromise, WritePromise, roomsIn, put, ReadPromise, ComparePromise}
 use Rattle.model.specs.Histories.{Call, step, History, inflowDue, runCount}
 use Rattle.model.specs.declared.Parameters.{Parameters}
 use Rattle.model.specs.declared.Timestamp.{Timestamp}
@@ -133,7 +133,7 @@ abbrev pub Among : ℕ → List Part → Type 0
 Among t [] = ⊥
 Among t (p ∷ l) = (p .tag ≡ t) ⊎ Among t l
 
--- not 3 bytes for tag 1, 12 for tag 2, 8 for tag 3, 2 for tag 8; for tags 4 to 7 no length is wrong here
+-- not 3 bytes for tag 1, 12 for tag 2, 8 for tag 3, 2 for tag 8; for tags 4 to 7 and 9 no length is wrong here
 abbrev pub WrongLength : (tag size : ℕ) → Type 0
 WrongLength tag size =
     ((tag ≡ 1) × (size ≡ 3 → ⊥)) ⊎ ((tag ≡ 2) × (size ≡ 12 → ⊥)) ⊎ ((tag ≡ 3) × (size ≡ 8 → ⊥)) ⊎ ((tag ≡ 8) × (size ≡ 2 → ⊥))
@@ -143,7 +143,7 @@ WrongLength tag size =
 abbrev pub BadTag : List ℕ → ℕ → List Part → Type 0
 BadTag rec k parts =
     (length rec < k + 3)
-    ⊎ ((tagAt rec k < 1) ⊎ (8 < tagAt rec k))
+    ⊎ ((tagAt rec k < 1) ⊎ (9 < tagAt rec k))
     ⊎ Among (tagAt rec k) parts
     ⊎ (length rec < k + 3 + sizeAt rec k)
     ⊎ WrongLength (tagAt rec k) (sizeAt rec k)
@@ -168,9 +168,13 @@ Damaged rec r =
 abbrev pub WholeIn : List ℕ → List Part → Type 0
 WholeIn rec parts = Reaches rec (length rec) parts × (Missing parts → ⊥)
 
--- 2, in a record, asks that each field has the bytes of m numbers: four a cell for h and b (tags 4, 5), two for u and v (tags 6, 7)
+-- 2, in a record, asks that each field has the bytes of m numbers: four a cell for h and b (tags 4, 5), two for u and v (tags 6, 7), and
+-- one for the barriers, where tag 9 is there
 abbrev pub BytesOf : ℕ → List Part → Type 0
-BytesOf m parts = (length (valueOf 4 parts) ≡ 4 * m) × (length (valueOf 5 parts) ≡ 4 * m) × (length (valueOf 6 parts) ≡ 2 * m) × (length (valueOf 7 parts) ≡ 2 * m)
+BytesOf m parts =
+    (length (valueOf 4 parts) ≡ 4 * m) × (length (valueOf 5 parts) ≡ 4 * m)
+    × (length (valueOf 6 parts) ≡ 2 * m) × (length (valueOf 7 parts) ≡ 2 * m)
+    × (Among 9 parts → length (valueOf 9 parts) ≡ m)
 
 -- why a record is refused with r: a 7; or no 7, and the cause in the list of its fields' tests
 abbrev pub ReadCause : List ℕ → (rooms : List ℕ) → Refusal → Type 0
@@ -193,13 +197,11 @@ pub record Readable (rec rooms : List ℕ) (s : State) (t : Timestamp) : Type 0 
 pub record ReadCausesClaim : Type 0 where
   pub refuses : (rec rooms : List ℕ) (r : Refusal) → (decode rec rooms ≡ refused r) ↔ ReadCause rec rooms r
   pub accepts : (rec rooms : List ℕ) (s : State) (t : Timestamp) → (decode rec rooms ≡ accepted s t) ↔ Readable rec rooms s t
-  pub read-refuses : (rec : List ℕ) (h b u v h′ b′ u′ v′ : List ℤ) (r : Refusal)
-      → ReadPromise rec h b u v (ReadAnswer.Refused r) h′ b′ u′ v′
-      ↔ (ReadCause rec (length h ∷ length b ∷ length u ∷ length v ∷ []) r × (h′ ≡ h) × (b′ ≡ b) × (u′ ≡ u) × (v′ ≡ v))
-  pub read-accepts : (rec : List ℕ) (h b u v h′ b′ u′ v′ : List ℤ) (p : Parameters) (t : Timestamp)
-      → ReadPromise rec h b u v (ReadAnswer.Read p t) h′ b′ u′ v′
-      ↔ ((s : State) × Readable rec (length h ∷ length b ∷ length u ∷ length v ∷ []) s t × (p ≡ parametersOf s)
-      × (h′ ≡ filled (cells s) (s .h) h) × (b′ ≡ filled (cells s) (s .b) b) × (u′ ≡ filled (cells s) (s .u) u) × (v′ ≡ filled (cells s) (s .v) v))
+  pub read-refuses : (rec : List ℕ) (d d′ : Fields) (r : Refusal)
+      → ReadPromise rec d (ReadAnswer.Refused r) d′ ↔ (ReadCause rec (roomsIn d) r × (d′ ≡ d))
+  pub read-accepts : (rec : List ℕ) (d d′ : Fields) (p : Parameters) (t : Timestamp)
+      → ReadPromise rec d (ReadAnswer.Read p t) d′
+      ↔ ((s : State) × Readable rec (roomsIn d) s t × (p ≡ parametersOf s) × (d′ ≡ put s d))
 
 -- each promise can be met, for any numbers and any lengths; that of a call that fills for any test, count and destinations
 abbrev pub FillMet : (B A : Type 0) → Type 0
@@ -214,8 +216,7 @@ pub record MetClaim : Type 0 where
       → (a : RunAnswer) × (s′ : State) × (work′ : List ℤ) × RunPromise s inflow m work a s′ work′
   pub depth : (s : State) → (a : TotalAnswer) × TotalDepthPromise s a
   pub energy : (s : State) → (a : TotalAnswer) × TotalEnergyPromise s a
-  pub read : (rec : List ℕ) (h b u v : List ℤ)
-      → (a : ReadAnswer) × (h′ : List ℤ) × (b′ : List ℤ) × (u′ : List ℤ) × (v′ : List ℤ) × ReadPromise rec h b u v a h′ b′ u′ v′
+  pub read : (rec : List ℕ) (d : Fields) → (a : ReadAnswer) × (d′ : Fields) × ReadPromise rec d a d′
   pub compare : (first second : List ℕ) → (a : CompareAnswer) × ComparePromise first second a
   -- any list of calls can be made from any state
   pub history : (s : State) (calls : List Call) → (t : State) × History s calls t
@@ -234,9 +235,7 @@ pub record FixedClaim : Type 0 where
       → RunPromise s inflow m work b y l → (a ≡ b) × (x ≡ y) × (k ≡ l)
   pub depth : (s : State) (a b : TotalAnswer) → TotalDepthPromise s a → TotalDepthPromise s b → a ≡ b
   pub energy : (s : State) (a b : TotalAnswer) → TotalEnergyPromise s a → TotalEnergyPromise s b → a ≡ b
-  pub read : (rec : List ℕ) (h b u v h′ b′ u′ v′ h″ b″ u″ v″ : List ℤ) (a c : ReadAnswer) → ReadPromise rec h b u v a h′ b′ u′ v′
-      → ReadPromise rec h b u v c h″ b″ u″ v″
-      → (a ≡ c) × (h′ ≡ h″) × (b′ ≡ b″) × (u′ ≡ u″) × (v′ ≡ v″)
+  pub read : (rec : List ℕ) (d x y : Fields) (a b : ReadAnswer) → ReadPromise rec d a x → ReadPromise rec d b y → (a ≡ b) × (x ≡ y)
   pub compare : (first second : List ℕ) (a b : CompareAnswer) → ComparePromise first second a → ComparePromise first second b → a ≡ b
   -- and the state that it leaves is one alone
   pub history : (s x y : State) (calls : List Call) → History s calls x → History s calls y → x ≡ y
@@ -258,8 +257,7 @@ pub record RefusedClaim : Type 0 where
       → StepPromise s inflow work (StepAnswer.OutOfBounds p f k) s′ work′ → s′ ≡ s
   pub run : (s s′ : State) (inflow work work′ : List ℤ) (m : ℕ) (r : Refusal) → RunPromise s inflow m work (RunAnswer.Refused r) s′ work′
       → s′ ≡ s
-  pub read : (rec : List ℕ) (h b u v h′ b′ u′ v′ : List ℤ) (r : Refusal) → ReadPromise rec h b u v (ReadAnswer.Refused r) h′ b′ u′ v′
-      → (h′ ≡ h) × (b′ ≡ b) × (u′ ≡ u) × (v′ ≡ v)
+  pub read : (rec : List ℕ) (d d′ : Fields) (r : Refusal) → ReadPromise rec d (ReadAnswer.Refused r) d′ → d′ ≡ d
 
 -- step and run refuse with 1 to 6 alone. After 1 and 2 the work space is untouched; in every other outcome its first 8w·n numbers are
 -- zero, and the rest is as it was
@@ -398,23 +396,20 @@ WriteAcceptedClaim = (s : State) (t : Timestamp) (d d′ : List ℕ) (answer : W
 
 -- written, then read into destinations that have room: the same state and timestamp
 abbrev pub RoundTripClaim : Type 0
-RoundTripClaim = (s : State) (t : Timestamp) (d d′ : List ℕ) (written : WriteAnswer) (h b u v h′ b′ u′ v′ : List ℤ) (answer : ReadAnswer)
+RoundTripClaim = (s : State) (t : Timestamp) (d d′ : List ℕ) (written : WriteAnswer) (x x′ : Fields) (answer : ReadAnswer)
     → WithinLimits s → t .seconds < 2 ^ 64 → t .milliseconds ≤ mostMilliseconds
     → recordLength s ≤ length d → WritePromise s t d written d′
-    → cells s ≤ length h → cells s ≤ length b → cells s ≤ length u → cells s ≤ length v
-    → ReadPromise (take (recordLength s) d′) h b u v answer h′ b′ u′ v′
-    → (written ≡ WriteAnswer.Written (recordLength s)) × (answer ≡ ReadAnswer.Read (parametersOf s) t)
-    × (stateOf (parametersOf s) (take (cells s) h′) (take (cells s) b′) (take (cells s) u′) (take (cells s) v′) ≡ s)
+    → EachRoom (cells s) (roomsIn x) → ReadPromise (take (recordLength s) d′) x answer x′
+    → (written ≡ WriteAnswer.Written (recordLength s)) × (answer ≡ ReadAnswer.Read (parametersOf s) t) × (stateFrom (parametersOf s) x′ ≡ s)
 
 -- what an accepted read fills in is a state within the limits
 abbrev pub ReadClaim : Type 0
-ReadClaim = (rec : List ℕ) (h b u v h′ b′ u′ v′ : List ℤ) (p : Parameters) (t : Timestamp)
-    → ReadPromise rec h b u v (ReadAnswer.Read p t) h′ b′ u′ v′
-    → let m = p .w * p .n in WithinLimits (stateOf p (take m h′) (take m b′) (take m u′) (take m v′))
+ReadClaim = (rec : List ℕ) (d d′ : Fields) (p : Parameters) (t : Timestamp) → ReadPromise rec d (ReadAnswer.Read p t) d′
+    → WithinLimits (stateFrom p d′)
 
 -- the step program's own step passes every test: it is refused by the reader, or with 6
 abbrev pub ProgramClaim : Type 0
-ProgramClaim = (input : List ℕ) (s : State) (t : Timestamp) → decode input (replicate 4 programCells) ≡ accepted s t
+ProgramClaim = (input : List ℕ) (s : State) (t : Timestamp) → decode input (replicate 5 programCells) ≡ accepted s t
     → stepTest s (replicate (cells s) (pos 0)) programWork ≡ none
 
 -- there is room for all that the step program prints
@@ -428,23 +423,29 @@ Bytes rec = (k : ℕ) → getD rec k 0 < 256
 -- an accepted record, read and written again: its fields by rising tag, and each that it lacks of zeros. Where its tags rise, its bytes
 -- return up to the first field that it lacks
 abbrev pub RewriteClaim : Type 0
-RewriteClaim = (rec d d′ : List ℕ) (h b u v h′ b′ u′ v′ : List ℤ) (p : Parameters) (t : Timestamp) (written : WriteAnswer)
-    → Bytes rec → ReadPromise rec h b u v (ReadAnswer.Read p t) h′ b′ u′ v′
-    → let m = p .w * p .n in WritePromise (stateOf p (take m h′) (take m b′) (take m u′) (take m v′)) t d written d′
+RewriteClaim = (rec d d′ : List ℕ) (x x′ : Fields) (p : Parameters) (t : Timestamp) (written : WriteAnswer)
+    → Bytes rec → ReadPromise rec x (ReadAnswer.Read p t) x′ → WritePromise (stateFrom p x′) t d written d′
     → length (restored rec) ≤ length d
     → (written ≡ WriteAnswer.Written (length (restored rec))) × (take (length (restored rec)) d′ ≡ restored rec)
     × (T (rising rec) → take (kept rec) d′ ≡ take (kept rec) rec)
 
--- a record with tag 8 of zeros after it
-abbrev pub withZero : List ℕ → List ℕ
-withZero rec = rec ++ (8 ∷ 0 ∷ 2 ∷ 0 ∷ 0 ∷ [])
+-- a field of m zeros: tag 8 of no milliseconds has 2, tag 9 without a barrier has w·n
+abbrev pub zeroField : (tag m : ℕ) → List ℕ
+zeroField tag m = tag ∷ (bytes 2 m ++ replicate m 0)
 
--- so all bytes of a record whose tags rise return, and after them tag 8, of zeros, where it has none
-pub record RestoredClaim : Type 0 where
-  pub with-8 : (rec : List ℕ) (parts : List Part) → Bytes rec → WholeIn rec parts → T (rising rec) → Among 8 parts → restored rec ≡ rec
-  pub without-8 : (rec : List ℕ) (parts : List Part) → Bytes rec → WholeIn rec parts → T (rising rec) → (Among 8 parts → ⊥)
-      → restored rec ≡ withZero rec
-  pub kept : (rec : List ℕ) → Bytes rec → T (rising rec) → kept rec ≡ length rec
+-- of a record that passes 7 and whose tags rise: all its bytes return, and after them those fields of zeros that it lacks. Where it has tag 9
+-- and no tag 8, tag 8 is put in before tag 9, and the bytes return up to there
+pub record Restored (rec : List ℕ) (parts : List Part) : Type 0 where
+  pub whole : Among 8 parts → Among 9 parts → (restored rec ≡ rec) × (kept rec ≡ length rec)
+  pub without-9 : Among 8 parts → (Among 9 parts → ⊥)
+      → (restored rec ≡ rec ++ zeroField 9 (cells (stateIn parts))) × (kept rec ≡ length rec)
+  pub without-both : (Among 8 parts → ⊥) → (Among 9 parts → ⊥)
+      → (restored rec ≡ rec ++ (zeroField 8 2 ++ zeroField 9 (cells (stateIn parts)))) × (kept rec ≡ length rec)
+  pub without-8 : (Among 8 parts → ⊥) → Among 9 parts
+      → (restored rec ≡ take (kept rec) rec ++ (zeroField 8 2 ++ drop (kept rec) rec)) × (kept rec + (3 + length (valueOf 9 parts)) ≡ length rec)
+
+abbrev pub RestoredClaim : Type 0
+RestoredClaim = (rec : List ℕ) (parts : List Part) → Bytes rec → WholeIn rec parts → T (rising rec) → Restored rec parts
 
 -- the same fields in another order
 pub data Reordered : List Part → List Part → Type 0 where
@@ -458,18 +459,21 @@ pub data Reordered : List Part → List Part → Type 0 where
 pub record AnyOrderClaim : Type 0 where
   pub decoded : (rec rooms : List ℕ) (parts other : List Part) → Bytes rec → WholeIn rec parts → Reordered parts other
       → decode (joined other) rooms ≡ decode rec rooms
-  pub read : (rec : List ℕ) (parts other : List Part) (h b u v h′ b′ u′ v′ : List ℤ) (answer : ReadAnswer) → Bytes rec → WholeIn rec parts
-      → Reordered parts other
-      → ReadPromise rec h b u v answer h′ b′ u′ v′ → ReadPromise (joined other) h b u v answer h′ b′ u′ v′
+  pub read : (rec : List ℕ) (parts other : List Part) (d d′ : Fields) (answer : ReadAnswer) → Bytes rec → WholeIn rec parts
+      → Reordered parts other → ReadPromise rec d answer d′ → ReadPromise (joined other) d answer d′
 
--- a record without tag 8 means 0 milliseconds: with tag 8 of zeros after it, it is read as the same state and timestamp, or refused with the
--- same refusal, and the reader's promise says the same of both
+-- with this field of zeros after it, a record that lacks the tag is read as the same state and timestamp, or refused with the same refusal,
+-- and the reader's promise says the same of both
+pub record Means0 (tag : ℕ) (size : State → ℕ) : Type 0 where
+  pub decoded : (rec rooms : List ℕ) (parts : List Part) → Bytes rec → WholeIn rec parts → (Among tag parts → ⊥)
+      → decode (rec ++ zeroField tag (size (stateIn parts))) rooms ≡ decode rec rooms
+  pub read : (rec : List ℕ) (parts : List Part) (d d′ : Fields) (answer : ReadAnswer) → Bytes rec → WholeIn rec parts → (Among tag parts → ⊥)
+      → ReadPromise rec d answer d′ → ReadPromise (rec ++ zeroField tag (size (stateIn parts))) d answer d′
+
+-- a record without tag 8 means 0 milliseconds; one without tag 9 means no barrier
 pub record AbsentClaim : Type 0 where
-  pub decoded : (rec rooms : List ℕ) (parts : List Part) → Bytes rec → WholeIn rec parts → (Among 8 parts → ⊥)
-      → decode (withZero rec) rooms ≡ decode rec rooms
-  pub read : (rec : List ℕ) (parts : List Part) (h b u v h′ b′ u′ v′ : List ℤ) (answer : ReadAnswer) → Bytes rec → WholeIn rec parts
-      → (Among 8 parts → ⊥)
-      → ReadPromise rec h b u v answer h′ b′ u′ v′ → ReadPromise (withZero rec) h b u v answer h′ b′ u′ v′
+  pub milliseconds : Means0 8 (λ s. 2)
+  pub barriers : Means0 9 cells
 
 -- same exactly where both records are accepted, with one state and one timestamp
 pub record BothAre (first second : List ℕ) : Type 0 where
@@ -522,7 +526,7 @@ abbrev pub EnergyRateClaim : Type 0
 EnergyRateClaim = (s : State) (dh du dv : List ℤ) (e : ℤ)
     → (k : ℤ) × (energy4 (changed s e dh du dv) ≡ energy4 s +ℤ e *ℤ energyRate s dh du dv +ℤ e *ℤ e *ℤ k)
 
--- the scaled energy rate is zero, for all three kinds, at every accepted tendency call
+-- the scaled energy rate is zero, for all three kinds and any barriers, at every accepted tendency call
 abbrev pub EnergyClaim : Type 0
 EnergyClaim = (s : State) (q dh du dv dh′ du′ dv′ : List ℤ) → TendenciesPromise s q dh du dv Answer.Accepted dh′ du′ dv′
     → energyRate s dh′ du′ dv′ ≡ pos 0
@@ -533,9 +537,9 @@ EnstrophyClaim = (s : State) (q dh du dv dh′ du′ dv′ : List ℤ) → OpenE
     → TendenciesPromise s q dh du dv Answer.Accepted dh′ du′ dv′
     → enstrophyRate s dh′ du′ dv′ q ≡ pos 0
 
--- which is kind 0
+-- which is kind 0 without barriers
 abbrev pub PeriodicEnstrophyClaim : Type 0
-PeriodicEnstrophyClaim = (s : State) (q dh du dv dh′ du′ dv′ : List ℤ) → s .kind ≡ 0
+PeriodicEnstrophyClaim = (s : State) (q dh du dv dh′ du′ dv′ : List ℤ) → s .kind ≡ 0 → s .barriers ≡ replicate (cells s) 0
     → TendenciesPromise s q dh du dv Answer.Accepted dh′ du′ dv′
     → enstrophyRate s dh′ du′ dv′ q ≡ pos 0
 

@@ -8,7 +8,7 @@ use lib.IntN.{ℤ, pos, negℤ}
 use lib.ListN.{length, take, drop, replicate}
 use Rattle.model.specs.Numbers.{rnd, eqℤ, sameBy, all}
 use Rattle.model.specs.Grid.{filled}
-use Rattle.model.specs.State.{State, withFlow, cells}
+use Rattle.model.specs.State.{State, Fields, withFlow, cells}
 use Rattle.model.specs.Answers.{toldAnswer, toldStep, toldRun, toldTotal, toldWrite, toldRead, toldCompare}
 use Rattle.model.specs.Scheme.{vorticity, hTendencies, uTendencies, vTendencies}
 use Rattle.model.specs.Rates.{energyRate, enstrophyRate}
@@ -32,7 +32,7 @@ pub data Example : Type 0 where
   depth : State → (answer : List ℤ) → Example
   energy : State → (answer : List ℤ) → Example
   writes : State → (t : Timestamp) (d : List ℕ) → (answer : List ℤ) (d′ : List ℕ) → Example
-  reads : (rec : List ℕ) (h b u v : List ℤ) → (answer h′ b′ u′ v′ : List ℤ) → Example
+  reads : (rec : List ℕ) (d : Fields) → (answer : List ℤ) (d′ : Fields) → Example
   rewrites : (rec : List ℕ) → (back : List ℕ) (own : ℕ) → Example
   compares : (first second : List ℕ) → (answer : List ℤ) → Example
   prints : (input : List ℕ) → (output : String) → Example
@@ -41,13 +41,15 @@ infix 40 _is_
 abbrev _is_ : List ℤ → List ℤ → Bool
 a is b = sameBy eqℤ a b
 
--- t has s's parameters and bottom, and these depths and velocities
+-- t has s's parameters, bottom and barriers, and these depths and velocities
 abbrev stateIs : State → State → List ℤ → List ℤ → List ℤ → Bool
 stateIs s t h u v = sameState t (withFlow s h u v)
 
-abbrev readIs : Decoded → (h b u v : List ℤ) → (answer h′ b′ u′ v′ : List ℤ) → Bool
-readIs x h b u v a h′ b′ u′ v′ =
-    toldRead (readAnswer x) is a && readInto (λ s. s .h) x h is h′ && readInto (λ s. s .b) x b is b′ && readInto (λ s. s .u) x u is u′ && readInto (λ s. s .v) x v is v′
+abbrev sameFields : Fields → Fields → Bool
+sameFields x y = x .h is y .h && x .b is y .b && x .u is y .u && x .v is y .v && sameBy eqb (x .barriers) (y .barriers)
+
+abbrev readIs : Decoded → (d : Fields) → (answer : List ℤ) (d′ : Fields) → Bool
+readIs x d a d′ = toldRead (readAnswer x) is a && sameFields (readInto x d) d′
 
 abbrev ranIs : Ran → State → (a h u v : List ℤ) → Bool
 ranIs r s a h u v = toldRun (r .answer) is a && stateIs s (r .state) h u v
@@ -74,7 +76,7 @@ holds (energy s a) = toldTotal (totalAnswer (totalTest s) (energy4 s)) is a
 holds (writes s t d a d′) =
     toldWrite (writeAnswer (recordLength s) (writeTest s t (length d))) is a
     && sameBy eqb (leftBy (writeTest s t (length d)) (filled (recordLength s) (encode s t) d) d) d′
-holds (reads rec h b u v a h′ b′ u′ v′) = readIs (readOf rec h b u v) h b u v a h′ b′ u′ v′
+holds (reads rec d a d′) = readIs (readOf rec d) d a d′
 holds (rewrites rec back own) = sameBy eqb (restored rec) back && eqb (kept rec) own
 holds (compares x y a) = toldCompare (compareAnswer x y) is a
 holds (prints input output) = sameBy eqb (programOutput input) (text output)
@@ -97,11 +99,15 @@ sevens m = replicate m (pos 7)
 abbrev pub zeros : ℕ → List ℤ
 zeros m = replicate m (pos 0)
 
+-- m cells without a barrier
+abbrev pub unbarred : ℕ → List ℕ
+unbarred m = replicate m 0
+
 -- ---- states
 
 -- cases 2, 3, 7, 9 and 10: one cell of depth h
 abbrev one : ℤ → State
-one h = record { w = 1; n = 1; kind = 0; G = pos 9810; c = pos 10; R = pos 1000; h = h ∷ []; b = pos 0 ∷ []; u = pos 100 ∷ []; v = minus 50 ∷ [] }
+one h = record { w = 1; n = 1; kind = 0; G = pos 9810; c = pos 10; R = pos 1000; h = h ∷ []; b = pos 0 ∷ []; u = pos 100 ∷ []; v = minus 50 ∷ []; barriers = unbarred 1 }
 
 -- cases 4 to 6: two cells
 abbrev two : ℕ → ℤ → State
@@ -116,6 +122,7 @@ two kind R = record {
   b = pos 0 ∷ pos 0 ∷ [];
   u = pos 10 ∷ pos 0 ∷ [];
   v = pos 0 ∷ pos 0 ∷ [];
+  barriers = unbarred 2;
 }
 
 -- case 8
@@ -131,26 +138,27 @@ four = record {
   b = replicate 4 (pos 0);
   u = minus 5000 ∷ pos 0 ∷ pos 5000 ∷ pos 0 ∷ [];
   v = pos 5000 ∷ minus 5000 ∷ pos 0 ∷ pos 0 ∷ [];
+  barriers = unbarred 4;
 }
 
 -- a state with several faults at once, to tell the order of the tests: one row, walled
 abbrev faulty : (w : ℕ) (G : ℤ) (h b u v : List ℤ) → State
-faulty w G h b u v = record { w = w; n = 1; kind = 2; G = G; c = pos 0; R = pos 1000; h = h; b = b; u = u; v = v }
+faulty w G h b u v = record { w = w; n = 1; kind = 2; G = G; c = pos 0; R = pos 1000; h = h; b = b; u = u; v = v; barriers = unbarred w }
 
 -- one cell
 abbrev cell : (kind : ℕ) (G c R h b u v : ℤ) → State
-cell kind G c R h b u v = record { w = 1; n = 1; kind = kind; G = G; c = c; R = R; h = just h; b = just b; u = just u; v = just v }
+cell kind G c R h b u v = record { w = 1; n = 1; kind = kind; G = G; c = c; R = R; h = just h; b = just b; u = just u; v = just v; barriers = unbarred 1 }
 
 -- a grid without fields
 abbrev sides : ℕ → ℕ → State
-sides w n = record { w = w; n = n; kind = 0; G = pos 1; c = pos 0; R = pos 1000; h = []; b = []; u = []; v = [] }
+sides w n = record { w = w; n = n; kind = 0; G = pos 1; c = pos 0; R = pos 1000; h = []; b = []; u = []; v = []; barriers = [] }
 
 -- ---- records
 
 abbrev pub timeOf : (seconds milliseconds : ℕ) → Timestamp
 timeOf s ms = record { seconds = s; milliseconds = ms }
 
--- case 10's record, which has no tag 8, and the same with seconds and a depth of its own
+-- case 10's record, which has no tag 8 and no tag 9, and the same with seconds and a depth of its own
 abbrev pub dock : List ℕ
 dock =
     1 ∷ 0 ∷ 3 ∷ 1 ∷ 1 ∷ 0
@@ -169,20 +177,36 @@ timestamped t h = take 24 dock ++ bytes 8 t ++ (4 ∷ 0 ∷ 4 ∷ []) ++ bytes 4
 abbrev tag8 : ℕ → List ℕ
 tag8 ms = 8 ∷ 0 ∷ 2 ∷ bytes 2 ms
 
--- case 10's record read: its state at this second and millisecond
+-- tag 9 of these barriers
+abbrev tag9 : List ℕ → List ℕ
+tag9 l = 9 ∷ (bytes 2 (length l) ++ l)
+
+-- five lent fields
+abbrev fields : (h b u v : List ℤ) (barriers : List ℕ) → Fields
+fields h b u v barriers = record { h = h; b = b; u = u; v = v; barriers = barriers }
+
+-- case 10's record read: its state at this second and millisecond, without a barrier
 abbrev readsDock : List ℕ → (seconds milliseconds : ℕ) → Example
 readsDock rec s ms =
-    reads rec (sevens 2) (zeros 1) (zeros 1) (zeros 1)
-    (pos 0 ∷ pos 1 ∷ pos 1 ∷ pos 0 ∷ pos 9810 ∷ pos 10 ∷ pos 1000 ∷ pos s ∷ pos ms ∷ []) (pos 2000 ∷ pos 7 ∷ []) (zeros 1) (just (pos 100)) (just (minus 50))
+    reads rec (fields (sevens 2) (zeros 1) (zeros 1) (zeros 1) (replicate 2 7))
+    (pos 0 ∷ pos 1 ∷ pos 1 ∷ pos 0 ∷ pos 9810 ∷ pos 10 ∷ pos 1000 ∷ pos s ∷ pos ms ∷ [])
+    (fields (pos 2000 ∷ pos 7 ∷ []) (zeros 1) (just (pos 100)) (just (minus 50)) (0 ∷ 7 ∷ []))
 
--- read into four fields of one number, a record is refused with this number alone, and with 7 and this offset
+-- read into these fields, or into five of one number, a record is refused, and they stay: with these numbers, with this number alone, and
+-- with 7 and this offset
+abbrev refusesInto : List ℕ → Fields → List ℤ → Example
+refusesInto rec d answer = reads rec d answer d
+
+abbrev refusesWith : List ℕ → List ℤ → Example
+refusesWith rec answer = refusesInto rec (fields (zeros 1) (zeros 1) (zeros 1) (zeros 1) (replicate 1 7)) answer
+
 abbrev refusesDock : List ℕ → ℕ → Example
-refusesDock rec k = reads rec (zeros 1) (zeros 1) (zeros 1) (zeros 1) (just (pos k)) (zeros 1) (zeros 1) (zeros 1) (zeros 1)
+refusesDock rec k = refusesWith rec (just (pos k))
 
 abbrev breaksAt : List ℕ → ℕ → Example
-breaksAt rec k = reads rec (zeros 1) (zeros 1) (zeros 1) (zeros 1) (pos 7 ∷ pos k ∷ []) (zeros 1) (zeros 1) (zeros 1) (zeros 1)
+breaksAt rec k = refusesWith rec (pos 7 ∷ pos k ∷ [])
 
--- three columns and two rows, a channel: its record, and the state that it holds
+-- three columns and two rows, a channel: its record without tags 8 and 9, and the state that it holds
 abbrev six : List ℕ
 six =
     1 ∷ 0 ∷ 3 ∷ 3 ∷ 2 ∷ 1
@@ -206,6 +230,7 @@ sixState = record {
   b = pos 1 ∷ pos 2 ∷ pos 3 ∷ pos 4 ∷ pos 5 ∷ pos 6 ∷ [];
   u = pos 3 ∷ minus 4 ∷ pos 5 ∷ minus 6 ∷ pos 7 ∷ minus 8 ∷ [];
   v = pos 0 ∷ pos 0 ∷ pos 0 ∷ pos 9 ∷ minus 10 ∷ pos 11 ∷ [];
+  barriers = unbarred 6;
 }
 
 -- a lake at rest over an uneven bottom
@@ -221,6 +246,7 @@ lake = record {
   b = pos 90 ∷ pos 80 ∷ pos 70 ∷ pos 60 ∷ pos 50 ∷ pos 40 ∷ [];
   u = zeros 6;
   v = zeros 6;
+  barriers = unbarred 6;
 }
 
 -- ---- 01's cases 1 to 10
@@ -262,7 +288,7 @@ workedExamples =
     ∷ runs (one (pos 100000)) (just (pos 1)) 10000 (sevens 7) (just (pos 2)) (just (pos 100000)) (just (pos 100)) (just (minus 50)) (sevens 7)
     -- 10: the program, and its input as a record
     ∷ prints dock "total 2000\n0 0 2000 99 -51\n"
-    ∷ writes (one (pos 2000)) (timeOf 0 0) (replicate 62 7) (pos 0 ∷ pos 61 ∷ []) (dock ++ tag8 0 ++ (7 ∷ []))
+    ∷ writes (one (pos 2000)) (timeOf 0 0) (replicate 66 7) (pos 0 ∷ pos 65 ∷ []) (dock ++ tag8 0 ++ tag9 (unbarred 1) ++ (7 ∷ []))
     ∷ readsDock dock 0 0
     -- and in another order, v first: the same
     ∷ readsDock (drop 51 dock ++ take 51 dock) 0 0
@@ -293,7 +319,7 @@ orders =
     ∷ tends (faulty 1 (pos 1) (just (pos 1000)) (zeros 1) (zeros 1) (zeros 1)) (zeros 1) [] (zeros 1) (zeros 1) (just (pos 8)) [] (zeros 1) (zeros 1)
     ∷ tends (faulty 1 (pos 1) (just (pos 1000)) (zeros 1) (zeros 1) (zeros 1)) (zeros 1) (zeros 1) [] (zeros 1) (just (pos 8)) (zeros 1) [] (zeros 1)
     ∷ tends (faulty 1 (pos 1) (just (pos 1000)) (zeros 1) (zeros 1) (zeros 1)) (zeros 1) (zeros 1) (zeros 1) [] (just (pos 8)) (zeros 1) (zeros 1) []
-    ∷ writes (one (pos 2000)) (timeOf 0 0) (replicate 60 7) (just (pos 8)) (replicate 60 7)
+    ∷ writes (one (pos 2000)) (timeOf 0 0) (replicate 64 7) (just (pos 8)) (replicate 64 7)
     -- a state alone, with a potential vorticity, with an inflow and a work space, and with a run length too
     ∷ depth (one (pos 2000)) (pos 0 ∷ pos 2000 ∷ [])
     ∷ depth (two 2 (pos 1000)) (pos 5 ∷ pos 2 ∷ pos 0 ∷ [])
@@ -329,7 +355,7 @@ orders =
     -- 7 at a tag: 1 or 2 bytes left; unknown tag; repeated tag; value past the end; wrong length; then a tag missing
     ∷ breaksAt (dock ++ (1 ∷ [])) 56
     ∷ breaksAt (dock ++ (1 ∷ 0 ∷ [])) 56
-    ∷ breaksAt (dock ++ (9 ∷ 0 ∷ 0 ∷ [])) 56
+    ∷ breaksAt (dock ++ (10 ∷ 0 ∷ 0 ∷ [])) 56
     ∷ breaksAt (dock ++ (0 ∷ 0 ∷ 0 ∷ [])) 56
     ∷ breaksAt (dock ++ (7 ∷ 0 ∷ 2 ∷ 0 ∷ 0 ∷ [])) 56
     ∷ breaksAt (take 55 dock) 51
@@ -337,15 +363,16 @@ orders =
     ∷ breaksAt (take 51 dock) 51
     ∷ breaksAt [] 0
     -- reading: 7 before 1 before 2 before 8 before 3
-    ∷ reads (drop 51 dock ++ take 51 (1 ∷ 0 ∷ 3 ∷ 1 ∷ 1 ∷ 3 ∷ drop 6 dock)) [] [] [] [] (just (pos 1)) [] [] [] []
-    ∷ reads (take 3 dock ++ (1 ∷ 1 ∷ 3 ∷ []) ++ take 45 (drop 6 dock) ++ (7 ∷ 0 ∷ 1 ∷ 0 ∷ [])) [] [] [] [] (just (pos 1)) [] [] [] []
-    ∷ reads (take 51 dock ++ (7 ∷ 0 ∷ 1 ∷ 0 ∷ [])) [] [] [] [] (just (pos 2)) [] [] [] []
-    ∷ reads (take 9 dock ++ replicate 12 0 ++ drop 21 dock) (zeros 1) (zeros 1) (zeros 1) [] (just (pos 8)) (zeros 1) (zeros 1) (zeros 1) []
-    ∷ reads (take 9 dock ++ replicate 12 0 ++ drop 21 dock) (zeros 1) (zeros 1) (zeros 1) (zeros 1) (just (pos 3)) (zeros 1) (zeros 1) (zeros 1) (zeros 1)
+    ∷ refusesInto (drop 51 dock ++ take 51 (1 ∷ 0 ∷ 3 ∷ 1 ∷ 1 ∷ 3 ∷ drop 6 dock)) (fields [] [] [] [] []) (just (pos 1))
+    ∷ refusesInto (take 3 dock ++ (1 ∷ 1 ∷ 3 ∷ []) ++ take 45 (drop 6 dock) ++ (7 ∷ 0 ∷ 1 ∷ 0 ∷ [])) (fields [] [] [] [] []) (just (pos 1))
+    ∷ refusesInto (take 51 dock ++ (7 ∷ 0 ∷ 1 ∷ 0 ∷ [])) (fields [] [] [] [] []) (just (pos 2))
+    ∷ refusesInto (take 9 dock ++ replicate 12 0 ++ drop 21 dock) (fields (zeros 1) (zeros 1) (zeros 1) [] (unbarred 1)) (just (pos 8))
+    ∷ refusesDock (take 9 dock ++ replicate 12 0 ++ drop 21 dock) 3
     -- a record of six cells, written and read
-    ∷ writes sixState (timeOf 258 772) (replicate 122 7) (pos 0 ∷ pos 121 ∷ []) (six ++ tag8 772 ++ (7 ∷ []))
-    ∷ reads six (sevens 7) (sevens 7) (sevens 7) (sevens 7) (pos 0 ∷ pos 3 ∷ pos 2 ∷ pos 1 ∷ pos 9810 ∷ pos 10 ∷ pos 1000000 ∷ pos 258 ∷ pos 0 ∷ [])
-    (sixState .h ++ sevens 1) (sixState .b ++ sevens 1) (sixState .u ++ sevens 1) (sixState .v ++ sevens 1)
+    ∷ writes sixState (timeOf 258 772) (replicate 131 7) (pos 0 ∷ pos 130 ∷ []) (six ++ tag8 772 ++ tag9 (unbarred 6) ++ (7 ∷ []))
+    ∷ reads six (fields (sevens 7) (sevens 7) (sevens 7) (sevens 7) (replicate 7 7))
+    (pos 0 ∷ pos 3 ∷ pos 2 ∷ pos 1 ∷ pos 9810 ∷ pos 10 ∷ pos 1000000 ∷ pos 258 ∷ pos 0 ∷ [])
+    (fields (sixState .h ++ sevens 1) (sixState .b ++ sevens 1) (sixState .u ++ sevens 1) (sixState .v ++ sevens 1) (unbarred 6 ++ (7 ∷ [])))
     -- the newer timestamp tells; under one timestamp the states do
     ∷ compares dock dock (pos 0 ∷ pos 0 ∷ [])
     ∷ compares (timestamped 0 2001) (timestamped 0 2000) (pos 0 ∷ pos 3 ∷ [])
@@ -365,7 +392,7 @@ orders =
 abbrev pub timestamps : List Example
 timestamps =
     -- written, big-endian, after tag 7
-    writes (one (pos 2000)) (timeOf 5 999) (replicate 61 7) (pos 0 ∷ pos 61 ∷ []) (timestamped 5 2000 ++ (8 ∷ 0 ∷ 2 ∷ 3 ∷ 0xe7 ∷ []))
+    writes (one (pos 2000)) (timeOf 5 999) (replicate 65 7) (pos 0 ∷ pos 65 ∷ []) (timestamped 5 2000 ++ (8 ∷ 0 ∷ 2 ∷ 3 ∷ 0xe7 ∷ []) ++ tag9 (unbarred 1))
     -- 9 after 3, and before 4, 5 and 8; at full width, so that 65,536 is no 0
     ∷ writes (one (pos 999)) (timeOf 0 1000) [] (just (pos 9)) []
     ∷ writes (one (pos 999)) (timeOf 0 65536) [] (just (pos 9)) []
@@ -377,9 +404,9 @@ timestamps =
     -- read: 8, then 3, then 9, then 4
     ∷ refusesDock (timestamped 0 999 ++ tag8 1000) 9
     ∷ refusesDock (timestamped 0 2000 ++ tag8 65535) 9
-    ∷ reads (timestamped 0 999 ++ tag8 1000) (zeros 1) (zeros 1) (zeros 1) [] (just (pos 8)) (zeros 1) (zeros 1) (zeros 1) []
+    ∷ refusesInto (timestamped 0 999 ++ tag8 1000) (fields (zeros 1) (zeros 1) (zeros 1) [] (unbarred 1)) (just (pos 8))
     ∷ refusesDock (take 9 dock ++ replicate 12 0 ++ drop 21 dock ++ tag8 1000) 3
-    ∷ reads (timestamped 0 999 ++ tag8 999) (zeros 1) (zeros 1) (zeros 1) (zeros 1) (pos 4 ∷ pos 0 ∷ pos 0 ∷ []) (zeros 1) (zeros 1) (zeros 1) (zeros 1)
+    ∷ refusesWith (timestamped 0 999 ++ tag8 999) (pos 4 ∷ pos 0 ∷ pos 0 ∷ [])
     -- anywhere, once, of two bytes; the other seven are still required
     ∷ readsDock (tag8 250 ++ dock) 0 250
     ∷ readsDock (take 6 dock ++ tag8 999 ++ drop 6 dock) 0 999
@@ -389,9 +416,9 @@ timestamps =
     ∷ breaksAt (dock ++ tag8 0 ++ tag8 0) 61
     ∷ breaksAt (take 51 dock ++ tag8 0) 56
     -- read and written again
-    ∷ rewrites dock (dock ++ tag8 0) 56
-    ∷ rewrites (dock ++ tag8 250) (dock ++ tag8 250) 61
-    ∷ rewrites (tag8 250 ++ dock) (dock ++ tag8 250) 61
+    ∷ rewrites dock (dock ++ tag8 0 ++ tag9 (unbarred 1)) 56
+    ∷ rewrites (dock ++ tag8 250) (dock ++ tag8 250 ++ tag9 (unbarred 1)) 61
+    ∷ rewrites (tag8 250 ++ dock) (dock ++ tag8 250 ++ tag9 (unbarred 1)) 61
     ∷ rewrites (take 51 dock) [] 0
     -- by second, then millisecond; same and conflict need both equal
     ∷ compares (timestamped 5 2001 ++ tag8 250) (timestamped 5 2000 ++ tag8 249) (pos 0 ∷ pos 1 ∷ [])
@@ -405,6 +432,130 @@ timestamps =
     -- the step program takes both kinds
     ∷ prints (dock ++ tag8 250) "total 2000\n0 0 2000 99 -51\n"
     ∷ prints (dock ++ tag8 1000) "refused 9\n"
+    ∷ []
+
+-- ---- barriers (02: U2)
+
+-- the two cells of case 4 with these velocities and barriers, and of each the fields for a case that is refused
+abbrev barred : (u v : List ℤ) (barriers : List ℕ) → State
+barred u v barriers = record {
+  w = 2;
+  n = 1;
+  kind = 0;
+  G = pos 9810;
+  c = pos 0;
+  R = pos 100000;
+  h = pos 2000 ∷ pos 3000 ∷ [];
+  b = zeros 2;
+  u = u;
+  v = v;
+  barriers = barriers;
+}
+
+abbrev pair : ℤ → ℤ → List ℤ
+pair x y = x ∷ y ∷ []
+
+-- the tendency call refuses such a state, with this q, and fills in nothing
+abbrev refusesTends : State → (q answer : List ℤ) → Example
+refusesTends s q answer = tends s q (sevens 2) (sevens 2) (sevens 2) answer (sevens 2) (sevens 2) (sevens 2)
+
+-- four cells with a jetty of two edges, and a q to lend; with open edges alone, and the tendencies that belong to both
+abbrev jetty : List ℕ → State
+jetty barriers = record {
+  w = 2;
+  n = 2;
+  kind = 0;
+  G = pos 9810;
+  c = pos 100;
+  R = pos 200000;
+  h = pos 2000 ∷ pos 2500 ∷ pos 1500 ∷ pos 3000 ∷ [];
+  b = pos 10 ∷ pos 20 ∷ pos 30 ∷ pos 40 ∷ [];
+  u = pos 10 ∷ pos 0 ∷ minus 40 ∷ pos 50 ∷ [];
+  v = pos 7 ∷ minus 14 ∷ pos 0 ∷ pos 35 ∷ [];
+  barriers = barriers;
+}
+
+abbrev jettyVorticity : List ℤ
+jettyVorticity = pos 1000 ∷ minus 2000 ∷ pos 3000 ∷ minus 4000 ∷ []
+
+abbrev ratesOf : State → (energy enstrophy : ℤ) → Example
+ratesOf s = rates s jettyVorticity (hTendencies s) (uTendencies s jettyVorticity) (vTendencies s jettyVorticity)
+
+-- six cells of a basin, whose west wall and a jetty meet; with a velocity on each edge that is open
+abbrev corner : (u v : List ℤ) → State
+corner u v = record {
+  w = 3;
+  n = 2;
+  kind = 2;
+  G = pos 9810;
+  c = pos 10;
+  R = pos 100000;
+  h = replicate 6 (pos 2000);
+  b = zeros 6;
+  u = u;
+  v = v;
+  barriers = 0 ∷ 0 ∷ 1 ∷ 3 ∷ 0 ∷ 2 ∷ [];
+}
+
+abbrev pub barriers : List Example
+barriers =
+    -- a barrier on the west edge of cell 1: its tendency is 0, and a step keeps its velocity 0
+    tends (barred (pair (pos 10) (pos 0)) (zeros 2) (0 ∷ 1 ∷ [])) (zeros 2) (zeros 2) (zeros 2) (zeros 2) done (pair (pos 50000) (minus 50000)) (pair (pos 30859591680000) (pos 0)) (zeros 2)
+    ∷ steps (barred (pair (pos 10) (pos 0)) (zeros 2) (0 ∷ 1 ∷ [])) (zeros 2) (sevens 16) done (pair (pos 2003) (pos 2997)) (pair (pos 108) (pos 0)) (zeros 2) (zeros 16)
+    -- 5: u before v, lowest cell, wherever the barrier stands
+    ∷ refusesTends (barred (pair (pos 10) (pos 5)) (zeros 2) (0 ∷ 1 ∷ [])) (zeros 2) (pos 5 ∷ pos 2 ∷ pos 1 ∷ [])
+    ∷ refusesTends (barred (pair (pos 10) (pos 5)) (pair (pos 1) (pos 1)) (2 ∷ 1 ∷ [])) (zeros 2) (pos 5 ∷ pos 2 ∷ pos 1 ∷ [])
+    ∷ refusesTends (barred (zeros 2) (pair (pos 1) (pos 1)) (3 ∷ 0 ∷ [])) (zeros 2) (pos 5 ∷ pos 3 ∷ pos 0 ∷ [])
+    ∷ depth (barred (pair (pos 10) (pos 5)) (zeros 2) (2 ∷ 2 ∷ [])) (pos 0 ∷ pos 5000 ∷ [])
+    ∷ depth (barred (zeros 2) (pair (pos 1) (pos 1)) (1 ∷ 1 ∷ [])) (pos 0 ∷ pos 5000 ∷ [])
+    -- beside a wall: closed by the one or by the other
+    ∷ depth (corner (pos 0 ∷ pos 1 ∷ pos 0 ∷ pos 0 ∷ pos 1 ∷ pos 1 ∷ []) (pos 0 ∷ pos 0 ∷ pos 0 ∷ pos 0 ∷ pos 1 ∷ pos 0 ∷ [])) (pos 0 ∷ pos 12000 ∷ [])
+    ∷ depth (corner (pos 0 ∷ pos 0 ∷ pos 1 ∷ pos 1 ∷ pos 0 ∷ pos 0 ∷ []) (zeros 6)) (pos 5 ∷ pos 2 ∷ pos 2 ∷ [])
+    ∷ depth (corner (pos 0 ∷ pos 0 ∷ pos 0 ∷ pos 1 ∷ pos 0 ∷ pos 0 ∷ []) (pos 1 ∷ zeros 5)) (pos 5 ∷ pos 2 ∷ pos 3 ∷ [])
+    ∷ depth (corner (zeros 6) (pos 0 ∷ pos 1 ∷ pos 0 ∷ pos 1 ∷ pos 0 ∷ pos 0 ∷ [])) (pos 5 ∷ pos 3 ∷ pos 1 ∷ [])
+    ∷ depth (corner (zeros 6) (pos 0 ∷ pos 0 ∷ pos 0 ∷ pos 0 ∷ pos 0 ∷ pos 1 ∷ [])) (pos 5 ∷ pos 3 ∷ pos 5 ∷ [])
+    -- 4: a byte above 3, after v and before q and the inflow; 2: other than w·n bytes
+    ∷ refusesTends (barred (zeros 2) (zeros 2) (255 ∷ 4 ∷ [])) (zeros 2) (pos 4 ∷ pos 6 ∷ pos 0 ∷ [])
+    ∷ refusesTends (barred (zeros 2) (zeros 2) (3 ∷ 128 ∷ [])) (zeros 2) (pos 4 ∷ pos 6 ∷ pos 1 ∷ [])
+    ∷ refusesTends (barred (zeros 2) (pair (pos 0) (pos 5001)) (4 ∷ 0 ∷ [])) (zeros 2) (pos 4 ∷ pos 3 ∷ pos 1 ∷ [])
+    ∷ refusesTends (barred (zeros 2) (zeros 2) (0 ∷ 4 ∷ [])) (pair (pos 2000001) (pos 0)) (pos 4 ∷ pos 6 ∷ pos 1 ∷ [])
+    ∷ refusesTends (barred (zeros 2) (zeros 2) (0 ∷ 3 ∷ [])) (pair (pos 2000001) (pos 0)) (pos 4 ∷ pos 4 ∷ pos 0 ∷ [])
+    ∷ steps (barred (zeros 2) (zeros 2) (0 ∷ 4 ∷ [])) (pair (pos 1001) (pos 0)) (sevens 16) (pos 4 ∷ pos 6 ∷ pos 1 ∷ []) (pair (pos 2000) (pos 3000)) (zeros 2) (zeros 2) (zeros 16)
+    ∷ refusesTends (barred (pair (pos 1) (pos 0)) (zeros 2) (1 ∷ 4 ∷ [])) (zeros 2) (pos 4 ∷ pos 6 ∷ pos 1 ∷ [])
+    ∷ refusesTends (barred (zeros 2) (zeros 2) (0 ∷ [])) (zeros 2) (just (pos 2))
+    ∷ refusesTends (barred (zeros 2) (zeros 2) (unbarred 3)) (zeros 2) (just (pos 2))
+    -- potential vorticity takes no notice of them
+    ∷ vorticities (jetty (0 ∷ 1 ∷ 2 ∷ 0 ∷ [])) (zeros 4) done (vorticity (jetty (unbarred 4)))
+    -- the energy rate is zero for any barriers, the enstrophy rate without them
+    ∷ ratesOf (jetty (0 ∷ 1 ∷ 2 ∷ 0 ∷ [])) (pos 0) (minus 135141859431808000)
+    ∷ ratesOf (jetty (unbarred 4)) (pos 0) (pos 0)
+    -- tag 9: written after tag 8; read wherever it stands; other than w·n bytes are a 2, none too
+    ∷ writes (barred (pair (pos 10) (pos 0)) (zeros 2) (2 ∷ 1 ∷ [])) (timeOf 0 0) [] (just (pos 8)) []
+    ∷ writes (cell 0 (pos 9810) (pos 10) (pos 1000) (pos 2000) (pos 0) (pos 100) (minus 50)) (timeOf 0 7) (replicate 65 7) (pos 0 ∷ pos 65 ∷ []) (dock ++ tag8 7 ++ (9 ∷ 0 ∷ 1 ∷ 0 ∷ []))
+    ∷ readsDock (dock ++ tag9 (unbarred 1)) 0 0
+    ∷ readsDock (tag9 (unbarred 1) ++ tag8 250 ++ dock) 0 250
+    ∷ reads (encode (barred (pair (pos 10) (pos 0)) (zeros 2) (2 ∷ 1 ∷ [])) (timeOf 0 1)) (fields (sevens 2) (sevens 2) (sevens 2) (sevens 2) (replicate 3 7))
+    (pos 0 ∷ pos 2 ∷ pos 1 ∷ pos 0 ∷ pos 9810 ∷ pos 0 ∷ pos 100000 ∷ pos 0 ∷ pos 1 ∷ [])
+    (fields (pair (pos 2000) (pos 3000)) (zeros 2) (pair (pos 10) (pos 0)) (zeros 2) (2 ∷ 1 ∷ 7 ∷ []))
+    ∷ refusesDock (dock ++ (9 ∷ 0 ∷ 0 ∷ [])) 2
+    ∷ refusesDock (dock ++ tag9 (unbarred 2)) 2
+    ∷ refusesWith (dock ++ tag9 (4 ∷ [])) (pos 4 ∷ pos 6 ∷ pos 0 ∷ [])
+    ∷ refusesWith (dock ++ tag9 (255 ∷ [])) (pos 4 ∷ pos 6 ∷ pos 0 ∷ [])
+    ∷ refusesWith (dock ++ tag9 (3 ∷ [])) (pos 5 ∷ pos 2 ∷ pos 0 ∷ [])
+    ∷ refusesWith (dock ++ tag9 (2 ∷ [])) (pos 5 ∷ pos 3 ∷ pos 0 ∷ [])
+    ∷ breaksAt (dock ++ tag9 (unbarred 1) ++ tag9 (unbarred 1)) 60
+    ∷ refusesInto dock (fields (zeros 1) (zeros 1) (zeros 1) (zeros 1) []) (just (pos 8))
+    ∷ refusesInto (dock ++ (9 ∷ 0 ∷ 0 ∷ [])) (fields (zeros 1) (zeros 1) (zeros 1) (zeros 1) []) (just (pos 2))
+    -- read and written again: a lacking tag 8 is put in before tag 9, and the bytes return up to there
+    ∷ rewrites (dock ++ tag9 (unbarred 1)) (dock ++ tag8 0 ++ tag9 (unbarred 1)) 56
+    ∷ rewrites (dock ++ tag8 250 ++ tag9 (unbarred 1)) (dock ++ tag8 250 ++ tag9 (unbarred 1)) 65
+    -- same includes them, and an absent tag 9 means none
+    ∷ compares dock (dock ++ tag9 (unbarred 1)) (pos 0 ∷ pos 0 ∷ [])
+    ∷ compares (encode (barred (zeros 2) (zeros 2) (0 ∷ 1 ∷ [])) (timeOf 0 0)) (encode (barred (zeros 2) (zeros 2) (0 ∷ 2 ∷ [])) (timeOf 0 0)) (pos 0 ∷ pos 3 ∷ [])
+    ∷ compares (encode (barred (zeros 2) (zeros 2) (0 ∷ 1 ∷ [])) (timeOf 0 0)) (take 73 (encode (barred (zeros 2) (zeros 2) (unbarred 2)) (timeOf 0 0))) (pos 0 ∷ pos 3 ∷ [])
+    -- the step program takes them too
+    ∷ prints (encode (barred (pair (pos 10) (pos 0)) (zeros 2) (0 ∷ 1 ∷ [])) (timeOf 0 0)) "total 5000\n0 0 2003 108 0\n1 0 2997 0 0\n"
+    ∷ prints (dock ++ tag9 (1 ∷ [])) "refused 5\n"
     ∷ []
 
 -- ---- each bound at both ends, and one past
@@ -461,6 +612,6 @@ bounds =
     ∷ steps (cell 0 (pos 1) (pos 0) (pos 1000) (pos 50000) (pos 0) (pos 0) (pos 0)) (just (pos 1001)) (sevens 8) (pos 4 ∷ pos 5 ∷ pos 0 ∷ []) (just (pos 50000)) (zeros 1) (zeros 1) (zeros 8)
     ∷ []
 
-pub all-hold : T (all holds (workedExamples ++ (timestamps ++ (bounds ++ orders))))
+pub all-hold : T (all holds (workedExamples ++ (timestamps ++ (barriers ++ (bounds ++ orders)))))
 unfolding everything
 all-hold = tt

@@ -56,6 +56,10 @@ inflowLimits = negℤ (pos 1000) to pos 1000
 unfoldable pub vorticityLimits : Limits
 vorticityLimits = negℤ (pos 2000000) to pos 2000000
 
+-- a byte of barriers (02: piers): two bits
+unfoldable pub barrierLimits : Limits
+barrierLimits = pos 0 to pos 3
+
 -- columns or rows, from 1 on
 abbrev pub longestSide : ℕ
 longestSide = 64

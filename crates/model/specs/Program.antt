@@ -10,12 +10,12 @@ use lib.IntN.{ℤ, pos, negsuc}
 use lib.ListN.{length, getD, replicate, take}
 use lib.Seq.{sets}
 use Rattle.model.specs.Grid.{tabulate}
-use Rattle.model.specs.State.{State, cells}
+use Rattle.model.specs.State.{State, cells, Fields}
 use Rattle.model.specs.Answers.{number}
 use Rattle.model.specs.Totals.{totalDepth}
 use Rattle.model.specs.Step.{stepTest, stepAnswer, stepState, workLeft}
 use Rattle.model.specs.Record.{Decoded, accepted, refused, decode}
-use Rattle.model.specs.Promises.{readInto}
+use Rattle.model.specs.Promises.{roomsIn, put}
 use Rattle.model.specs.declared.Refusal.the-variants.{Record}
 use Rattle.model.specs.declared.StepAnswer.{StepAnswer}
 use Rattle.model.specs.declared.StepAnswer.the-variants as StepAnswer
@@ -95,23 +95,21 @@ pub record Printed (printed entry : List ℕ) (r : ℕ) (exit : List ℕ) : Type
   pub counts : r ≡ min (length printed) (length entry)
   pub holds : exit ≡ sets entry 0 printed
 
--- the state after its step
-abbrev pub steppedState : List ℤ → List ℤ → State → State
-steppedState inflow work s = stepState s (inflowFor s inflow) (length work)
+-- the fields d have the state after its step
+abbrev pub steppedInto : List ℤ → List ℤ → Decoded → Fields → Fields
+steppedInto inflow work (refused r) d = d
+steppedInto inflow work (accepted s t) d = put (stepState s (inflowFor s inflow) (length work)) d
 
 -- by what is read. A prime marks what stands in a lent slice as the call returns.
-pub record ProgramLeaves (read : Decoded) (h b u v inflow work : List ℤ) (out : List ℕ) (answer : ℕ) (h′ b′ u′ v′ work′ : List ℤ) (out′ : List ℕ) : Type 0 where
+pub record ProgramLeaves (read : Decoded) (d : Fields) (inflow work : List ℤ) (out : List ℕ) (answer : ℕ) (d′ : Fields) (work′ : List ℤ) (out′ : List ℕ) : Type 0 where
   pub prints : Printed (steppedLines inflow (length work) read) out answer out′
-  pub fills-h : h′ ≡ readInto (λ s. steppedState inflow work s .h) read h
-  pub fills-b : b′ ≡ readInto (λ s. s .b) read b
-  pub fills-u : u′ ≡ readInto (λ s. steppedState inflow work s .u) read u
-  pub fills-v : v′ ≡ readInto (λ s. steppedState inflow work s .v) read v
+  pub fills : d′ ≡ steppedInto inflow work read d
   pub clears : work′ ≡ steppedWork inflow work read
 
 -- It rules out, for instance: the total before the step; a refused step that has printed cells; a grid cut to the room lent.
-abbrev pub ProgramPromise : List ℕ → (h b u v inflow work : List ℤ) (out : List ℕ) (answer : ℕ) (h′ b′ u′ v′ work′ : List ℤ) (out′ : List ℕ) → Type 0
-ProgramPromise input h b u v inflow work out answer h′ b′ u′ v′ work′ out′ =
-    ProgramLeaves (programRead input (length h ∷ length b ∷ length u ∷ length v ∷ [])) h b u v inflow work out answer h′ b′ u′ v′ work′ out′
+abbrev pub ProgramPromise : List ℕ → (d : Fields) (inflow work : List ℤ) (out : List ℕ) (answer : ℕ) (d′ : Fields) (work′ : List ℤ) (out′ : List ℕ) → Type 0
+ProgramPromise input d inflow work out answer d′ work′ out′ =
+    ProgramLeaves (programRead input (roomsIn d)) d inflow work out answer d′ work′ out′
 
 -- ---- the program's own arrays: fields for up to 1,024 cells, no inflow, and room for what it prints
 
@@ -126,4 +124,4 @@ outputRoom = 32768
 
 unfoldable pub programOutput : List ℕ → List ℕ
 programOutput input =
-    steppedLines (replicate programCells (pos 0)) programWork (programRead input (replicate 4 programCells))
+    steppedLines (replicate programCells (pos 0)) programWork (programRead input (replicate 5 programCells))

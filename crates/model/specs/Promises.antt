@@ -11,7 +11,7 @@ use Prim.Native.Nat.{ℕ}
 use lib.IntN.{ℤ}
 use lib.ListN.{length}
 use Rattle.model.specs.Grid.{filled}
-use Rattle.model.specs.State.{State, parametersOf, cells}
+use Rattle.model.specs.State.{State, parametersOf, cells, Fields}
 use Rattle.model.specs.Answers.{toldAnswer, toldStep, toldRun, toldTotal, toldWrite, toldRead, toldCompare}
 use Rattle.model.specs.Tests.{Test, firstFound}
 use Rattle.model.specs.Refusals.{taken, roomTests, stateTests, timedTests, callTests}
@@ -91,7 +91,7 @@ TendenciesPromise s q dh du dv answer dh′ du′ dv′ =
     Fills answerOf toldAnswer (tendenciesTest s q (length dh) (length du) (length dv)) (cells s)
     (hTendencies s into dh ∷ uTendencies s q into du ∷ vTendencies s q into dv ∷ []) answer (dh′ ∷ du′ ∷ dv′ ∷ [])
 
--- ---- step and run: 1 to 6. s is the state before, s′ the state after (its parameters and b are s's).
+-- ---- step and run: 1 to 6. s is the state before, s′ the state after (its parameters, b and barriers are s's).
 
 -- It rules out: a step that returns its state; pass 1 returned; a refusal that leaves pass 1 behind or the work space uncleared.
 pub record StepPromise (s : State) (inflow work : List ℤ) (answer : StepAnswer) (s′ : State) (work′ : List ℤ) : Type 0 where
@@ -145,28 +145,40 @@ abbrev pub WritePromise : State → Timestamp → (d : List ℕ) (answer : Write
 WritePromise s t d answer d′ =
     Fills (writeAnswer (recordLength s)) toldWrite (writeTest s t (length d)) (recordLength s) (encode s t into d ∷ []) answer (d′ ∷ [])
 
--- ---- record reader, into h, b, u, v: 7, 1, 2, 8, 3, 9, 4, 5
+-- ---- record reader, into the five fields d: 7, 1, 2, 8, 3, 9, 4, 5
 
 abbrev pub readAnswer : Decoded → ReadAnswer
 readAnswer (accepted s t) = ReadAnswer.Read (parametersOf s) t
 readAnswer (refused r) = ReadAnswer.Refused r
 
--- what a reader leaves in the destination d of a field
-abbrev pub readInto : (State → List ℤ) → Decoded → List ℤ → List ℤ
-readInto f (accepted s t) d = filled (cells s) (f s) d
-readInto f (refused r) d = d
+-- the room in the five destinations
+abbrev pub roomsIn : Fields → List ℕ
+roomsIn d = length (d .h) ∷ length (d .b) ∷ length (d .u) ∷ length (d .v) ∷ length (d .barriers) ∷ []
 
-unfoldable pub readOf : List ℕ → List ℤ → List ℤ → List ℤ → List ℤ → Decoded
-readOf rec h b u v = decode rec (length h ∷ length b ∷ length u ∷ length v ∷ [])
+-- a state put into their first w·n places
+abbrev pub put : State → Fields → Fields
+put s d = record {
+  h = filled (cells s) (s .h) (d .h);
+  b = filled (cells s) (s .b) (d .b);
+  u = filled (cells s) (s .u) (d .u);
+  v = filled (cells s) (s .v) (d .v);
+  barriers = filled (cells s) (s .barriers) (d .barriers);
+}
 
--- It rules out: fields filled before test 5; the sign of a velocity lost; a record without tag 8 refused.
-pub record ReadPromise (rec : List ℕ) (h b u v : List ℤ) (answer : ReadAnswer) (h′ b′ u′ v′ : List ℤ) : Type 0 where
-  pub answers : answer ≡ readAnswer (readOf rec h b u v)
-  pub tells : toldRead answer ≡ toldRead (readAnswer (readOf rec h b u v))
-  pub fills-h : h′ ≡ readInto (λ s. s .h) (readOf rec h b u v) h
-  pub fills-b : b′ ≡ readInto (λ s. s .b) (readOf rec h b u v) b
-  pub fills-u : u′ ≡ readInto (λ s. s .u) (readOf rec h b u v) u
-  pub fills-v : v′ ≡ readInto (λ s. s .v) (readOf rec h b u v) v
+-- what a reader leaves in them
+abbrev pub readInto : Decoded → Fields → Fields
+readInto (accepted s t) d = put s d
+readInto (refused r) d = d
+
+unfoldable pub readOf : List ℕ → Fields → Decoded
+readOf rec d = decode rec (roomsIn d)
+
+-- It rules out: fields filled before test 5; the sign of a velocity lost; a record without tag 8 or 9 refused; barriers left as they were
+-- where a record has none.
+pub record ReadPromise (rec : List ℕ) (d : Fields) (answer : ReadAnswer) (d′ : Fields) : Type 0 where
+  pub answers : answer ≡ readAnswer (readOf rec d)
+  pub tells : toldRead answer ≡ toldRead (readAnswer (readOf rec d))
+  pub fills : d′ ≡ readInto (readOf rec d) d
 
 -- ---- comparison: 7, 1, 2, 3, 9, 4, 5 of the first record, then of the second
 

@@ -12,10 +12,10 @@ use Rattle.model.specs.Numbers.{all, any, eqℤ, sameBy}
 use Rattle.model.specs.Grid.{tabulate}
 use Rattle.model.specs.State.{State, parametersOf, cells}
 use Rattle.model.specs.Tests.{Test, asks, found, firstFound}
-use Rattle.model.specs.Refusals.{fieldsOf, gridTest, lengthTest, roomTests, timedContentTests}
+use Rattle.model.specs.Refusals.{fieldsOf, gridTest, roomTests, timedContentTests}
 use Rattle.model.specs.declared.Timestamp.{Timestamp}
 use Rattle.model.specs.declared.Refusal.{Refusal}
-use Rattle.model.specs.declared.Refusal.the-variants.{Record}
+use Rattle.model.specs.declared.Refusal.the-variants.{Lengths, Record}
 use Rattle.model.specs.declared.CompareAnswer.{CompareAnswer}
 use Rattle.model.specs.declared.CompareAnswer.the-variants.{Same, FirstNewer, SecondNewer, Conflict, FirstRefused, SecondRefused}
 
@@ -58,7 +58,8 @@ pub record TagRow : Type 0 where
   pub size : Size
   pub required : Bool
 
--- tag 1: w, n, kind. 2: G, c, R. 3: the timestamp's seconds. 4 to 7: h, b, u, v. 8: its milliseconds, of which absence means 0
+-- tag 1: w, n, kind. 2: G, c, R. 3: the timestamp's seconds. 4 to 7: h, b, u, v. 8: the timestamp's milliseconds, of which absence means 0.
+-- 9: the barriers, of which absence means none
 abbrev pub tagTable : List TagRow
 tagTable =
     record { tag = 1; size = fixed 3; required = true }
@@ -69,6 +70,7 @@ tagTable =
     ∷ record { tag = 6; size = perCell 2; required = true }
     ∷ record { tag = 7; size = perCell 2; required = true }
     ∷ record { tag = 8; size = fixed 2; required = false }
+    ∷ record { tag = 9; size = perCell 1; required = false }
     ∷ []
 
 -- ---- the writer: by rising tag
@@ -96,6 +98,7 @@ partsOf s t =
     ∷ record { tag = 6; value = eachBy bytes2 (s .u) }
     ∷ record { tag = 7; value = eachBy bytes2 (s .v) }
     ∷ record { tag = 8; value = bytes 2 (t .milliseconds) }
+    ∷ record { tag = 9; value = s .barriers }
     ∷ []
 
 unfoldable pub encode : State → Timestamp → List ℕ
@@ -103,7 +106,7 @@ encode s t = joined (partsOf s t)
 
 -- its length
 abbrev pub recordLength : State → ℕ
-recordLength s = 49 + 12 * cells s
+recordLength s = 52 + 13 * cells s
 
 -- ---- the reader: fields in any order
 
@@ -198,19 +201,20 @@ stateIn parts =
       b = numbers signed4 4 m (valueOf 5 parts);
       u = numbers signed2 2 m (valueOf 6 parts);
       v = numbers signed2 2 m (valueOf 7 parts);
+      barriers = tabulate m (λ k. getD (valueOf 9 parts) k 0);
     }
 
 unfoldable pub timestampIn : List Part → Timestamp
 timestampIn parts = record { seconds = unsigned (valueOf 3 parts); milliseconds = unsigned (valueOf 8 parts) }
 
--- 2, in a record of m cells: the value of a tag has other than the bytes of m numbers
-abbrev pub bytesTest : ℕ → List ℕ → Size → List (Test Refusal)
-bytesTest m value (fixed k) = []
-bytesTest m value (perCell k) = lengthTest (k * m) (length value) ∷ []
+-- 2, in a record of m cells: the value of a tag that is there has other than the bytes of m numbers
+abbrev pub bytesTest : ℕ → (there : Bool) (value : List ℕ) → Size → List (Test Refusal)
+bytesTest m there value (fixed k) = []
+bytesTest m there value (perCell k) = asks (not there || eqb (length value) (k * m)) Lengths ∷ []
 
 abbrev pub bytesTests : ℕ → List Part → List TagRow → List (Test Refusal)
 bytesTests m parts [] = []
-bytesTests m parts (row ∷ l) = bytesTest m (valueOf (row .tag) parts) (row .size) ++ bytesTests m parts l
+bytesTests m parts (row ∷ l) = bytesTest m (has (row .tag) parts) (valueOf (row .tag) parts) (row .size) ++ bytesTests m parts l
 
 -- ---- a record read: 7, then 1, 2, 8, 3, 9, 4, 5
 
@@ -289,12 +293,13 @@ kept rec = keptBy (walked rec)
 unfoldable pub newer : Timestamp → Timestamp → Bool
 newer a b = ltb (b .seconds) (a .seconds) || (eqb (b .seconds) (a .seconds) && ltb (b .milliseconds) (a .milliseconds))
 
--- tags 1, 2 and 4 to 7 mean the same
+-- tags 1, 2, 4 to 7 and 9 mean the same
 unfoldable pub sameState : State → State → Bool
 sameState s t =
     eqb (s .w) (t .w) && eqb (s .n) (t .n) && eqb (s .kind) (t .kind)
     && eqℤ (s .G) (t .G) && eqℤ (s .c) (t .c) && eqℤ (s .R) (t .R)
     && sameBy eqℤ (s .h) (t .h) && sameBy eqℤ (s .b) (t .b) && sameBy eqℤ (s .u) (t .u) && sameBy eqℤ (s .v) (t .v)
+    && sameBy eqb (s .barriers) (t .barriers)
 
 -- the newer timestamp tells; under one timestamp the states do
 unfoldable pub compared : State → Timestamp → State → Timestamp → CompareAnswer

@@ -7,12 +7,12 @@ use lib.IntN.{ℤ, pos}
 use lib.ListN.{length, getD}
 use Rattle.model.specs.Numbers.{Limits, within, eqℤ, gravityLimits, coriolisLimits, ratioLimits, longestSide, longestRun, mostMilliseconds}
 use Rattle.model.specs.Fields.{limitsOf}
-use Rattle.model.specs.State.{State, parametersOf, cells, known, boundaryOf, closedWest, closedSouth}
+use Rattle.model.specs.State.{State, parametersOf, cells, barrierNumbers, known, boundaryOf, closedWest, closedSouth}
 use Rattle.model.specs.Tests.{Test, asks, seeks}
 use Rattle.model.specs.declared.Parameters.{Parameters}
 use Rattle.model.specs.declared.Timestamp.{Timestamp}
 use Rattle.model.specs.declared.Field.{Field}
-use Rattle.model.specs.declared.Field.the-variants.{Depth, Bottom, VelocityU, VelocityV}
+use Rattle.model.specs.declared.Field.the-variants.{Depth, Bottom, VelocityU, VelocityV, Barriers}
 use Rattle.model.specs.declared.Refusal.{Refusal}
 use Rattle.model.specs.declared.Refusal.the-variants.{Grid, Lengths, Constants, Value, ClosedEdge, Destination, Milliseconds}
 
@@ -29,9 +29,15 @@ pub record Taken : Type 0 where
 abbrev pub taken : State → Field → List ℤ → Taken
 taken s f numbers = record { field = f; count = cells s; limits = limitsOf f; numbers = numbers }
 
--- the state's own, in 01's order; a call takes others after these
+-- the state's own, in 01's order, and 02's barriers; a call takes others after these
 abbrev pub fieldsOf : State → List Taken
-fieldsOf s = taken s Depth (s .h) ∷ taken s Bottom (s .b) ∷ taken s VelocityU (s .u) ∷ taken s VelocityV (s .v) ∷ []
+fieldsOf s =
+    taken s Depth (s .h)
+    ∷ taken s Bottom (s .b)
+    ∷ taken s VelocityU (s .u)
+    ∷ taken s VelocityV (s .v)
+    ∷ taken s Barriers (barrierNumbers s)
+    ∷ []
 
 -- ---- the table's tests
 

@@ -1,6 +1,6 @@
 // The types of the public calls. What they mean is said in specs/: this crate holds all that a reader must believe.
 
-// What a state has beside its four fields: columns, rows, the boundary's byte, gravity (01: G), Coriolis parameter times
+// What a state has beside its five fields: columns, rows, the boundary's byte, gravity (01: G), Coriolis parameter times
 // spacing (01: c), and spacing over time step (01: R). Taken at full width: any numbers may come in.
 pub struct Parameters {
     pub w: usize,
@@ -32,7 +32,7 @@ pub enum BoundaryByte {
     Unknown,
 }
 
-// A field that a refusal names: h, b, u, v, q and the inflow s (01: river entry).
+// A field that a refusal names: h, b, u, v, q, the inflow s (01: river entry) and the barriers (02: piers).
 pub enum Field {
     Depth,
     Bottom,
@@ -40,6 +40,7 @@ pub enum Field {
     VelocityV,
     Vorticity,
     Inflow,
+    Barriers,
 }
 
 // What the tests of a call find before anything is worked out: 01's refusals 1, 2, 3, 4, 5, 7 and 8, and 02's 9, listed by number.

@@ -11,7 +11,7 @@ use Rattle.model.specs.State.{State}
 use Rattle.model.specs.Weights.{conditions}
 use Rattle.model.specs.Record.{bytes, encode}
 use Rattle.model.specs.Opened.{everything}
-use Rattle.model.specs.Examples.{Example, vorticities, tends, rates, energy, steps, runs, prints, holds, minus, done, sevens, zeros, timeOf, dock}
+use Rattle.model.specs.Examples.{Example, vorticities, tends, rates, energy, steps, runs, prints, holds, minus, done, sevens, zeros, unbarred, timeOf, dock}
 
 -- nine cells, deep and shallow, at rest along a wall in the west and in the south; an inflow and a q to lend
 abbrev unless : Bool → ℤ → ℤ
@@ -29,6 +29,7 @@ nine kind west south = record {
   b = pos 10 ∷ pos 20 ∷ pos 30 ∷ pos 40 ∷ pos 50 ∷ pos 60 ∷ pos 70 ∷ pos 80 ∷ pos 90 ∷ [];
   u = unless west (pos 10) ∷ minus 20 ∷ pos 30 ∷ unless west (minus 40) ∷ pos 50 ∷ minus 60 ∷ unless west (pos 70) ∷ minus 80 ∷ pos 90 ∷ [];
   v = unless south (pos 7) ∷ unless south (minus 14) ∷ unless south (pos 21) ∷ minus 28 ∷ pos 35 ∷ minus 42 ∷ pos 49 ∷ minus 56 ∷ pos 63 ∷ [];
+  barriers = unbarred 9;
 }
 
 abbrev inflow : List ℤ
@@ -39,7 +40,7 @@ lent = pos 1000 ∷ minus 2000 ∷ pos 3000 ∷ minus 4000 ∷ pos 5000 ∷ minu
 
 -- two cells at rest under a steep surface
 abbrev steep : ℤ → State
-steep R = record { w = 2; n = 1; kind = 0; G = pos 9810; c = pos 0; R = R; h = pos 1000 ∷ pos 2000 ∷ []; b = (zeros 2); u = (zeros 2); v = (zeros 2) }
+steep R = record { w = 2; n = 1; kind = 0; G = pos 9810; c = pos 0; R = R; h = pos 1000 ∷ pos 2000 ∷ []; b = (zeros 2); u = (zeros 2); v = (zeros 2); barriers = unbarred 2 }
 
 abbrev pub agreed : List Example
 agreed =
@@ -108,7 +109,7 @@ conditions-agree = tt
 
 -- a grid that is too shallow everywhere
 abbrev shallow : ℕ → ℕ → State
-shallow w n = record { w = w; n = n; kind = 0; G = pos 1; c = pos 0; R = pos 1000; h = replicate (w * n) (pos 999); b = zeros (w * n); u = zeros (w * n); v = zeros (w * n) }
+shallow w n = record { w = w; n = n; kind = 0; G = pos 1; c = pos 0; R = pos 1000; h = replicate (w * n) (pos 999); b = zeros (w * n); u = zeros (w * n); v = zeros (w * n); barriers = unbarred (w * n) }
 
 -- case 10's record with m bytes for its depth, 52 + m in all
 abbrev lengthened : ℕ → List ℕ

@@ -1,18 +1,17 @@
 -- The reader takes any order: a record whose fields are put into another order is read as the same, or refused with the same. Assumes nothing.
 use mathlib.Core.Path.{_≡_, refl, sym, ap, ap₂, _∙_}
-use mathlib.Core.Logic.{inl, inr}
 use mathlib.Core.Bool.{Bool, true, false, cond, _||_, true≢false}
 use mathlib.Core.List.{List, [], _∷_, _++_, append-assoc}
 use Prim.Native.Nat.{ℕ, _+_}
 use lib.Dec.{eqb}
 use borrow.Author.Tests.{eqb-true, eqb-false, ne-eqb}
-use Rattle.model.specs.Record.{unsigned, Part, joined, has, valueOf, decode}
-use Rattle.model.specs.Claims.{Among, WholeIn, Bytes, Reordered, empty, ahead, swap, chain, AnyOrderClaim}
+use Rattle.model.specs.Record.{Part, joined, has, valueOf, decode}
+use Rattle.model.specs.Claims.{WholeIn, Bytes, Reordered, empty, ahead, swap, chain, AnyOrderClaim}
 use Rattle.theorems.specs.Walks.{Fine, AllFine, whole-record}
 use Rattle.theorems.specs.Damage.{whole-iff}
 use Rattle.theorems.specs.Written.{all-bytes}
 use Rattle.theorems.specs.OneFieldMore.{has-more}
-use Rattle.theorems.specs.ReadAlike.{read-alike, promise-alike}
+use Rattle.theorems.specs.ReadAlike.{all-alike, read-alike, promise-alike}
 
 -- ---- fields that may stand in one order may stand in any
 
@@ -71,7 +70,13 @@ all-fine (ahead {p} r) seen f = (f .0, all-fine r (seen ++ (p ∷ [])) (f .1))
 all-fine (swap {p} {q} {a}) seen f = fine-swapped seen p q a f
 all-fine (chain r s) seen f = all-fine s seen (all-fine r seen f)
 
--- ---- the value of a tag does not depend on the order
+-- ---- whether a tag is there, and its value, do not depend on the order
+
+same-has : {a b : List Part} → Reordered a b → (t : ℕ) → has t b ≡ has t a
+same-has empty t = refl
+same-has (ahead {p} r) t = ap (λ x. eqb (p .tag) t || x) (same-has r t)
+same-has (swap {p} {q} {a}) t = either-first (eqb (q .tag) t) (eqb (p .tag) t) (has t a)
+same-has (chain r s) t = same-has s t ∙ same-has r t
 
 value-swapped : (t : ℕ) (p q : Part) (ps : List Part) → (p .tag ≡ q .tag → ⊥) → valueOf t (p ∷ q ∷ ps) ≡ valueOf t (q ∷ p ∷ ps)
 value-swapped t p q ps n = by (eqb (p .tag) t) refl (eqb (q .tag) t) refl
@@ -90,28 +95,17 @@ same-value (chain r s) seen f t = same-value s seen (all-fine r seen f) t ∙ sa
 
 -- ---- the record in another order
 
--- a tag that is there in one order is there in any
-still-among : {a b : List Part} → Reordered a b → (t : ℕ) → Among t a → Among t b
-still-among empty t m = m
-still-among (ahead r) t (inl e) = inl e
-still-among (ahead r) t (inr m) = inr (still-among r t m)
-still-among swap t (inl e) = inr (inl e)
-still-among swap t (inr (inl e)) = inl e
-still-among swap t (inr (inr m)) = inr (inr m)
-still-among (chain r s) t m = still-among s t (still-among r t m)
-
 module _ (rec : List ℕ) (parts other : List Part) (plain : Bytes rec) (w : WholeIn rec parts) (r : Reordered parts other) where
   fine : AllFine [] parts
   fine = whole-record rec (all-bytes rec plain) parts (whole-iff rec parts .1 w) .fine
 
   same-decoded : (rooms : List ℕ) → decode (joined other) rooms ≡ decode rec rooms
   same-decoded rooms =
-      let v = same-value r [] fine in
-      read-alike rec parts other w (all-fine r [] fine) (λ t m. still-among r t m) (λ t n. v t) (ap unsigned (v 8)) rooms
+      read-alike rec parts other w (all-fine r [] fine) (all-alike parts other (same-has r) (same-value r [] fine)) rooms
 
 pub any-order : AnyOrderClaim
 any-order =
     record {
       decoded = λ rec rooms parts other plain w r. same-decoded rec parts other plain w r rooms;
-      read = λ rec parts other h b u v h′ b′ u′ v′ answer plain w r p. promise-alike rec (joined other) (same-decoded rec parts other plain w r) h b u v h′ b′ u′ v′ answer p;
+      read = λ rec parts other d d′ answer plain w r p. promise-alike rec (joined other) (same-decoded rec parts other plain w r) d d′ answer p;
     }

@@ -43,7 +43,7 @@ same-self s =
       T-true (sameBy eqℤ (s .b) (s .b)) (by-same eqℤ refl-ℤ (s .b)),
       T-true (sameBy eqℤ (s .u) (s .u)) (by-same eqℤ refl-ℤ (s .u)),
       T-true (sameBy eqℤ (s .v) (s .v)) (by-same eqℤ refl-ℤ (s .v)),
-    ) tt
+    ) (by-same eqb eqb-refl (s .barriers))
 
 pub same-state : (s t : State) → T (sameState s t) → s ≡ t
 unfolding sameState
@@ -57,7 +57,9 @@ same-state s t h =
     let b6 = b5 && sameBy eqℤ (s .h) (t .h) in
     let b7 = b6 && sameBy eqℤ (s .b) (t .b) in
     let b8 = b7 && sameBy eqℤ (s .u) (t .u) in
-    let p9 = and-iff b8 (sameBy eqℤ (s .v) (t .v)) .0 h in
+    let b9 = b8 && sameBy eqℤ (s .v) (t .v) in
+    let p10 = and-iff b9 (sameBy eqb (s .barriers) (t .barriers)) .0 h in
+    let p9 = and-iff b8 (sameBy eqℤ (s .v) (t .v)) .0 (p10 .0) in
     let p8 = and-iff b7 (sameBy eqℤ (s .u) (t .u)) .0 (p9 .0) in
     let p7 = and-iff b6 (sameBy eqℤ (s .b) (t .b)) .0 (p8 .0) in
     let p6 = and-iff b5 (sameBy eqℤ (s .h) (t .h)) .0 (p7 .0) in
@@ -77,6 +79,7 @@ same-state s t h =
       b = same-by eqℤ same-ℤ (s .b) (t .b) (p7 .1) i;
       u = same-by eqℤ same-ℤ (s .u) (t .u) (p8 .1) i;
       v = same-by eqℤ same-ℤ (s .v) (t .v) (p9 .1) i;
+      barriers = same-by eqb eqb→eq (s .barriers) (t .barriers) (p10 .1) i;
     }
 
 -- ---- same

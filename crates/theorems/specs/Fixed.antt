@@ -40,15 +40,7 @@ met = record {
   );
   depth = λ s. (totalAnswer (totalTest s) (totalDepth s), record { answers = refl; tells = refl });
   energy = λ s. (totalAnswer (totalTest s) (energy4 s), record { answers = refl; tells = refl });
-  read = λ rec h b u v.
-      let x = readOf rec h b u v in (
-        readAnswer x,
-        readInto (λ s. s .h) x h,
-        readInto (λ s. s .b) x b,
-        readInto (λ s. s .u) x u,
-        readInto (λ s. s .v) x v,
-        record { answers = refl; tells = refl; fills-h = refl; fills-b = refl; fills-u = refl; fills-v = refl },
-      );
+  read = λ rec d. (readAnswer (readOf rec d), readInto (readOf rec d) d, record { answers = refl; tells = refl; fills = refl });
   compare = λ first second. (compareAnswer first second, record { answers = refl; tells = refl });
   history = made;
 }
@@ -74,13 +66,7 @@ fixed = record {
   run = λ s x y inflow m work k l a b p q. (p .answers ∙ sym (q .answers), p .steps ∙ sym (q .steps), p .clears ∙ sym (q .clears));
   depth = λ s a b p q. p .answers ∙ sym (q .answers);
   energy = λ s a b p q. p .answers ∙ sym (q .answers);
-  read = λ rec h b u v h′ b′ u′ v′ h″ b″ u″ v″ a c p q. (
-    p .answers ∙ sym (q .answers),
-    p .fills-h ∙ sym (q .fills-h),
-    p .fills-b ∙ sym (q .fills-b),
-    p .fills-u ∙ sym (q .fills-u),
-    p .fills-v ∙ sym (q .fills-v),
-  );
+  read = λ rec d x y a b p q. (p .answers ∙ sym (q .answers), p .fills ∙ sym (q .fills));
   compare = λ first second a b p q. p .answers ∙ sym (q .answers);
   history = λ s x y calls p q. leads s x calls p ∙ sym (leads s y calls q);
 }

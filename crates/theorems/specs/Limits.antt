@@ -161,14 +161,15 @@ tested-iff s further =
               bottoms = f .1 .0;
               us = f .1 .1 .0;
               vs = f .1 .1 .1 .0;
+              bars = f .1 .1 .1 .1 .0;
               still-west = edge-iff s closedWest (s .u) (x .columns .some) .0 (z .1 .0);
               still-south = edge-iff s closedSouth (s .v) (x .columns .some) .0 (z .1 .1 .0);
             },
-            f .1 .1 .1 .1,
+            f .1 .1 .1 .1 .1,
           ),
       λ p.
           let l = p .0 in
-          let f = e .1 (l .depths, (l .bottoms, (l .us, (l .vs, p .1)))) in
+          let f = e .1 (l .depths, (l .bottoms, (l .us, (l .vs, (l .bars, p .1))))) in
           let w = edge-iff s closedWest (s .u) (l .columns .some) .1 (l .still-west) in
           let v = edge-iff s closedSouth (s .v) (l .columns .some) .1 (l .still-south) in
           record {

@@ -1,14 +1,14 @@
 -- The fields of a record, and one more after them. Assumes nothing.
 use mathlib.Core.Path.{_≡_, refl, sym, ap, subst, _∙_}
 use mathlib.Core.Logic.{inl, inr}
-use mathlib.Core.Bool.{Bool, true, false, cond, _||_}
+use mathlib.Core.Bool.{Bool, true, false, cond, _||_, or-false}
 use mathlib.Core.List.{List, [], _∷_, _++_, append-assoc, append-nil}
 use Prim.Native.Nat.{ℕ}
 use lib.Dec.{eqb}
 use borrow.Author.Tests.{eq-eqb, ne-eqb}
 use Rattle.model.specs.Record.{Part, has, valueOf}
 use Rattle.model.specs.Claims.{Among}
-use Rattle.theorems.specs.Truth.{or-false, differ}
+use Rattle.theorems.specs.Truth.{differ}
 use Rattle.theorems.specs.Walks.{Fine, AllFine}
 
 -- ---- whether a tag is among them

@@ -147,6 +147,6 @@ pub output-fits : OutputClaim
 unfolding programOutput
 output-fits input =
     le-trans
-    (stepped-long (replicate programCells (pos 0)) programWork (programRead input (replicate 4 programCells))
-    (λ s t h. let d = decoded-within input (replicate 4 programCells) s t (program-read input (replicate 4 programCells) s t h) in (d .0, d .1 .0)))
+    (stepped-long (replicate programCells (pos 0)) programWork (programRead input (replicate 5 programCells))
+    (λ s t h. let d = decoded-within input (replicate 5 programCells) s t (program-read input (replicate 5 programCells) s t h) in (d .0, d .1 .0)))
     (omega arith)

@@ -4,13 +4,10 @@ use mathlib.Core.Logic.{_↔_, _⊎_, inl, inr, ⊎-elim}
 use mathlib.Core.List.{List, [], _∷_}
 use mathlib.Core.Option.{Option, none, some}
 use Prim.Native.Nat.{ℕ}
-use lib.IntN.{ℤ}
-use lib.ListN.{length}
-use Rattle.model.specs.Grid.{filled}
-use Rattle.model.specs.State.{State, parametersOf, cells}
+use Rattle.model.specs.State.{State, Fields, parametersOf}
 use Rattle.model.specs.Answers.{toldRead}
 use Rattle.model.specs.Record.{Part, Walked, damaged, whole, walked, stateIn, timestampIn, recordTests, recordTest, Decoded, accepted, refused, judged, readBy, decode}
-use Rattle.model.specs.Promises.{readAnswer, readInto, readOf, ReadPromise}
+use Rattle.model.specs.Promises.{readAnswer, roomsIn, put, readInto, readOf, ReadPromise}
 use Rattle.model.specs.Claims.{ReadCause, Readable, ReadCausesClaim}
 use Rattle.model.specs.declared.Parameters.{Parameters}
 use Rattle.model.specs.declared.Timestamp.{Timestamp}
@@ -74,7 +71,7 @@ accepts rec rooms s t =
     accepted-by rooms (walked rec) s t
     ⟫ (
       λ f.
-          let p = subst₂ (λ x y. Fit x y (f .parts) rooms) (f .state) (f .timestamp) (fields-iff (f .parts) rooms .0 (f .passes)) in
+          let p = subst₂ (λ x y. Fit x y (f .parts) rooms) (f .state) (f .timestamp) (fields-iff (f .parts) rooms (whole-iff rec (f .parts) .0 (f .walks) .1) .0 (f .passes)) in
           record {
             parts = f .parts;
             whole = whole-iff rec (f .parts) .0 (f .walks);
@@ -90,7 +87,7 @@ accepts rec rooms s t =
           record {
             parts = g .parts;
             walks = whole-iff rec (g .parts) .1 (g .whole);
-            passes = fields-iff (g .parts) rooms .1 (subst₂ (λ x y. Fit x y (g .parts) rooms) (sym (g .state)) (sym (g .timestamp)) p);
+            passes = fields-iff (g .parts) rooms (g .whole .1) .1 (subst₂ (λ x y. Fit x y (g .parts) rooms) (sym (g .state)) (sym (g .timestamp)) p);
             state = g .state;
             timestamp = g .timestamp;
           },
@@ -111,58 +108,28 @@ answer-read : (x : Decoded) (p : Parameters) (t : Timestamp) → Read p t ≡ re
 answer-read (accepted s y) p t e = let h : y ≡ t = cc e in record { state = s; is = ap (accepted s) h; parameters = cc e }
 answer-read (refused r) p t e = differ (cc e)
 
-module _ (rec : List ℕ) (h b u v h′ b′ u′ v′ : List ℤ) where
+module _ (rec : List ℕ) (d d′ : Fields) where
   -- what a read leaves, by what it found
-  promised : (x : Decoded) → readOf rec h b u v ≡ x
-      → h′ ≡ readInto (λ s. s .h) x h → b′ ≡ readInto (λ s. s .b) x b → u′ ≡ readInto (λ s. s .u) x u → v′ ≡ readInto (λ s. s .v) x v
-      → ReadPromise rec h b u v (readAnswer x) h′ b′ u′ v′
-  promised x e p q y z =
-      let a = ap readAnswer (sym e) in
-      record {
-        answers = a;
-        tells = ap toldRead a;
-        fills-h = p ∙ ap (λ x. readInto (λ s. s .h) x h) (sym e);
-        fills-b = q ∙ ap (λ x. readInto (λ s. s .b) x b) (sym e);
-        fills-u = y ∙ ap (λ x. readInto (λ s. s .u) x u) (sym e);
-        fills-v = z ∙ ap (λ x. readInto (λ s. s .v) x v) (sym e);
-      }
+  promised : (x : Decoded) → readOf rec d ≡ x → d′ ≡ readInto x d → ReadPromise rec d (readAnswer x) d′
+  promised x e p = let a = ap readAnswer (sym e) in record { answers = a; tells = ap toldRead a; fills = p ∙ ap (λ x. readInto x d) (sym e) }
 
-  read-refuses : (r : Refusal) → ReadPromise rec h b u v (Refused r) h′ b′ u′ v′
-      ↔ (ReadCause rec (length h ∷ length b ∷ length u ∷ length v ∷ []) r × (h′ ≡ h) × (b′ ≡ b) × (u′ ≡ u) × (v′ ≡ v))
+  read-refuses : (r : Refusal) → ReadPromise rec d (Refused r) d′ ↔ (ReadCause rec (roomsIn d) r × (d′ ≡ d))
   unfolding readOf
   read-refuses r =
-      let i = refuses rec (length h ∷ length b ∷ length u ∷ length v ∷ []) r in (
-        λ p.
-            let e = answer-refused (readOf rec h b u v) r (p .answers) in (
-              i .0 e,
-              p .fills-h ∙ ap (λ x. readInto (λ s. s .h) x h) e,
-              p .fills-b ∙ ap (λ x. readInto (λ s. s .b) x b) e,
-              p .fills-u ∙ ap (λ x. readInto (λ s. s .u) x u) e,
-              p .fills-v ∙ ap (λ x. readInto (λ s. s .v) x v) e,
-            ),
-        λ c. promised (refused r) (i .1 (c .0)) (c .1) (c .2) (c .3) (c .4),
+      let i = refuses rec (roomsIn d) r in (
+        λ p. let e = answer-refused (readOf rec d) r (p .answers) in (i .0 e, p .fills ∙ ap (λ x. readInto x d) e),
+        λ c. promised (refused r) (i .1 (c .0)) (c .1),
       )
 
-  pub read-accepts : (p : Parameters) (t : Timestamp) → ReadPromise rec h b u v (Read p t) h′ b′ u′ v′
-      ↔ ((s : State) × Readable rec (length h ∷ length b ∷ length u ∷ length v ∷ []) s t × (p ≡ parametersOf s)
-      × (h′ ≡ filled (cells s) (s .h) h) × (b′ ≡ filled (cells s) (s .b) b) × (u′ ≡ filled (cells s) (s .u) u) × (v′ ≡ filled (cells s) (s .v) v))
+  pub read-accepts : (p : Parameters) (t : Timestamp)
+      → ReadPromise rec d (Read p t) d′ ↔ ((s : State) × Readable rec (roomsIn d) s t × (p ≡ parametersOf s) × (d′ ≡ put s d))
   unfolding readOf
   read-accepts p t =
-      let i = accepts rec (length h ∷ length b ∷ length u ∷ length v ∷ []) in (
+      let i = accepts rec (roomsIn d) in (
         λ r.
-            let f = answer-read (readOf rec h b u v) p t (r .answers) in
-            let e = f .is in (
-              f .state,
-              i (f .state) t .0 e,
-              f .parameters,
-              r .fills-h ∙ ap (λ x. readInto (λ s. s .h) x h) e,
-              r .fills-b ∙ ap (λ x. readInto (λ s. s .b) x b) e,
-              r .fills-u ∙ ap (λ x. readInto (λ s. s .u) x u) e,
-              r .fills-v ∙ ap (λ x. readInto (λ s. s .v) x v) e,
-            ),
-        λ c.
-            subst (λ q. ReadPromise rec h b u v (Read q t) h′ b′ u′ v′) (sym (c .2))
-            (promised (accepted (c .0) t) (i (c .0) t .1 (c .1)) (c .3) (c .4) (c .5) (c .6)),
+            let f = answer-read (readOf rec d) p t (r .answers) in
+            (f .state, i (f .state) t .0 (f .is), f .parameters, r .fills ∙ ap (λ x. readInto x d) (f .is)),
+        λ c. subst (λ q. ReadPromise rec d (Read q t) d′) (sym (c .2)) (promised (accepted (c .0) t) (i (c .0) t .1 (c .1)) (c .3)),
       )
 
 pub read-causes : ReadCausesClaim

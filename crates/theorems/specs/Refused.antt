@@ -7,7 +7,7 @@ use native.Mathlib.Omega.{arith}
 use lib.Dec.{lit≤}
 use lib.IntN.{ℤ}
 use lib.ListN.{length}
-use Rattle.model.specs.State.{State, cells}
+use Rattle.model.specs.State.{State, Fields, cells}
 use Rattle.model.specs.Answers.{number}
 use Rattle.model.specs.Tests.{Test}
 use Rattle.model.specs.Refusals.{Taken, taken, fieldsOf, runLengthTest, workTest, lengthTests, valueTests, stateTests}
@@ -33,9 +33,9 @@ fill-refused : {B A : Type 0} → FillRefused B A
 fill-refused by tell none m ds a ds′ n p = absurd (n (p .answers))
 fill-refused by tell (some r) m ds a ds′ n p = p .fills ∙ kept r m ds
 
-read-refused : {r : Refusal} (f : State → List ℤ) (x : Decoded) (d : List ℤ) → ReadAnswer.Refused r ≡ readAnswer x → readInto f x d ≡ d
-read-refused f (accepted s t) d h = differ (cc h)
-read-refused f (refused r) d h = refl
+read-refused : {r : Refusal} (x : Decoded) (d : Fields) → ReadAnswer.Refused r ≡ readAnswer x → readInto x d ≡ d
+read-refused (accepted s t) d h = differ (cc h)
+read-refused (refused r) d h = refl
 
 -- ---- states
 
@@ -72,13 +72,7 @@ refused-leaves = record {
   step = λ s s′ inflow work work′ r p. p .steps ∙ step-refused s (twoPass s inflow) (stepTest s inflow (length work)) (p .answers);
   step-6 = λ s s′ inflow work work′ a k f p. p .steps ∙ step-out s (twoPass s inflow) (stepTest s inflow (length work)) (p .answers);
   run = λ s s′ inflow work work′ m r p. p .steps ∙ run-refused s (runTest s inflow m (length work)) (runFrom m 0 s inflow) (ran (λ a. RunAnswer.Refused r ≡ a → ⊥) (λ k h. differ (cc h)) (λ k p f c h. differ (cc h)) m 0 s inflow) (p .answers);
-  read = λ rec h b u v h′ b′ u′ v′ r p.
-      let x = readOf rec h b u v in (
-        p .fills-h ∙ read-refused (λ s. s .h) x h (p .answers),
-        p .fills-b ∙ read-refused (λ s. s .b) x b (p .answers),
-        p .fills-u ∙ read-refused (λ s. s .u) x u (p .answers),
-        p .fills-v ∙ read-refused (λ s. s .v) x v (p .answers),
-      );
+  read = λ rec d d′ r p. p .fills ∙ read-refused (readOf rec d) d (p .answers);
 }
 
 -- ---- the work space

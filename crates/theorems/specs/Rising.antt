@@ -1,14 +1,15 @@
 -- A record whose tags rise: its fields before the first tag that it lacks stand in front, by the table of tags. Assumes nothing.
 use mathlib.Core.Path.{_≡_, refl, sym, ap, ap₂, subst, _∙_}
 use mathlib.Core.Bool.{Bool, true, false, cond, _||_}
-use mathlib.Core.List.{List, [], _∷_, _++_, map, append-assoc}
+use mathlib.Core.List.{List, [], _∷_, _++_, map, append-assoc, append-nil}
 use Prim.Native.Nat.{ℕ, suc, _+_, _≤_, _<_}
 use native.Mathlib.Omega.{arith}
 use lib.Dec.{T, eqb, ltb}
-use lib.ListN.{length, take, replicate}
+use lib.ListN.{length, take, replicate, length-replicate}
 use lib.Seq.{take-at}
 use borrow.Author.Tests.{eqb-true, eqb-false, eq-eqb, ne-eqb}
 use Rattle.model.specs.Record.{TagRow, tagTable, Part, joined, bytes, has, valueOf, rises, bytesFor, ownOrZeros, leading}
+use Rattle.model.specs.Claims.{zeroField}
 use Rattle.theorems.specs.Truth.{T-true, and-iff, eq-iff, lt-iff, differ}
 use Rattle.theorems.specs.Walks.{AllFine}
 use Rattle.theorems.specs.TagLaws.{follow, tagsOf, known-iff}
@@ -58,10 +59,18 @@ abbrev pub next : List Part → ℕ → List TagRow → ℕ
 next ps a [] = a
 next ps a (row ∷ rows) = cond (has (row .tag) ps) (next ps (suc a) rows) (suc a)
 
-pub record Front (ps front : List Part) (a : ℕ) : Type 0 where
+-- `l` is what is left of the fields ps from tag a on
+pub record Left (a : ℕ) (ps l : List Part) : Type 0 where
+  pub rising : T (rises (tags l))
+  pub from : From a l
+  pub same-has : (t : ℕ) → a ≤ t → has t ps ≡ has t l
+  pub same-value : (t : ℕ) → a ≤ t → valueOf t ps ≡ valueOf t l
+
+-- the fields l, of all the fields ps, begin with `front`; what is left has tags from a on
+pub record Front (ps l front : List Part) (a : ℕ) : Type 0 where
   pub rest : List Part
-  pub splits : ps ≡ front ++ rest
-  pub above : From a rest
+  pub splits : l ≡ front ++ rest
+  pub left : Left a ps rest
 
 -- where the tags of l rise from a on, a field of tag a comes first
 at-head : (a : ℕ) (p : Part) (l : List Part) → From a (p ∷ l) → T (rises (tags (p ∷ l))) → has a (p ∷ l) ≡ true → p .tag ≡ a
@@ -73,13 +82,6 @@ at-head a p l b r q = here (eqb (p .tag) a) refl
     here : (x : Bool) → eqb (p .tag) a ≡ x → p .tag ≡ a
     here true k = eqb-true (p .tag) a k
     here false k = let c = none-below a (suc (p .tag)) l (rises-on p l r .1) (above (b .0) (eqb-false (p .tag) a k)) in differ (cc (sym q ∙ ap₂ _||_ k c))
-
--- `l` is what is left of the fields ps from tag a on
-pub record Left (a : ℕ) (ps l : List Part) : Type 0 where
-  pub rising : T (rises (tags l))
-  pub from : From a l
-  pub same-has : (t : ℕ) → a ≤ t → has t ps ≡ has t l
-  pub same-value : (t : ℕ) → a ≤ t → valueOf t ps ≡ valueOf t l
 
 module _ (a : ℕ) (ps : List Part) where
   -- without its first field, of tag a
@@ -100,24 +102,33 @@ module _ (a : ℕ) (ps : List Part) where
       λ i. record { tag = k i; value = sym z i }
 
   -- by whether there is a field of tag a
-  front-by : (f : List Part) (n : ℕ) → ((l : List Part) → Left (suc a) ps l → Front l f n) → (b : Bool) → has a ps ≡ b → (l : List Part) → Left a ps l
-      → Front l (cond b (part a (valueOf a ps) ∷ f) []) (cond b n (suc a))
-  front-by f n ih false q l x = record { rest = l; splits = refl; above = from-above a l (x .from) (sym (x .same-has a (omega arith)) ∙ q) }
+  front-by : (f : List Part) (n : ℕ) → ((l : List Part) → Left (suc a) ps l → Front ps l f n) → (b : Bool) → has a ps ≡ b → (l : List Part) → Left a ps l
+      → Front ps l (cond b (part a (valueOf a ps) ∷ f) []) (cond b n (suc a))
+  front-by f n ih false q l x = record {
+    rest = l;
+    splits = refl;
+    left = record {
+      rising = x .rising;
+      from = from-above a l (x .from) (sym (x .same-has a (omega arith)) ∙ q);
+      same-has = λ t m. x .same-has t (omega arith);
+      same-value = λ t m. x .same-value t (omega arith);
+    };
+  }
   front-by f n ih true q [] x = differ (cc (sym q ∙ x .same-has a (omega arith)))
   front-by f n ih true q (p ∷ l) x =
       let k = at-head a p l (x .from) (x .rising) (sym (x .same-has a (omega arith)) ∙ q) in
       let i = ih l (left-on p l k x) in
-      record { rest = i .rest; splits = ap₂ _∷_ (same-part p l k x) (i .splits); above = i .above }
+      record { rest = i .rest; splits = ap₂ _∷_ (same-part p l k x) (i .splits); left = i .left }
 
-in-front : (a : ℕ) (ps l : List Part) (rows : List TagRow) → T (follow a (tagsOf rows)) → Left a ps l → Front l (leading ps rows) (next ps a rows)
-in-front a ps l [] f x = record { rest = l; splits = refl; above = x .from }
+pub in-front : (a : ℕ) (ps l : List Part) (rows : List TagRow) → T (follow a (tagsOf rows)) → Left a ps l → Front ps l (leading ps rows) (next ps a rows)
+in-front a ps l [] f x = record { rest = l; splits = refl; left = x }
 in-front a ps l (row ∷ rows) f x =
     let g = and-iff (eqb (row .tag) a) (follow (suc a) (tagsOf rows)) .0 f in
     let e = eq-iff (row .tag) a .0 (g .0) in
-    subst (λ t. Front l (cond (has t ps) (part t (valueOf t ps) ∷ leading ps rows) []) (cond (has t ps) (next ps (suc a) rows) (suc a))) (sym e)
+    subst (λ t. Front ps l (cond (has t ps) (part t (valueOf t ps) ∷ leading ps rows) []) (cond (has t ps) (next ps (suc a) rows) (suc a))) (sym e)
     (front-by a ps (leading ps rows) (next ps (suc a) rows) (λ l y. in-front (suc a) ps l rows (g .1) y) (has a ps) refl l x)
 
-pub front : (ps : List Part) → T (rises (tags ps)) → From 1 ps → Front ps (leading ps tagTable) (next ps 1 tagTable)
+pub front : (ps : List Part) → T (rises (tags ps)) → From 1 ps → Front ps ps (leading ps tagTable) (next ps 1 tagTable)
 front ps r f = in-front 1 ps ps tagTable tt (record { rising = r; from = f; same-has = λ t n. refl; same-value = λ t n. refl })
 
 -- ---- tags that are known
@@ -134,10 +145,13 @@ known-tags seen (p ∷ ps) f =
     ((k .0, m .0), (k .1, m .1))
 
 -- so nothing comes past the last of them
-pub nothing-past : (front rest : List Part) → To (length tagTable) (front ++ rest) → From (suc (length tagTable)) rest → rest ≡ []
-nothing-past [] [] t f = refl
-nothing-past [] (p ∷ rest) t f = absurd (let x = t .0 in let y = f .0 in omega arith)
-nothing-past (p ∷ front) rest t f = nothing-past front rest (t .1) f
+pub to-rest : (k : ℕ) (front rest : List Part) → To k (front ++ rest) → To k rest
+to-rest k [] rest t = t
+to-rest k (p ∷ front) rest t = to-rest k front rest (t .1)
+
+pub nothing-past : (rest : List Part) → To (length tagTable) rest → From (suc (length tagTable)) rest → rest ≡ []
+nothing-past [] t f = refl
+nothing-past (p ∷ rest) t f = absurd (let x = t .0 in let y = f .0 in omega arith)
 
 -- ---- the fields that come back
 
@@ -187,6 +201,10 @@ pub joined-append : (a b : List Part) → joined (a ++ b) ≡ joined a ++ joined
 joined-append [] b = refl
 joined-append (p ∷ a) b =
     ap (λ l. p .tag ∷ (bytes 2 (length (p .value)) ++ l)) (ap (λ l. p .value ++ l) (joined-append a b) ∙ sym (append-assoc (p .value) (joined a) (joined b)))
+
+-- those of a field of zeros
+pub zero-bytes : (t m : ℕ) → joined (part t (replicate m 0) ∷ []) ≡ zeroField t m
+zero-bytes t m = ap₂ (λ n l. t ∷ (bytes 2 n ++ l)) (length-replicate m 0) (append-nil (replicate m 0))
 
 pub front-bytes : (a b : List Part) → take (length (joined a)) (joined (a ++ b)) ≡ joined a
 front-bytes a b = ap (take (length (joined a))) (joined-append a b) ∙ take-at (joined a) (joined b) (length (joined a)) refl

@@ -1,34 +1,37 @@
 -- A state within the limits that is written and read again is the same state with the same timestamp. Assumes nothing.
 use mathlib.Core.Path.{_≡_, refl, sym, ap, ap₂, subst, _∙_}
 use mathlib.Core.Logic.{_↔_}
-use mathlib.Core.List.{List, [], _∷_, _++_}
+use mathlib.Core.Bool.{Bool, true, false, not, _||_}
+use mathlib.Core.List.{List, [], _∷_, _++_, map}
 use mathlib.Core.Option.{Option, none, some}
 use Prim.Native.Nat.{ℕ, suc, _*_, _^_, _≤_, _<_}
 use native.Mathlib.Nat.{le-trans, lt-of-le-of-lt, mul-le-mul}
 use native.Mathlib.Omega.{arith}
-use lib.Dec.{T, eqb, leb→le, lit<}
+use lib.Dec.{T, eqb, leb→le, lit<, lit≤}
 use lib.IntN.{ℤ, pos, negsuc, negℤ}
 use lib.Signed.{_≤ℤ_}
-use lib.ListN.{length, take, drop, getD, length-append}
+use lib.ListN.{length, take, drop, getD, length-append, length-map}
 use mir.Syntax.{Width, w16, w32}
 use mir.Val.{SFits, hbits}
 use Rattle.model.specs.Numbers.{Limits, Within, depthLimits, bottomLimits, velocityLimits, gravityLimits, coriolisLimits, ratioLimits, mostMilliseconds}
-use Rattle.model.specs.Grid.{filled}
-use Rattle.model.specs.State.{State, stateOf, parametersOf, cells, FieldWithin, WithinLimits}
+use Rattle.model.specs.Grid.{tabulate}
+use Rattle.model.specs.State.{State, Fields, stateOf, stateFrom, parametersOf, cells, FieldWithin, WithinLimits}
 use Rattle.model.specs.Refusals.{fieldsOf, lengthTests, timedContentTests, roomTests}
-use Rattle.model.specs.Record.{tagTable, bytes4, bytes2, signed4, signed2, eachBy, numbers, Part, valueOf, partsOf, encode, recordLength, missingTest, walked, whole, stateIn, timestampIn, bytesTests, recordTests, recordTest, accepted, judged, readBy, decode}
-use Rattle.model.specs.Promises.{_into_, filledBy, writeTests, writeTest, writeAnswer, WritePromise, readAnswer, readInto, readOf}
-use Rattle.model.specs.Claims.{EachPasses, EachRoom, BytesOf, WriteAcceptedClaim, RoundTripClaim}
+use Rattle.model.specs.Record.{tagTable, bytes4, bytes2, signed4, signed2, eachBy, numbers, Part, has, valueOf, partsOf, encode, recordLength, missingTest, walked, whole, stateIn, timestampIn, bytesTests, recordTests, recordTest, accepted, judged, readBy, decode}
+use Rattle.model.specs.Promises.{_into_, filledBy, writeTests, writeTest, writeAnswer, WritePromise, readAnswer, roomsIn, put, readInto, readOf}
+use Rattle.model.specs.Claims.{EachPasses, EachRoom, Missing, BytesOf, WriteAcceptedClaim, RoundTripClaim}
 use Rattle.model.specs.declared.Timestamp.{Timestamp}
 use Rattle.model.specs.declared.Refusal.{Refusal}
 use Rattle.model.specs.declared.WriteAnswer.{WriteAnswer}
 use Rattle.model.specs.declared.WriteAnswer.the-variants.{Written}
-use Rattle.theorems.specs.Truth.{_⟫_, eq-iff, differ}
+use Rattle.theorems.specs.Truth.{_⟫_, same, eq-iff, differ}
 use Rattle.theorems.specs.TestLaws.{passes, passes-append}
 use Rattle.theorems.specs.Limits.{rooms-iff, tested-iff, timed-iff, write-iff}
-use Rattle.grid.specs.CellFields.{take-filled, length-tabulate}
+use Rattle.grid.specs.CellFields.{take-filled, length-tabulate, tabulate-get}
 use Rattle.theorems.specs.NumbersAsBytes.{EachFits, there-back, get-put, numbers-put, length-each}
 use Rattle.theorems.specs.Walks.{AllShort, all-fine, walks}
+use Rattle.theorems.specs.TagLaws.{there, among-iff}
+use Rattle.theorems.specs.Damage.{whole-iff}
 
 -- ---- a number within its limits fits its bytes
 
@@ -86,21 +89,38 @@ back2 f h p = ap (λ m. numbers signed2 2 m (eachBy bytes2 f)) (sym (p .long)) �
 
 -- ---- the tests of a record
 
-pub bytes-iff : (m : ℕ) (parts : List Part) → EachPasses (bytesTests m parts tagTable) ↔ BytesOf m parts
-bytes-iff m parts =
-    let i : (t k : ℕ) → _ = λ t k. eq-iff (length (valueOf t parts)) (k * m) in (
-      λ p. (i 4 4 .0 (p .0), i 5 4 .0 (p .1 .0), i 6 2 .0 (p .1 .1 .0), i 7 2 .0 (p .1 .1 .1 .0)),
-      λ b. (i 4 4 .1 (b .0), (i 5 4 .1 (b .1), (i 6 2 .1 (b .2), (i 7 2 .1 (b .3), tt)))),
+-- what is asked of a field where it is there; a field that must be there is
+where-there : (h e : Bool) {A B : Type 0} → T h ↔ A → T e ↔ B → T (not h || e) ↔ (A → B)
+where-there true e i j = (λ t a. j .0 t, λ f. j .1 (f (i .0 tt)))
+where-there false e i j = (λ t a. absurd (i .1 a), λ f. tt)
+
+one-each : (a m : ℕ) → (a ≡ 1 * m) ↔ (a ≡ m)
+one-each a m = (λ e. omega arith, λ e. omega arith)
+
+surely : {A B : Type 0} → A → (A → B) ↔ B
+surely a = (λ f. f a, λ b x. b)
+
+pub bytes-iff : (m : ℕ) (parts : List Part) → (Missing parts → ⊥) → EachPasses (bytesTests m parts tagTable) ↔ BytesOf m parts
+bytes-iff m parts full =
+    let n : (t : ℕ) → ℕ = λ t. length (valueOf t parts) in
+    let asked : (t k : ℕ) → T (not (has t parts) || eqb (n t) (k * m)) ↔ (T (has t parts) → n t ≡ k * m) = λ t k. where-there (has t parts) (eqb (n t) (k * m)) same (eq-iff (n t) (k * m)) in
+    let i = asked 4 4 ⟫ surely (there parts full 4 (lit≤ tt) (lit≤ tt)) in
+    let j = asked 5 4 ⟫ surely (there parts full 5 (lit≤ tt) (lit≤ tt)) in
+    let k = asked 6 2 ⟫ surely (there parts full 6 (lit≤ tt) (lit≤ tt)) in
+    let l = asked 7 2 ⟫ surely (there parts full 7 (lit≤ tt) (lit≤ tt)) in
+    let o = where-there (has 9 parts) (eqb (n 9) (1 * m)) (among-iff 9 parts) (eq-iff (n 9) (1 * m) ⟫ one-each (n 9) m) in (
+      λ p. (i .0 (p .0), j .0 (p .1 .0), k .0 (p .1 .1 .0), l .0 (p .1 .1 .1 .0), o .0 (p .1 .1 .1 .1 .0)),
+      λ b. (i .1 (b .0), (j .1 (b .1), (k .1 (b .2), (l .1 (b .3), (o .1 (b .4), tt))))),
     )
 
 -- what they ask; the state has as many numbers in each field as cells (a state that is read does)
 abbrev pub Fit : State → Timestamp → List Part → (rooms : List ℕ) → Type 0
 Fit s t parts rooms = BytesOf (cells s) parts × EachRoom (cells s) rooms × (t .milliseconds ≤ mostMilliseconds) × WithinLimits s
 
-pub record-iff : (s : State) (t : Timestamp) (parts : List Part) (rooms : List ℕ) → EachPasses (lengthTests (fieldsOf s))
+pub record-iff : (s : State) (t : Timestamp) (parts : List Part) (rooms : List ℕ) → (Missing parts → ⊥) → EachPasses (lengthTests (fieldsOf s))
     → (recordTest s t parts rooms ≡ none) ↔ Fit s t parts rooms
 unfolding recordTest
-record-iff s t parts rooms lengths =
+record-iff s t parts rooms full lengths =
     let m = cells s in
     let content = timedContentTests s t (fieldsOf s) in
     let c = timed-iff s t (fieldsOf s) in
@@ -112,8 +132,8 @@ record-iff s t parts rooms lengths =
           let x = i .0 (p .1) in
           let y = j .0 (x .1) in
           let z = c .0 (y .1) in
-          (bytes-iff m parts .0 (x .0), rooms-iff m rooms .0 (y .0), z .1, tested-iff s [] .0 (record { grid = p .0; lengths = lengths; content = z .0 }) .0),
-      λ f. let x = tested-iff s [] .1 (f .3, tt) in (x .grid, i .1 (bytes-iff m parts .1 (f .0), j .1 (rooms-iff m rooms .1 (f .1), c .1 (x .content, f .2)))),
+          (bytes-iff m parts full .0 (x .0), rooms-iff m rooms .0 (y .0), z .1, tested-iff s [] .0 (record { grid = p .0; lengths = lengths; content = z .0 }) .0),
+      λ f. let x = tested-iff s [] .1 (f .3, tt) in (x .grid, i .1 (bytes-iff m parts full .1 (f .0), j .1 (rooms-iff m rooms .1 (f .1), c .1 (x .content, f .2)))),
     )
 
 -- those of a record that is read
@@ -124,11 +144,14 @@ long-read : (parts : List Part) → EachPasses (lengthTests (fieldsOf (stateIn p
 unfolding stateIn
 long-read parts =
     let m = getD (valueOf 1 parts) 0 0 * getD (valueOf 1 parts) 1 0 in
-    (long-numbers signed4 4 m (valueOf 4 parts), (long-numbers signed4 4 m (valueOf 5 parts), (long-numbers signed2 2 m (valueOf 6 parts), (long-numbers signed2 2 m (valueOf 7 parts), tt))))
+    (long-numbers signed4 4 m (valueOf 4 parts), (long-numbers signed4 4 m (valueOf 5 parts), (long-numbers signed2 2 m (valueOf 6 parts), (long-numbers signed2 2 m (valueOf 7 parts), (barred m, tt)))))
+  where
+    barred : (m : ℕ) → T (eqb (length (map pos (tabulate m (λ k. getD (valueOf 9 parts) k 0)))) m)
+    barred m = eq-iff _ m .1 (length-map (tabulate m (λ k. getD (valueOf 9 parts) k 0)) pos ∙ length-tabulate m (λ k. getD (valueOf 9 parts) k 0))
 
-pub fields-iff : (parts : List Part) (rooms : List ℕ)
+pub fields-iff : (parts : List Part) (rooms : List ℕ) → (Missing parts → ⊥)
     → (recordTest (stateIn parts) (timestampIn parts) parts rooms ≡ none) ↔ Fit (stateIn parts) (timestampIn parts) parts rooms
-fields-iff parts rooms = record-iff (stateIn parts) (timestampIn parts) parts rooms (long-read parts)
+fields-iff parts rooms full = record-iff (stateIn parts) (timestampIn parts) parts rooms full (long-read parts)
 
 -- ---- the record of a state within the limits
 
@@ -143,15 +166,19 @@ module _ (s : State) (l : WithinLimits s) where
   short2 : {lim : Limits} (f : List ℤ) → FieldWithin lim (cells s) f → length (eachBy bytes2 f) < 65536
   short2 f p = omega (arith, most, long2 f p)
 
+  -- there is a byte of barriers for each cell
+  pub bars-long : length (s .barriers) ≡ cells s
+  bars-long = sym (length-map (s .barriers) pos) ∙ l .bars .long
+
   pub length-encode : (t : Timestamp) → length (encode s t) ≡ recordLength s
   unfolding encode partsOf
-  length-encode t = simp (length-append, long4 (s .h) (l .depths), long4 (s .b) (l .bottoms), long2 (s .u) (l .us), long2 (s .v) (l .vs)) (omega arith)
+  length-encode t = simp (length-append, long4 (s .h) (l .depths), long4 (s .b) (l .bottoms), long2 (s .u) (l .us), long2 (s .v) (l .vs), bars-long) (omega arith)
 
   walked-encode : (t : Timestamp) → walked (encode s t) ≡ whole (partsOf s t)
   unfolding walked missingTest partsOf encode
   walked-encode t =
-      let short : AllShort (partsOf s t) = (lit< tt, (lit< tt, (lit< tt, (short4 (s .h) (l .depths), (short4 (s .b) (l .bottoms), (short2 (s .u) (l .us), (short2 (s .v) (l .vs), (lit< tt, tt)))))))) in
-      walks (partsOf s t) (encode s t) [] 0 (length (encode s t)) [] refl refl (all-fine [] (partsOf s t) tt short) (subst (λ m. 8 ≤ m) (sym (length-encode t)) (omega arith))
+      let short : AllShort (partsOf s t) = (lit< tt, (lit< tt, (lit< tt, (short4 (s .h) (l .depths), (short4 (s .b) (l .bottoms), (short2 (s .u) (l .us), (short2 (s .v) (l .vs), (lit< tt, (omega (arith, most, bars-long), tt))))))))) in
+      walks (partsOf s t) (encode s t) [] 0 (length (encode s t)) [] refl refl (all-fine [] (partsOf s t) tt short) (subst (λ m. 9 ≤ m) (sym (length-encode t)) (omega arith))
 
   state-back : (t : Timestamp) → stateIn (partsOf s t) ≡ s
   unfolding stateIn partsOf
@@ -166,6 +193,7 @@ module _ (s : State) (l : WithinLimits s) where
     b = back4 (s .b) bottom-fits (l .bottoms) i;
     u = back2 (s .u) velocity-fits (l .us) i;
     v = back2 (s .v) velocity-fits (l .vs) i;
+    barriers = tabulate-get (cells s) (s .barriers) 0 bars-long i;
   }
 
   timestamp-back : (t : Timestamp) → t .seconds < 2 ^ 64 → t .milliseconds ≤ mostMilliseconds → timestampIn (partsOf s t) ≡ t
@@ -177,7 +205,7 @@ module _ (s : State) (l : WithinLimits s) where
 
   right : (t : Timestamp) → BytesOf (cells s) (partsOf s t)
   unfolding partsOf
-  right t = (long4 (s .h) (l .depths), long4 (s .b) (l .bottoms), long2 (s .u) (l .us), long2 (s .v) (l .vs))
+  right t = (long4 (s .h) (l .depths), long4 (s .b) (l .bottoms), long2 (s .u) (l .us), long2 (s .v) (l .vs), λ a. bars-long)
 
   -- what the writer writes is read back
   pub decode-encode : (t : Timestamp) → t .seconds < 2 ^ 64 → t .milliseconds ≤ mostMilliseconds → (rooms : List ℕ) → EachRoom (cells s) rooms
@@ -186,7 +214,7 @@ module _ (s : State) (l : WithinLimits s) where
   decode-encode t h k rooms r =
       ap (readBy rooms) (walked-encode t)
       ∙ ap₂ (λ x y. judged (recordTest x y (partsOf s t) rooms) x y) (state-back t) (timestamp-back t h k)
-      ∙ ap (λ x. judged x s t) (record-iff s t (partsOf s t) rooms (tested-iff s [] .1 (l, tt) .lengths) .1 (right t, r, k, l))
+      ∙ ap (λ x. judged x s t) (record-iff s t (partsOf s t) rooms (whole-iff (encode s t) (partsOf s t) .0 (walked-encode t) .1) (tested-iff s [] .1 (l, tt) .lengths) .1 (right t, r, k, l))
 
   -- ---- over the promises of the calls
 
@@ -199,9 +227,15 @@ module _ (s : State) (l : WithinLimits s) where
       let f = p .fills ∙ ap (λ o. filledBy o m (encode s t into d ∷ [])) e in
       (p .answers ∙ ap (writeAnswer m) e, ap (take m) (ap (λ x. getD x 0 []) f) ∙ take-filled m (encode s t) d (length-encode t))
 
--- what a reader left in a destination
-pub read-part : (m : ℕ) (f d d′ : List ℤ) → length f ≡ m → d′ ≡ filled m f d → take m d′ ≡ f
-read-part m f d d′ e p = ap (take m) p ∙ take-filled m f d e
+  -- a state put into the first places of lent fields stands there
+  pub put-there : (d : Fields) → stateFrom (parametersOf s) (put s d) ≡ s
+  put-there d = λ i.
+      stateOf (parametersOf s)
+      (take-filled (cells s) (s .h) (d .h) (l .depths .long) i)
+      (take-filled (cells s) (s .b) (d .b) (l .bottoms .long) i)
+      (take-filled (cells s) (s .u) (d .u) (l .us .long) i)
+      (take-filled (cells s) (s .v) (d .v) (l .vs .long) i)
+      (take-filled (cells s) (s .barriers) (d .barriers) bars-long i)
 
 -- the writer accepts this, and no more
 written-none : (m : ℕ) (o : Option Refusal) → writeAnswer m o ≡ Written m → o ≡ none
@@ -216,12 +250,7 @@ write-accepted s t d d′ a p =
 
 pub round-trip : RoundTripClaim
 unfolding readOf
-round-trip s t d d′ written′ h b u v h′ b′ u′ v′ answer l q ms room wp x y z k rp =
+round-trip s t d d′ written′ x x′ answer l q ms room wp rooms rp =
     let w = written s l t ms d d′ written′ room wp in
-    let rooms = length h ∷ length b ∷ length u ∷ length v ∷ [] in
-    let dec : readOf (take (recordLength s) d′) h b u v ≡ accepted s t = ap (λ r. decode r rooms) (w .1) ∙ decode-encode s l t q ms rooms (x, (y, (z, (k, tt)))) in
-    let ph = read-part (cells s) (s .h) h h′ (l .depths .long) (rp .fills-h ∙ ap (λ o. readInto (λ s. s .h) o h) dec) in
-    let pb = read-part (cells s) (s .b) b b′ (l .bottoms .long) (rp .fills-b ∙ ap (λ o. readInto (λ s. s .b) o b) dec) in
-    let pu = read-part (cells s) (s .u) u u′ (l .us .long) (rp .fills-u ∙ ap (λ o. readInto (λ s. s .u) o u) dec) in
-    let pv = read-part (cells s) (s .v) v v′ (l .vs .long) (rp .fills-v ∙ ap (λ o. readInto (λ s. s .v) o v) dec) in
-    (w .0, rp .answers ∙ ap readAnswer dec, λ i. stateOf (parametersOf s) (ph i) (pb i) (pu i) (pv i))
+    let dec : readOf (take (recordLength s) d′) x ≡ accepted s t = ap (λ r. decode r (roomsIn x)) (w .1) ∙ decode-encode s l t q ms (roomsIn x) rooms in
+    (w .0, rp .answers ∙ ap readAnswer dec, ap (stateFrom (parametersOf s)) (rp .fills ∙ ap (λ o. readInto o x) dec) ∙ put-there s l x)

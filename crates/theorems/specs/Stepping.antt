@@ -10,7 +10,7 @@ use lib.IntN.{ℤ, pos, _+ℤ_, _*ℤ_}
 use lib.ListN.{length, take}
 use Rattle.model.specs.Numbers.{rnd, total}
 use Rattle.model.specs.Grid.{at, byCell}
-use Rattle.model.specs.State.{State, cells, closedWest, closedSouth, WithinLimits}
+use Rattle.model.specs.State.{State, withFlow, cells, closedWest, closedSouth, WithinLimits}
 use Rattle.model.specs.Refusals.{Taken, taken, lengthTests}
 use Rattle.model.specs.Scheme.{vorticity, Tu, Tv, tendencyU, tendencyV}
 use Rattle.model.specs.Step.{Place, place, leavesTests, X, Y, newDepth, newU, newV, pass, leaves, Outcome, moved, stuck, passed, second, twoPass, afterStep, stepTest, stepStateBy, stepState}
@@ -89,20 +89,21 @@ closed-rest a x b true e t = ap₂ _+ℤ_ e (rnd-zero b)
 closed-rest a x b false e t = absurd t
 
 -- the two states have the same closed edges
-record SameWalls (g s : State) : Type 0 where
-  west : (i j : ℕ) → closedWest g i j ≡ closedWest s i j
-  south : (i j : ℕ) → closedSouth g i j ≡ closedSouth s i j
+pub record SameWalls (g s : State) : Type 0 where
+  pub west : (i j : ℕ) → closedWest g i j ≡ closedWest s i j
+  pub south : (i j : ℕ) → closedSouth g i j ≡ closedSouth s i j
 
 pass-walls : (s g : State) (inflow : List ℤ) → SameWalls (pass s g inflow) s
 unfolding pass closedWest closedSouth
 pass-walls s g inflow = record { west = λ i j. refl; south = λ i j. refl }
 
+-- so a velocity on a closed edge of the base s, which is 0, stays 0
 module _ (s g : State) (q : List ℤ) (same : SameWalls g s) (l : WithinLimits s) (i j : ℕ) (p : i < s .w) (r : j < s .n) where
-  rests-west : T (closedWest s i j) → newU g s q i j ≡ pos 0
+  pub rests-west : T (closedWest s i j) → newU g s q i j ≡ pos 0
   unfolding newU tendencyU
   rests-west t = closed-rest (at (s .w) (s .u) i j) (Tu g q i j) (pos 3145728 *ℤ g .R) (closedWest g i j) (l .still-west i j p r t) (subst T (sym (same .west i j)) t)
 
-  rests-south : T (closedSouth s i j) → newV g s q i j ≡ pos 0
+  pub rests-south : T (closedSouth s i j) → newV g s q i j ≡ pos 0
   unfolding newV tendencyV
   rests-south t = closed-rest (at (s .w) (s .v) i j) (Tv g q i j) (pos 3145728 *ℤ g .R) (closedSouth g i j) (l .still-south i j p r t) (subst T (sym (same .south i j)) t)
 
@@ -134,6 +135,7 @@ pass-within s g inflow same l h =
       bottoms = l .bottoms;
       us = e .1 .0;
       vs = e .1 .1 .0;
+      bars = l .bars;
       still-west = λ i j a b t. at-byCell (s .w) (s .n) (newU g s q) i j a b ∙ rests-west s g q same l i j a b (subst T (pass-walls s g inflow .west i j) t);
       still-south = λ i j a b t. at-byCell (s .w) (s .n) (newV g s q) i j a b ∙ rests-south s g q same l i j a b (subst T (pass-walls s g inflow .south i j) t);
     }
@@ -194,3 +196,17 @@ after-test s inflow l (some r) = (l, refl)
 pub step-leaves : (s : State) (inflow : List ℤ) (room : ℕ) → WithinLimits s → WithinLimits (stepState s inflow room) × (cells (stepState s inflow room) ≡ cells s)
 unfolding stepState
 step-leaves s inflow room l = after-test s inflow l (stepTest s inflow room)
+
+-- it changes h, u and v alone
+keeps-outcome : (s : State) (inflow : List ℤ) (o : Outcome) → twoPass s inflow ≡ o → let t = afterStep s o in t ≡ withFlow s (t .h) (t .u) (t .v)
+unfolding pass
+keeps-outcome s inflow (moved t) h = let e = moves s t inflow h .result in sym e ∙ ap (λ t. withFlow s (t .h) (t .u) (t .v)) e
+keeps-outcome s inflow (stuck p x) h = refl
+
+keeps-test : (s : State) (inflow : List ℤ) (x : Option Refusal) → let t = stepStateBy x s (twoPass s inflow) in t ≡ withFlow s (t .h) (t .u) (t .v)
+keeps-test s inflow none = keeps-outcome s inflow (twoPass s inflow) refl
+keeps-test s inflow (some r) = refl
+
+pub step-keeps : (s : State) (inflow : List ℤ) (room : ℕ) → let t = stepState s inflow room in t ≡ withFlow s (t .h) (t .u) (t .v)
+unfolding stepState
+step-keeps s inflow room = keeps-test s inflow (stepTest s inflow room)

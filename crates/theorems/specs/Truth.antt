@@ -28,10 +28,6 @@ pub or-iff : (a b : Bool) → T (a || b) ↔ (T a ⊎ T b)
 or-iff true b = (λ t. inl tt, λ c. tt)
 or-iff false b = (λ t. inr t, ⊎-elim (λ t. absurd t) (λ t. t))
 
-pub or-false : (b : Bool) → b || false ≡ b
-or-false true = refl
-or-false false = refl
-
 -- what does not hold of a test is told by it
 pub not-T : (b : Bool) → (T b → ⊥) → b ≡ false
 not-T true n = absurd (n tt)

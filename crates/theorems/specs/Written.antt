@@ -3,20 +3,22 @@
 use mathlib.Core.Path.{_≡_, refl, sym, ap, ap₂, subst, _∙_}
 use mathlib.Core.Bool.{Bool, true, false, cond, _||_}
 use mathlib.Core.List.{List, [], _∷_, map}
-use Prim.Native.Nat.{ℕ, suc, _≤_, _<_}
+use Prim.Native.Nat.{ℕ, zero, suc, _*_, _≤_, _<_}
 use native.Mathlib.Omega.{arith}
-use lib.Dec.{T, eqb, lit≤}
+use lib.Dec.{T, eqb, lit<, lit≤}
 use lib.ListN.{length, getD, replicate}
 use mir.Syntax.{w16, w32}
 use borrow.Author.Tests.{eqb-true}
 use Rattle.model.specs.Numbers.{any}
+use Rattle.model.specs.Grid.{tabulate}
 use Rattle.model.specs.State.{cells}
 use Rattle.model.specs.Record.{Size, fixed, perCell, TagRow, tagTable, Part, partsOf, has, valueOf, stateIn, timestampIn, bytesFor, ownOrZeros, bytes, unsigned}
 use Rattle.model.specs.Claims.{BytesOf, Missing}
+use Rattle.grid.specs.CellFields.{tabulate-get, tabulate-same}
 use Rattle.theorems.specs.Truth.{T-true}
 use Rattle.theorems.specs.NumbersAsBytes.{AllBytes, back-bytes, put-numbers}
 use Rattle.theorems.specs.Walks.{Read, AllRead}
-use Rattle.theorems.specs.TagLaws.{lastRequired, there}
+use Rattle.theorems.specs.TagLaws.{lastRequired, there, among-iff}
 
 abbrev pub part : ℕ → List ℕ → Part
 part t value = record { tag = t; value = value }
@@ -24,7 +26,7 @@ part t value = record { tag = t; value = value }
 -- ---- the value of a tag
 
 -- where the record has it
-value-read : (t : ℕ) (ps : List Part) → AllRead ps → T (has t ps) → Read (part t (valueOf t ps))
+pub value-read : (t : ℕ) (ps : List Part) → AllRead ps → T (has t ps) → Read (part t (valueOf t ps))
 value-read t [] r h = absurd h
 value-read t (p ∷ ps) r h = by (eqb (p .tag) t) refl (value-read t ps (r .1)) h
   where
@@ -54,6 +56,11 @@ pub all-bytes : (l : List ℕ) → ((k : ℕ) → getD l k 0 < 256) → AllBytes
 all-bytes [] h = tt
 all-bytes (x ∷ l) h = (h 0, all-bytes l (λ k. h (suc k)))
 
+pub byte-at : (l : List ℕ) → AllBytes l → (k : ℕ) → getD l k 0 < 256
+byte-at [] h k = lit< tt
+byte-at (x ∷ l) h zero = h .0
+byte-at (x ∷ l) h (suc k) = byte-at l (h .1) k
+
 module _ (ps : List Part) (none : Missing ps → ⊥) (each : AllRead ps) (long : BytesOf (cells (stateIn ps)) ps) where
   abbrev m : ℕ
   m = cells (stateIn ps)
@@ -71,6 +78,14 @@ module _ (ps : List Part) (none : Missing ps → ⊥) (each : AllRead ps) (long 
       let r = value-read 8 ps each (subst T (sym e) tt) in back-bytes 2 (valueOf 8 ps) (eqb-true (length (valueOf 8 ps)) 2 (r .sized)) (r .plain)
   milliseconds false e = ap (λ v. bytes 2 (unsigned v)) (absent-value 8 ps e)
 
+  -- tag 9, of a byte for each cell
+  barred : (b : Bool) → has 9 ps ≡ b → tabulate m (λ k. getD (valueOf 9 ps) k 0) ≡ cond b (valueOf 9 ps) (replicate (1 * m) 0)
+  barred true e = tabulate-get m (valueOf 9 ps) 0 (long .4 (among-iff 9 ps .0 (subst T (sym e) tt)))
+  barred false e = ap (λ v. tabulate m (λ k. getD v k 0)) (absent-value 9 ps e) ∙ tabulate-same m 0 ∙ ap (λ m. replicate m 0) (once m)
+    where
+      once : (m : ℕ) → m ≡ 1 * m
+      once m = omega arith
+
   pub fields-back : partsOf (stateIn ps) (timestampIn ps) ≡ map (ownOrZeros m ps) tagTable
   unfolding partsOf stateIn timestampIn
   fields-back =
@@ -82,7 +97,7 @@ module _ (ps : List Part) (none : Missing ps → ⊥) (each : AllRead ps) (long 
       (ap₂ _∷_ (own 5 (perCell 4) (lit≤ tt) (lit≤ tt) (λ r. put-numbers 4 w32 refl m (v 5) (long .1) (r .plain)))
       (ap₂ _∷_ (own 6 (perCell 2) (lit≤ tt) (lit≤ tt) (λ r. put-numbers 2 w16 refl m (v 6) (long .2) (r .plain)))
       (ap₂ _∷_ (own 7 (perCell 2) (lit≤ tt) (lit≤ tt) (λ r. put-numbers 2 w16 refl m (v 7) (long .3) (r .plain)))
-      (ap (λ x. part 8 x ∷ []) (milliseconds (has 8 ps) refl))))))))
+      (ap₂ (λ x y. part 8 x ∷ part 9 y ∷ []) (milliseconds (has 8 ps) refl) (barred (has 9 ps) refl))))))))
 
   -- so a value that the record has is the one that the writer makes
   value-own : (t : ℕ) (rows : List TagRow) → T (has t ps) → T (any (λ row. eqb (row .tag) t) rows) → valueOf t (map (ownOrZeros m ps) rows) ≡ valueOf t ps

@@ -1,13 +1,15 @@
 -- What the tendency call fills in has scaled energy rate zero, and scaled enstrophy rate zero where no edge is closed. Assumes nothing.
 use mathlib.Core.Path.{_≡_, refl, ap, _∙_}
 use mathlib.Core.Bool.{cond}
-use Prim.Native.Nat.{ℕ, _<_}
+use Prim.Native.Nat.{ℕ, _+_, _*_, _<_}
 use native.Mathlib.Omega.{arith}
 use lib.Dec.{T}
 use lib.IntN.{ℤ, pos, negℤ, _+ℤ_, _-ℤ_, _*ℤ_, zero-*ℤ, negℤ-negℤ}
+use lib.ListN.{getD, replicate}
 use Rattle.grid.specs.Cells.{previous-lt}
+use Rattle.grid.specs.CellFields.{same-at}
 use Rattle.model.specs.Grid.{at}
-use Rattle.model.specs.State.{State, boundaryOf, closedWest, closedSouth, WithinLimits, OpenEverywhere}
+use Rattle.model.specs.State.{State, cells, boundaryOf, barrierAt, closedWest, closedSouth, WithinLimits, OpenEverywhere}
 use Rattle.model.specs.Scheme.{toWest, toSouth, fluxU, fluxV, D, B, corner, Tu, Tv, tendencyU, tendencyV}
 use Rattle.model.specs.Rates.{energyRate, vorticityTendency, D4, enstrophyRate}
 use Rattle.model.specs.Claims.{EnergyClaim, EnstrophyClaim, PeriodicEnstrophyClaim}
@@ -62,10 +64,13 @@ enstrophy-zero s q dh du dv dh′ du′ dv′ o t =
     some : (i w : ℕ) → i < w → 0 < w
     some i w p = omega arith
 
--- kind 0 has no closed edge
-periodic-open : (s : State) → s .kind ≡ 0 → OpenEverywhere s
+-- kind 0 without barriers has no closed edge
+periodic-open : (s : State) → s .kind ≡ 0 → s .barriers ≡ replicate (cells s) 0 → OpenEverywhere s
 unfolding closedWest closedSouth boundaryOf
-periodic-open s e = record { west = λ i j p q. rw e; south = λ i j p q. rw e }
+periodic-open s e n = record { west = λ i j p q. rw (e, none-at i j); south = λ i j p q. rw (e, none-at i j) }
+  where
+    none-at : (i j : ℕ) → barrierAt s i j ≡ 0
+    none-at i j = ap (λ l. getD l (j * s .w + i) 0) n ∙ same-at (cells s) 0 (j * s .w + i)
 
 pub periodic-enstrophy : PeriodicEnstrophyClaim
-periodic-enstrophy s q dh du dv dh′ du′ dv′ e t = enstrophy-zero s q dh du dv dh′ du′ dv′ (periodic-open s e) t
+periodic-enstrophy s q dh du dv dh′ du′ dv′ e n t = enstrophy-zero s q dh du dv dh′ du′ dv′ (periodic-open s e n) t
