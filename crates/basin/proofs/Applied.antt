@@ -2,14 +2,14 @@
 -- what it leaves are zero. Assumes nothing.
 use mathlib.Core.Path.{_≡_, refl, sym, ap, subst, _∙_}
 use native.Mathlib.Omega.{arith}
-use Prim.Native.Nat.{_≤_}
+use Prim.Native.Nat.{_*_, _≤_}
 use contract.Lifetimes.{Lfts}
 use denote.Ref.{now}
 use denote.Triple.Clauses.{AtExit}
 use borrow.Fn.Kinds.{Dens, resT, endedOf}
 use lib.Dec.{lit≤}
 use lib.IntN.{pos}
-use lib.ListN.{length, getD}
+use lib.ListN.{length, getD, replicate}
 use Rattle.model.specs.Numbers.{vorticityLimits}
 use Rattle.model.specs.State.{stateOf, cells, FieldWithin, WithinLimits}
 use Rattle.model.specs.Answers.{number, answerNumbers}
@@ -61,7 +61,7 @@ module _ (call : TendenciesCall) where
       call .told .told .returns
       ∙ ap (λ x. getD (answerNumbers x) 0 0) (theorems .tendencies-accepted (call .state) (call .q) _ _ _ _ _ _ (call .told .answer) (call .told .promise) .1 (t .state, t .vorticity, t .depth, t .velocity-u, t .velocity-v))
 
-  -- the scaled energy rate is zero: every boundary, every q within its bound
+  -- the scaled energy rate is zero: every boundary, every layout of barriers, every q within its bound
   pub energy-rate-zero : call .returned ≡ 0 → energyRate (call .state) (call .dh′) (call .du′) (call .dv′) ≡ pos 0
   energy-rate-zero z = theorems .energy (call .state) (call .q) _ _ _ _ _ _ (promised z)
 
@@ -69,25 +69,25 @@ module _ (call : TendenciesCall) where
   pub energy-rate-zero-within : Taken call → energyRate (call .state) (call .dh′) (call .du′) (call .dv′) ≡ pos 0
   energy-rate-zero-within t = energy-rate-zero (returns-0 t)
 
-  -- the scaled enstrophy rate is zero where the grid wraps both ways
-  pub enstrophy-rate-zero : call .state .kind ≡ 0 → call .returned ≡ 0 → enstrophyRate (call .state) (call .dh′) (call .du′) (call .dv′) (call .q) ≡ pos 0
-  enstrophy-rate-zero k z = theorems .periodic-enstrophy (call .state) (call .q) _ _ _ _ _ _ k (promised z)
+  -- the scaled enstrophy rate is zero where the grid wraps both ways and has no barrier
+  pub enstrophy-rate-zero : call .state .kind ≡ 0 → call .state .barriers ≡ replicate (cells (call .state)) 0 → call .returned ≡ 0 → enstrophyRate (call .state) (call .dh′) (call .du′) (call .dv′) (call .q) ≡ pos 0
+  enstrophy-rate-zero k o z = theorems .periodic-enstrophy (call .state) (call .q) _ _ _ _ _ _ k o (promised z)
 
   -- at every such state within the limits
-  pub enstrophy-rate-zero-within : call .state .kind ≡ 0 → Taken call → enstrophyRate (call .state) (call .dh′) (call .du′) (call .dv′) (call .q) ≡ pos 0
-  enstrophy-rate-zero-within k t = enstrophy-rate-zero k (returns-0 t)
+  pub enstrophy-rate-zero-within : call .state .kind ≡ 0 → call .state .barriers ≡ replicate (cells (call .state)) 0 → Taken call → enstrophyRate (call .state) (call .dh′) (call .du′) (call .dv′) (call .q) ≡ pos 0
+  enstrophy-rate-zero-within k o t = enstrophy-rate-zero k o (returns-0 t)
 
 -- ---- the same of the code itself: from what a caller learns of a call, of its own parameters
 
-module _ (κs : Lfts 9) (a : Dens κs tendencies-kinds.ps) (returned : resT tendencies-kinds.r κs .Denot) (e : AtExit (endedOf 9 tendencies-kinds.ps tendencies-kinds.r) κs) where
+module _ (κs : Lfts 10) (a : Dens κs tendencies-kinds.ps) (returned : resT tendencies-kinds.r κs .Denot) (e : AtExit (endedOf 10 tendencies-kinds.ps tendencies-kinds.r) κs) where
   pub code-energy-rate-zero : tendencies-reads.Learnt κs a returned e → returned ≡ 0
-      → let (w, (n, (kind, (g, (c, (r, (h, (b, (u, (v, _)))))))))) = a in
-      let (_, (_, (_, (_, (_, (_, (_, (_, (_, (_, (_, (dh′, (du′, (dv′, _)))))))))))))) = e in
-      energyRate (stateOf (parameters w n kind g c r) (now h) (now b) (now u) (now v)) (now dh′) (now du′) (now dv′) ≡ pos 0
+      → let (w, (n, (kind, (g, (c, (r, (h, (b, (u, (v, (barriers, _))))))))))) = a in
+      let (_, (_, (_, (_, (_, (_, (_, (_, (_, (_, (_, (_, (dh′, (du′, (dv′, _))))))))))))))) = e in
+      energyRate (stateOf (parameters w n kind g c r) (now h) (now b) (now u) (now v) (now barriers)) (now dh′) (now du′) (now dv′) ≡ pos 0
   code-energy-rate-zero told z = energy-rate-zero (tendencies-call κs a returned e told) z
 
   pub code-enstrophy-rate-zero : tendencies-reads.Learnt κs a returned e → returned ≡ 0
-      → let (w, (n, (kind, (g, (c, (r, (h, (b, (u, (v, (q, _))))))))))) = a in
-      let (_, (_, (_, (_, (_, (_, (_, (_, (_, (_, (_, (dh′, (du′, (dv′, _)))))))))))))) = e in
-      kind ≡ 0 → enstrophyRate (stateOf (parameters w n kind g c r) (now h) (now b) (now u) (now v)) (now dh′) (now du′) (now dv′) (now q) ≡ pos 0
-  code-enstrophy-rate-zero told z k = enstrophy-rate-zero (tendencies-call κs a returned e told) k z
+      → let (w, (n, (kind, (g, (c, (r, (h, (b, (u, (v, (barriers, (q, _)))))))))))) = a in
+      let (_, (_, (_, (_, (_, (_, (_, (_, (_, (_, (_, (_, (dh′, (du′, (dv′, _))))))))))))))) = e in
+      kind ≡ 0 → now barriers ≡ replicate (w * n) 0 → enstrophyRate (stateOf (parameters w n kind g c r) (now h) (now b) (now u) (now v) (now barriers)) (now dh′) (now du′) (now dv′) (now q) ≡ pos 0
+  code-enstrophy-rate-zero told z k o = enstrophy-rate-zero (tendencies-call κs a returned e told) k o z

@@ -54,30 +54,30 @@ depth-balance first last {calls} z made =
 
 -- ---- the same of the code itself: from what a caller learns of a call, of its own parameters
 
-module _ (κs : Lfts 7) (a : Dens κs step-kinds.ps) (returned : resT step-kinds.r κs .Denot) (e : AtExit (endedOf 7 step-kinds.ps step-kinds.r) κs) where
+module _ (κs : Lfts 8) (a : Dens κs step-kinds.ps) (returned : resT step-kinds.r κs .Denot) (e : AtExit (endedOf 8 step-kinds.ps step-kinds.r) κs) where
   pub code-step-link : step-reads.Learnt κs a returned e → {calls : List Call} {t : State}
-      → let (w, (n, (kind, (g, (c, (r, (h, (b, (u, (v, (inflow, (work, _)))))))))))) = a in
+      → let (w, (n, (kind, (g, (c, (r, (h, (b, (u, (v, (barriers, (inflow, (work, _))))))))))))) = a in
       let (_, (_, (_, (_, (_, (_, (h′, (_, (u′, (v′, _)))))))))) = e in
       let p = parameters w n kind g c r in
-      History (stateOf p (now h′) (now b) (now u′) (now v′)) calls t → History (stateOf p (now h) (now b) (now u) (now v)) (step (now inflow) (now work) ∷ calls) t
+      History (stateOf p (now h′) (now b) (now u′) (now v′) (now barriers)) calls t → History (stateOf p (now h) (now b) (now u) (now v) (now barriers)) (step (now inflow) (now work) ∷ calls) t
   code-step-link told more = step-link (step-call κs a returned e told) more
 
-module _ (κs : Lfts 7) (a : Dens κs run-kinds.ps) (returned : resT run-kinds.r κs .Denot) (e : AtExit (endedOf 7 run-kinds.ps run-kinds.r) κs) where
+module _ (κs : Lfts 8) (a : Dens κs run-kinds.ps) (returned : resT run-kinds.r κs .Denot) (e : AtExit (endedOf 8 run-kinds.ps run-kinds.r) κs) where
   pub code-run-link : run-reads.Learnt κs a returned e → {calls : List Call} {t : State}
-      → let (w, (n, (kind, (g, (c, (r, (h, (b, (u, (v, (inflow, (steps, (work, _))))))))))))) = a in
+      → let (w, (n, (kind, (g, (c, (r, (h, (b, (u, (v, (barriers, (inflow, (steps, (work, _)))))))))))))) = a in
       let (_, (_, (_, (_, (_, (_, (h′, (_, (u′, (v′, _)))))))))) = e in
       let p = parameters w n kind g c r in
-      History (stateOf p (now h′) (now b) (now u′) (now v′)) calls t → History (stateOf p (now h) (now b) (now u) (now v)) (run (now inflow) steps (now work) ∷ calls) t
+      History (stateOf p (now h′) (now b) (now u′) (now v′) (now barriers)) calls t → History (stateOf p (now h) (now b) (now u) (now v) (now barriers)) (run (now inflow) steps (now work) ∷ calls) t
   code-run-link told more = run-link (run-call κs a returned e told) more
 
-module _ (κs κs′ : Lfts 6) (a : Dens κs depth-kinds.ps) (a′ : Dens κs′ depth-kinds.ps) (returned : resT depth-kinds.r κs .Denot) (returned′ : resT depth-kinds.r κs′ .Denot)
-    (e : AtExit (endedOf 6 depth-kinds.ps depth-kinds.r) κs) (e′ : AtExit (endedOf 6 depth-kinds.ps depth-kinds.r) κs′) where
+module _ (κs κs′ : Lfts 7) (a : Dens κs depth-kinds.ps) (a′ : Dens κs′ depth-kinds.ps) (returned : resT depth-kinds.r κs .Denot) (returned′ : resT depth-kinds.r κs′ .Denot)
+    (e : AtExit (endedOf 7 depth-kinds.ps depth-kinds.r) κs) (e′ : AtExit (endedOf 7 depth-kinds.ps depth-kinds.r) κs′) where
   pub code-depth-balance : depth-reads.Learnt κs a returned e → depth-reads.Learnt κs′ a′ returned′ e′ → {calls : List Call} → returned ≡ 0
-      → let (w, (n, (kind, (g, (c, (r, (h, (b, (u, (v, _)))))))))) = a in
-      let (w′, (n′, (kind′, (g′, (c′, (r′, (h′, (b′, (u′, (v′, _)))))))))) = a′ in
-      let (_, (_, (_, (_, (_, (_, (_, (_, (_, (_, (total, _))))))))))) = e in
-      let (_, (_, (_, (_, (_, (_, (_, (_, (_, (_, (total′, _))))))))))) = e′ in
-      let s = stateOf (parameters w n kind g c r) (now h) (now b) (now u) (now v) in
-      History s calls (stateOf (parameters w′ n′ kind′ g′ c′ r′) (now h′) (now b′) (now u′) (now v′))
+      → let (w, (n, (kind, (g, (c, (r, (h, (b, (u, (v, (barriers, _))))))))))) = a in
+      let (w′, (n′, (kind′, (g′, (c′, (r′, (h′, (b′, (u′, (v′, (barriers′, _))))))))))) = a′ in
+      let (_, (_, (_, (_, (_, (_, (_, (_, (_, (_, (_, (total, _)))))))))))) = e in
+      let (_, (_, (_, (_, (_, (_, (_, (_, (_, (_, (_, (total′, _)))))))))))) = e′ in
+      let s = stateOf (parameters w n kind g c r) (now h) (now b) (now u) (now v) (now barriers) in
+      History s calls (stateOf (parameters w′ n′ kind′ g′ c′ r′) (now h′) (now b′) (now u′) (now v′) (now barriers′))
       → (returned′ ≡ 0) × (now total′ ≡ now total +ℤ inflowDue s calls)
   code-depth-balance first last z made = depth-balance (depth-call κs a returned e first) (depth-call κs′ a′ returned′ e′ last) z made

@@ -9,7 +9,7 @@ use denote.Ref.{now}
 use denote.Triple.Clauses.{AtExit}
 use borrow.Fn.Kinds.{Dens, resT, endedOf}
 use lib.IntN.{ℤ}
-use Rattle.model.specs.State.{State, stateOf}
+use Rattle.model.specs.State.{State, Fields, stateOf, slices}
 use Rattle.model.specs.Promises.{TotalDepthPromise}
 use Rattle.model.specs.declared.Timestamp.{Timestamp}
 use Rattle.basin.specs.FromC.{parameters, timestamp, TendenciesFromC, StepFromC, RunFromC, TotalFromC, WriteFromC, ReadFromC, CompareFromC}
@@ -43,12 +43,12 @@ pub record TendenciesCall : Type 0 where
   pub answer : List ℕ
   pub told : TendenciesFromC state q dh du dv dh′ du′ dv′ returned answer
 
-module _ (κs : Lfts 9) (a : Dens κs tendencies-kinds.ps) (returned : resT tendencies-kinds.r κs .Denot) (e : AtExit (endedOf 9 tendencies-kinds.ps tendencies-kinds.r) κs) where
+module _ (κs : Lfts 10) (a : Dens κs tendencies-kinds.ps) (returned : resT tendencies-kinds.r κs .Denot) (e : AtExit (endedOf 10 tendencies-kinds.ps tendencies-kinds.r) κs) where
   abbrev pub tendencies-call : tendencies-reads.Learnt κs a returned e → TendenciesCall
   tendencies-call told =
-      let (w, (n, (kind, (g, (c, (r, (h, (b, (u, (v, (q, (dh, (du, (dv, (_, _))))))))))))))) = a in
-      let (_, (_, (_, (_, (_, (_, (_, (_, (_, (_, (_, (dh′, (du′, (dv′, (answer′, _))))))))))))))) = e in
-      record { state = stateOf (parameters w n kind g c r) (now h) (now b) (now u) (now v); q = now q; dh = now dh; du = now du; dv = now dv; dh′ = now dh′; du′ = now du′; dv′ = now dv′; returned = returned; answer = now answer′; told = told }
+      let (w, (n, (kind, (g, (c, (r, (h, (b, (u, (v, (barriers, (q, (dh, (du, (dv, (_, _)))))))))))))))) = a in
+      let (_, (_, (_, (_, (_, (_, (_, (_, (_, (_, (_, (_, (dh′, (du′, (dv′, (answer′, _)))))))))))))))) = e in
+      record { state = stateOf (parameters w n kind g c r) (now h) (now b) (now u) (now v) (now barriers); q = now q; dh = now dh; du = now du; dv = now dv; dh′ = now dh′; du′ = now du′; dv′ = now dv′; returned = returned; answer = now answer′; told = told }
 
 -- ---- `basin_step`
 
@@ -62,12 +62,12 @@ pub record StepCall : Type 0 where
   pub answer : List ℕ
   pub told : StepFromC before inflow work after work′ returned answer
 
-module _ (κs : Lfts 7) (a : Dens κs step-kinds.ps) (returned : resT step-kinds.r κs .Denot) (e : AtExit (endedOf 7 step-kinds.ps step-kinds.r) κs) where
+module _ (κs : Lfts 8) (a : Dens κs step-kinds.ps) (returned : resT step-kinds.r κs .Denot) (e : AtExit (endedOf 8 step-kinds.ps step-kinds.r) κs) where
   abbrev pub step-call : step-reads.Learnt κs a returned e → StepCall
   step-call told =
-      let (w, (n, (kind, (g, (c, (r, (h, (b, (u, (v, (inflow, (work, (_, _))))))))))))) = a in
-      let (_, (_, (_, (_, (_, (_, (h′, (_, (u′, (v′, (_, (work′, (answer′, _))))))))))))) = e in
-      record { before = stateOf (parameters w n kind g c r) (now h) (now b) (now u) (now v); after = stateOf (parameters w n kind g c r) (now h′) (now b) (now u′) (now v′); inflow = now inflow; work = now work; work′ = now work′; returned = returned; answer = now answer′; told = told }
+      let (w, (n, (kind, (g, (c, (r, (h, (b, (u, (v, (barriers, (inflow, (work, (_, _)))))))))))))) = a in
+      let (_, (_, (_, (_, (_, (_, (h′, (_, (u′, (v′, (_, (_, (work′, (answer′, _)))))))))))))) = e in
+      record { before = stateOf (parameters w n kind g c r) (now h) (now b) (now u) (now v) (now barriers); after = stateOf (parameters w n kind g c r) (now h′) (now b) (now u′) (now v′) (now barriers); inflow = now inflow; work = now work; work′ = now work′; returned = returned; answer = now answer′; told = told }
 
 -- ---- `basin_run`
 
@@ -82,12 +82,12 @@ pub record RunCall : Type 0 where
   pub answer : List ℕ
   pub told : RunFromC before inflow steps work after work′ returned answer
 
-module _ (κs : Lfts 7) (a : Dens κs run-kinds.ps) (returned : resT run-kinds.r κs .Denot) (e : AtExit (endedOf 7 run-kinds.ps run-kinds.r) κs) where
+module _ (κs : Lfts 8) (a : Dens κs run-kinds.ps) (returned : resT run-kinds.r κs .Denot) (e : AtExit (endedOf 8 run-kinds.ps run-kinds.r) κs) where
   abbrev pub run-call : run-reads.Learnt κs a returned e → RunCall
   run-call told =
-      let (w, (n, (kind, (g, (c, (r, (h, (b, (u, (v, (inflow, (steps, (work, (_, _)))))))))))))) = a in
-      let (_, (_, (_, (_, (_, (_, (h′, (_, (u′, (v′, (_, (_, (work′, (answer′, _)))))))))))))) = e in
-      record { before = stateOf (parameters w n kind g c r) (now h) (now b) (now u) (now v); after = stateOf (parameters w n kind g c r) (now h′) (now b) (now u′) (now v′); inflow = now inflow; work = now work; work′ = now work′; steps = steps; returned = returned; answer = now answer′; told = told }
+      let (w, (n, (kind, (g, (c, (r, (h, (b, (u, (v, (barriers, (inflow, (steps, (work, (_, _))))))))))))))) = a in
+      let (_, (_, (_, (_, (_, (_, (h′, (_, (u′, (v′, (_, (_, (_, (work′, (answer′, _))))))))))))))) = e in
+      record { before = stateOf (parameters w n kind g c r) (now h) (now b) (now u) (now v) (now barriers); after = stateOf (parameters w n kind g c r) (now h′) (now b) (now u′) (now v′) (now barriers); inflow = now inflow; work = now work; work′ = now work′; steps = steps; returned = returned; answer = now answer′; told = told }
 
 -- ---- `basin_total_depth`
 
@@ -99,12 +99,12 @@ pub record DepthCall : Type 0 where
   pub answer : List ℕ
   pub told : TotalFromC (TotalDepthPromise state) total total′ returned answer
 
-module _ (κs : Lfts 6) (a : Dens κs depth-kinds.ps) (returned : resT depth-kinds.r κs .Denot) (e : AtExit (endedOf 6 depth-kinds.ps depth-kinds.r) κs) where
+module _ (κs : Lfts 7) (a : Dens κs depth-kinds.ps) (returned : resT depth-kinds.r κs .Denot) (e : AtExit (endedOf 7 depth-kinds.ps depth-kinds.r) κs) where
   abbrev pub depth-call : depth-reads.Learnt κs a returned e → DepthCall
   depth-call told =
-      let (w, (n, (kind, (g, (c, (r, (h, (b, (u, (v, (total, (_, _)))))))))))) = a in
-      let (_, (_, (_, (_, (_, (_, (_, (_, (_, (_, (total′, (answer′, _)))))))))))) = e in
-      record { state = stateOf (parameters w n kind g c r) (now h) (now b) (now u) (now v); total = now total; total′ = now total′; returned = returned; answer = now answer′; told = told }
+      let (w, (n, (kind, (g, (c, (r, (h, (b, (u, (v, (barriers, (total, (_, _))))))))))))) = a in
+      let (_, (_, (_, (_, (_, (_, (_, (_, (_, (_, (_, (total′, (answer′, _))))))))))))) = e in
+      record { state = stateOf (parameters w n kind g c r) (now h) (now b) (now u) (now v) (now barriers); total = now total; total′ = now total′; returned = returned; answer = now answer′; told = told }
 
 -- ---- `basin_write`
 
@@ -117,37 +117,31 @@ pub record WriteCall : Type 0 where
   pub answer : List ℕ
   pub told : WriteFromC state timestamp bytes bytes′ returned answer
 
-module _ (κs : Lfts 6) (a : Dens κs write-kinds.ps) (returned : resT write-kinds.r κs .Denot) (e : AtExit (endedOf 6 write-kinds.ps write-kinds.r) κs) where
+module _ (κs : Lfts 7) (a : Dens κs write-kinds.ps) (returned : resT write-kinds.r κs .Denot) (e : AtExit (endedOf 7 write-kinds.ps write-kinds.r) κs) where
   abbrev pub write-call : write-reads.Learnt κs a returned e → WriteCall
   write-call told =
-      let (w, (n, (kind, (g, (c, (r, (h, (b, (u, (v, (seconds, (milliseconds, (bytes, (_, _)))))))))))))) = a in
-      let (_, (_, (_, (_, (_, (_, (_, (_, (_, (_, (_, (_, (bytes′, (answer′, _)))))))))))))) = e in
-      record { state = stateOf (parameters w n kind g c r) (now h) (now b) (now u) (now v); timestamp = timestamp seconds milliseconds; bytes = now bytes; bytes′ = now bytes′; returned = returned; answer = now answer′; told = told }
+      let (w, (n, (kind, (g, (c, (r, (h, (b, (u, (v, (barriers, (seconds, (milliseconds, (bytes, (_, _))))))))))))))) = a in
+      let (_, (_, (_, (_, (_, (_, (_, (_, (_, (_, (_, (_, (_, (bytes′, (answer′, _))))))))))))))) = e in
+      record { state = stateOf (parameters w n kind g c r) (now h) (now b) (now u) (now v) (now barriers); timestamp = timestamp seconds milliseconds; bytes = now bytes; bytes′ = now bytes′; returned = returned; answer = now answer′; told = told }
 
 -- ---- `basin_read`
 
 pub record ReadCall : Type 0 where
   pub bytes : List ℕ
-  pub h : List ℤ
-  pub b : List ℤ
-  pub u : List ℤ
-  pub v : List ℤ
-  pub h′ : List ℤ
-  pub b′ : List ℤ
-  pub u′ : List ℤ
-  pub v′ : List ℤ
+  pub d : Fields
+  pub d′ : Fields
   pub constants : List ℤ
   pub constants′ : List ℤ
   pub returned : ℕ
   pub answer : List ℕ
-  pub told : ReadFromC bytes h b u v h′ b′ u′ v′ constants constants′ returned answer
+  pub told : ReadFromC bytes d d′ constants constants′ returned answer
 
-module _ (κs : Lfts 7) (a : Dens κs read-kinds.ps) (returned : resT read-kinds.r κs .Denot) (e : AtExit (endedOf 7 read-kinds.ps read-kinds.r) κs) where
+module _ (κs : Lfts 8) (a : Dens κs read-kinds.ps) (returned : resT read-kinds.r κs .Denot) (e : AtExit (endedOf 8 read-kinds.ps read-kinds.r) κs) where
   abbrev pub read-call : read-reads.Learnt κs a returned e → ReadCall
   read-call told =
-      let (bytes, (h, (b, (u, (v, (constants, (_, _))))))) = a in
-      let (_, (h′, (b′, (u′, (v′, (constants′, (answer′, _))))))) = e in
-      record { bytes = now bytes; h = now h; b = now b; u = now u; v = now v; h′ = now h′; b′ = now b′; u′ = now u′; v′ = now v′; constants = now constants; constants′ = now constants′; returned = returned; answer = now answer′; told = told }
+      let (bytes, (h, (b, (u, (v, (barriers, (constants, (_, _)))))))) = a in
+      let (_, (h′, (b′, (u′, (v′, (barriers′, (constants′, (answer′, _)))))))) = e in
+      record { bytes = now bytes; d = slices h b u v barriers; d′ = slices h′ b′ u′ v′ barriers′; constants = now constants; constants′ = now constants′; returned = returned; answer = now answer′; told = told }
 
 -- ---- `basin_compare`
 

@@ -18,27 +18,27 @@ use Rattle.basin.specs.FromC.{parameters}
 pub made : {p : Parameters} {w n kind : ℕ} {g c r g′ c′ r′ : ℤ} → p ≡ parameters w n kind g c r → g ≡ g′ → c ≡ c′ → r ≡ r′ → p ≡ parameters w n kind g′ c′ r′
 made {w = w} {n} {kind} e x y z = e ∙ (λ i. parameters w n kind (x i) (y i) (z i))
 
-module _ {p q : Parameters} (e : p ≡ q) (h b u v : List ℤ) where
-  pub vorticity-of : {d d′ : List ℤ} {a : Answer} → VorticityPromise (stateOf p h b u v) d a d′ → VorticityPromise (stateOf q h b u v) d a d′
-  vorticity-of {d} {d′} {a} x = subst (λ p. VorticityPromise (stateOf p h b u v) d a d′) e x
+module _ {p q : Parameters} (e : p ≡ q) (h b u v : List ℤ) (barriers : List ℕ) where
+  pub vorticity-of : {d d′ : List ℤ} {a : Answer} → VorticityPromise (stateOf p h b u v barriers) d a d′ → VorticityPromise (stateOf q h b u v barriers) d a d′
+  vorticity-of {d} {d′} {a} x = subst (λ p. VorticityPromise (stateOf p h b u v barriers) d a d′) e x
 
-  pub tendencies-of : (y : List ℤ) {dh du dv dh′ du′ dv′ : List ℤ} {a : Answer} → TendenciesPromise (stateOf p h b u v) y dh du dv a dh′ du′ dv′
-      → TendenciesPromise (stateOf q h b u v) y dh du dv a dh′ du′ dv′
-  tendencies-of y {dh} {du} {dv} {dh′} {du′} {dv′} {a} x = subst (λ p. TendenciesPromise (stateOf p h b u v) y dh du dv a dh′ du′ dv′) e x
+  pub tendencies-of : (y : List ℤ) {dh du dv dh′ du′ dv′ : List ℤ} {a : Answer} → TendenciesPromise (stateOf p h b u v barriers) y dh du dv a dh′ du′ dv′
+      → TendenciesPromise (stateOf q h b u v barriers) y dh du dv a dh′ du′ dv′
+  tendencies-of y {dh} {du} {dv} {dh′} {du′} {dv′} {a} x = subst (λ p. TendenciesPromise (stateOf p h b u v barriers) y dh du dv a dh′ du′ dv′) e x
 
-  pub step-of : {inflow work work′ h′ u′ v′ : List ℤ} {a : StepAnswer} → StepPromise (stateOf p h b u v) inflow work a (stateOf p h′ b u′ v′) work′
-      → StepPromise (stateOf q h b u v) inflow work a (stateOf q h′ b u′ v′) work′
-  step-of {inflow} {work} {work′} {h′} {u′} {v′} {a} x = subst (λ p. StepPromise (stateOf p h b u v) inflow work a (stateOf p h′ b u′ v′) work′) e x
+  pub step-of : {inflow work work′ h′ u′ v′ : List ℤ} {a : StepAnswer} → StepPromise (stateOf p h b u v barriers) inflow work a (stateOf p h′ b u′ v′ barriers) work′
+      → StepPromise (stateOf q h b u v barriers) inflow work a (stateOf q h′ b u′ v′ barriers) work′
+  step-of {inflow} {work} {work′} {h′} {u′} {v′} {a} x = subst (λ p. StepPromise (stateOf p h b u v barriers) inflow work a (stateOf p h′ b u′ v′ barriers) work′) e x
 
-  pub run-of : {inflow work work′ h′ u′ v′ : List ℤ} {m : ℕ} {a : RunAnswer} → RunPromise (stateOf p h b u v) inflow m work a (stateOf p h′ b u′ v′) work′
-      → RunPromise (stateOf q h b u v) inflow m work a (stateOf q h′ b u′ v′) work′
-  run-of {inflow} {work} {work′} {h′} {u′} {v′} {m} {a} x = subst (λ p. RunPromise (stateOf p h b u v) inflow m work a (stateOf p h′ b u′ v′) work′) e x
+  pub run-of : {inflow work work′ h′ u′ v′ : List ℤ} {m : ℕ} {a : RunAnswer} → RunPromise (stateOf p h b u v barriers) inflow m work a (stateOf p h′ b u′ v′ barriers) work′
+      → RunPromise (stateOf q h b u v barriers) inflow m work a (stateOf q h′ b u′ v′ barriers) work′
+  run-of {inflow} {work} {work′} {h′} {u′} {v′} {m} {a} x = subst (λ p. RunPromise (stateOf p h b u v barriers) inflow m work a (stateOf p h′ b u′ v′ barriers) work′) e x
 
-  pub depth-of : {a : TotalAnswer} → TotalDepthPromise (stateOf p h b u v) a → TotalDepthPromise (stateOf q h b u v) a
-  depth-of {a} x = subst (λ p. TotalDepthPromise (stateOf p h b u v) a) e x
+  pub depth-of : {a : TotalAnswer} → TotalDepthPromise (stateOf p h b u v barriers) a → TotalDepthPromise (stateOf q h b u v barriers) a
+  depth-of {a} x = subst (λ p. TotalDepthPromise (stateOf p h b u v barriers) a) e x
 
-  pub energy-of : {a : TotalAnswer} → TotalEnergyPromise (stateOf p h b u v) a → TotalEnergyPromise (stateOf q h b u v) a
-  energy-of {a} x = subst (λ p. TotalEnergyPromise (stateOf p h b u v) a) e x
+  pub energy-of : {a : TotalAnswer} → TotalEnergyPromise (stateOf p h b u v barriers) a → TotalEnergyPromise (stateOf q h b u v barriers) a
+  energy-of {a} x = subst (λ p. TotalEnergyPromise (stateOf p h b u v barriers) a) e x
 
-  pub write-of : (t : Timestamp) {d d′ : List ℕ} {a : WriteAnswer} → WritePromise (stateOf p h b u v) t d a d′ → WritePromise (stateOf q h b u v) t d a d′
-  write-of t {d} {d′} {a} x = subst (λ p. WritePromise (stateOf p h b u v) t d a d′) e x
+  pub write-of : (t : Timestamp) {d d′ : List ℕ} {a : WriteAnswer} → WritePromise (stateOf p h b u v barriers) t d a d′ → WritePromise (stateOf q h b u v barriers) t d a d′
+  write-of t {d} {d′} {a} x = subst (λ p. WritePromise (stateOf p h b u v barriers) t d a d′) e x

@@ -2,7 +2,7 @@
 -- Assumes nothing.
 use mathlib.Core.Path.{_≡_, refl, sym, ap, subst, _∙_}
 use mathlib.Core.Logic.{_↔_, _⊎_, inl, inr}
-use mathlib.Core.List.{[], _∷_}
+use mathlib.Core.List.{List, [], _∷_}
 use native.Mathlib.Omega.{arith}
 use contract.Lifetimes.{Lfts}
 use denote.Ref.{now}
@@ -12,13 +12,12 @@ use Prim.Native.Nat.{ℕ, _*_, _^_, _≤_, _<_}
 use lib.Dec.{T}
 use lib.IntN.{ℤ, pos}
 use lib.ListN.{length, take, getD}
-use lib.Seq.{take-length}
 use Rattle.model.specs.Numbers.{mostMilliseconds}
 use Rattle.model.specs.Answers.{writeNumbers, readNumbers, constantsIn, compareNumbers}
-use Rattle.model.specs.State.{State, stateOf, parametersOf, cells, WithinLimits}
-use Rattle.model.specs.Record.{recordLength, rising, restored, kept, Decoded, decode, accepted, refused}
-use Rattle.model.specs.Promises.{ReadPromise, WritePromise, ComparePromise}
-use Rattle.model.specs.Claims.{Bytes, BothAre, Later, swapped}
+use Rattle.model.specs.State.{State, stateFrom, parametersOf, cells, WithinLimits}
+use Rattle.model.specs.Record.{Part, recordLength, rising, restored, kept, Decoded, decode, accepted, refused}
+use Rattle.model.specs.Promises.{roomsIn, ReadPromise, WritePromise, ComparePromise}
+use Rattle.model.specs.Claims.{EachRoom, Among, WholeIn, Bytes, BothAre, Later, swapped}
 use Rattle.model.specs.declared.Parameters.{Parameters}
 use Rattle.model.specs.declared.Timestamp.{Timestamp}
 use Rattle.model.specs.declared.Refusal.{Refusal}
@@ -29,7 +28,6 @@ use Rattle.model.specs.declared.CompareAnswer.the-variants.{Same, FirstNewer, S
 use Rattle.theorems.specs.Theorems.{theorems}
 use Rattle.theorems.specs.Truth.{_⟫_}
 use Rattle.answers.specs.Told.{eight, orKept}
-use Rattle.record_read.specs.ReadRooms.{Room}
 use Rattle.basin.specs.FromC.{parameters, timestamp}
 use Rattle.basin.proofs.Applied.{from-one}
 use Rattle.basin.proofs.basin_compare.Kinds as compare-kinds
@@ -44,17 +42,17 @@ pub record CameBack (w : WriteCall) (g : ReadCall) : Type 0 where
   pub read : g .returned ≡ 0
   pub told : let s = w .state in g .answer ≡ 0 ∷ s .w ∷ s .n ∷ s .kind ∷ w .timestamp .seconds ∷ w .timestamp .milliseconds ∷ 0 ∷ 0 ∷ []
   pub constants : let s = w .state in g .constants′ ≡ s .G ∷ s .c ∷ s .R ∷ []
-  pub fields : let m = cells (w .state) in stateOf (parametersOf (w .state)) (take m (g .h′)) (take m (g .b′)) (take m (g .u′)) (take m (g .v′)) ≡ w .state
+  pub fields : stateFrom (parametersOf (w .state)) (g .d′) ≡ w .state
 
 pub write-then-read : (w : WriteCall) (g : ReadCall)
     → WithinLimits (w .state) → w .timestamp .seconds < 2 ^ 64 → w .timestamp .milliseconds ≤ mostMilliseconds
-    → recordLength (w .state) ≤ length (w .bytes) → Room (cells (w .state)) (g .h) (g .b) (g .u) (g .v)
+    → recordLength (w .state) ≤ length (w .bytes) → EachRoom (cells (w .state)) (roomsIn (g .d))
     → g .bytes ≡ take (recordLength (w .state)) (w .bytes′)
     → CameBack w g
 write-then-read w g l q ms room fit same =
     let s = w .state in
-    let p = subst (λ bytes. ReadPromise bytes (g .h) (g .b) (g .u) (g .v) (g .told .answer) (g .h′) (g .b′) (g .u′) (g .v′)) same (g .told .promise) in
-    let y = theorems .write-then-read s (w .timestamp) (w .bytes) (w .bytes′) (w .told .answer) (g .h) (g .b) (g .u) (g .v) (g .h′) (g .b′) (g .u′) (g .v′) (g .told .answer) l q ms room (w .told .promise) (fit .depth) (fit .bottom) (fit .velocity-u) (fit .velocity-v) p in
+    let p = subst (λ bytes. ReadPromise bytes (g .d) (g .told .answer) (g .d′)) same (g .told .promise) in
+    let y = theorems .write-then-read s (w .timestamp) (w .bytes) (w .bytes′) (w .told .answer) (g .d) (g .d′) (g .told .answer) l q ms room (w .told .promise) fit p in
     record {
       written = w .told .told .returns ∙ ap (λ a. getD (writeNumbers a) 0 0) (y .0);
       read = g .told .told .returns ∙ ap (λ a. getD (readNumbers a) 0 0) (y .1);
@@ -72,8 +70,7 @@ readState g =
     let n = getD (g .answer) 2 0 in
     let kind = getD (g .answer) 3 0 in
     let constant : ℕ → ℤ = λ k. getD (g .constants′) k (pos 0) in
-    let m = w * n in
-    stateOf (parameters w n kind (constant 0) (constant 1) (constant 2)) (take m (g .h′)) (take m (g .b′)) (take m (g .u′)) (take m (g .v′))
+    stateFrom (parameters w n kind (constant 0) (constant 1) (constant 2)) (g .d′)
 
 abbrev pub readTimestamp : ReadCall → Timestamp
 readTimestamp g = timestamp (getD (g .answer) 4 0) (getD (g .answer) 5 0)
@@ -83,7 +80,7 @@ record WasRead (g : ReadCall) : Type 0 where
   t : Timestamp
   answers : g .told .answer ≡ Read p t
   stamp : readTimestamp g ≡ t
-  state : let m = p .w * p .n in readState g ≡ stateOf p (take m (g .h′)) (take m (g .b′)) (take m (g .u′)) (take m (g .v′))
+  state : readState g ≡ stateFrom p (g .d′)
 
 was-read : (g : ReadCall) → g .returned ≡ 0 → WasRead g
 was-read g z = by (g .told .answer) refl (sym (g .told .told .returns) ∙ z)
@@ -103,19 +100,21 @@ pub read-then-write : (g : ReadCall) (w : WriteCall)
     × (T (rising (g .bytes)) → take (kept (g .bytes)) (w .bytes′) ≡ take (kept (g .bytes)) (g .bytes))
 read-then-write g w bytes z state stamp room =
     let r = was-read g z in
-    let m = r .p .w * r .p .n in
-    let read = subst (λ x. ReadPromise (g .bytes) (g .h) (g .b) (g .u) (g .v) x (g .h′) (g .b′) (g .u′) (g .v′)) (r .answers) (g .told .promise) in
+    let read = subst (λ x. ReadPromise (g .bytes) (g .d) x (g .d′)) (r .answers) (g .told .promise) in
     let written = subst (λ s. WritePromise s (r .t) (w .bytes) (w .told .answer) (w .bytes′)) (state ∙ r .state) (subst (λ t. WritePromise (w .state) t (w .bytes) (w .told .answer) (w .bytes′)) (stamp ∙ r .stamp) (w .told .promise)) in
-    let y = theorems .read-then-write (g .bytes) (w .bytes) (w .bytes′) (g .h) (g .b) (g .u) (g .v) (g .h′) (g .b′) (g .u′) (g .v′) (r .p) (r .t) (w .told .answer) bytes read written room in
+    let y = theorems .read-then-write (g .bytes) (w .bytes) (w .bytes′) (g .d) (g .d′) (r .p) (r .t) (w .told .answer) bytes read written room in
     (w .told .told .returns ∙ ap (λ a. getD (writeNumbers a) 0 0) (y .0), y .1, y .2)
 
--- so all bytes of a record come back whose tags rise, with tag 8 and without it
-pub own-bytes-return : (g : ReadCall) (w : WriteCall)
-    → Bytes (g .bytes) → T (rising (g .bytes)) → g .returned ≡ 0 → w .state ≡ readState g → w .timestamp ≡ readTimestamp g → length (restored (g .bytes)) ≤ length (w .bytes)
-    → take (length (g .bytes)) (w .bytes′) ≡ g .bytes
-own-bytes-return g w bytes rises z state stamp room =
-    let e = theorems .restored .kept (g .bytes) bytes rises in
-    ap (λ k. take k (w .bytes′)) (sym e) ∙ read-then-write g w bytes z state stamp room .2 rises ∙ ap (λ k. take k (g .bytes)) e ∙ take-length (g .bytes)
+-- so all bytes of a record come back whose tags rise, if it has both tags that it may lack
+pub own-bytes-return : (g : ReadCall) (w : WriteCall) (parts : List Part)
+    → Bytes (g .bytes) → WholeIn (g .bytes) parts → T (rising (g .bytes)) → Among 8 parts → Among 9 parts
+    → g .returned ≡ 0 → w .state ≡ readState g → w .timestamp ≡ readTimestamp g → length (g .bytes) ≤ length (w .bytes)
+    → (w .returned ≡ 0) × (take (length (g .bytes)) (w .bytes′) ≡ g .bytes)
+own-bytes-return g w parts bytes whole rises eighth ninth z state stamp room =
+    let e = theorems .restored (g .bytes) parts bytes whole rises .whole eighth ninth .0 in
+    let n = ap length e in
+    let x = read-then-write g w bytes z state stamp (subst (λ k. k ≤ length (w .bytes)) (sym n) room) in
+    (x .0, ap (λ k. take k (w .bytes′)) (sym n) ∙ x .1 ∙ e)
 
 -- ---- comparison
 

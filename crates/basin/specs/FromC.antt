@@ -6,7 +6,7 @@ use Prim.Native.Nat.{ℕ, _^_}
 use lib.IntN.{ℤ, pos, negℤ}
 use lib.ListN.{getD}
 use Rattle.model.specs.Numbers.{_to_, within, rnd}
-use Rattle.model.specs.State.{State}
+use Rattle.model.specs.State.{State, Fields}
 use Rattle.model.specs.Answers.{answerNumbers, stepNumbers, runNumbers, totalNumbers, totalIn, writeNumbers, readNumbers, constantsIn, compareNumbers}
 use Rattle.model.specs.Promises.{VorticityPromise, TendenciesPromise, StepPromise, RunPromise, WritePromise, ReadPromise, ComparePromise}
 use Rattle.model.specs.declared.Parameters.{Parameters}
@@ -67,9 +67,9 @@ pub record WriteFromC (s : State) (t : Timestamp) (d d′ : List ℕ) (k : ℕ) 
   pub told : Told (writeNumbers answer) k exit
 
 -- G, c and R are the three constants; a refusal leaves them as they were
-pub record ReadFromC (rec : List ℕ) (h b u v h′ b′ u′ v′ constants constants′ : List ℤ) (k : ℕ) (exit : List ℕ) : Type 0 where
+pub record ReadFromC (rec : List ℕ) (d d′ : Fields) (constants constants′ : List ℤ) (k : ℕ) (exit : List ℕ) : Type 0 where
   pub answer : ReadAnswer
-  pub promise : ReadPromise rec h b u v answer h′ b′ u′ v′
+  pub promise : ReadPromise rec d answer d′
   pub holds : constants′ ≡ orKept (constantsIn answer) constants
   pub told : Told (readNumbers answer) k exit
 
@@ -90,6 +90,6 @@ pub record Rounded (a b entry : ℤ) (k : ℕ) (exit : ℤ) : Type 0 where
 
 -- ---- version
 
--- 0.4.0
+-- 0.5.0
 abbrev pub version : ℕ
-version = 400
+version = 500

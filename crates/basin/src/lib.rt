@@ -3,7 +3,7 @@
 // answer the first is the refusal's number, 0 for none, which is also returned; the values that belong to it follow, and 0 in the other
 // places. Any numbers and any lengths may come in.
 ghost use mathlib.Core.Path.{_≡_};
-ghost use Rattle.model.specs.State.{before, after};
+ghost use Rattle.model.specs.State.{before, after, slicesBefore, slicesAfter};
 ghost use Rattle.model.specs.Promises.{TotalDepthPromise, TotalEnergyPromise};
 ghost use Rattle.basin.specs.FromC;
 ghost use Rattle.basin.specs.FromC.{VorticityFromC, TendenciesFromC, StepFromC, RunFromC, TotalFromC, WriteFromC};
@@ -42,16 +42,17 @@ pub extern "C" fn basin_potential_vorticity(
     b: &[i64],
     u: &[i64],
     v: &[i64],
+    barriers: &[u8],
     q: &mut [i64],
     answer: &mut [u64; 8],
 ) -> u64
     ensures { λ k. ⌜
-        VorticityFromC (before (FromC.parameters w n kind g c r) h b u v) (now (q .entry)) (now (q .exit)) k
+        VorticityFromC (before (FromC.parameters w n kind g c r) h b u v barriers) (now (q .entry)) (now (q .exit)) k
         (now (answer .exit))
         ⌝ }
 {
     let p = parameters(w, n, kind, g, c, r);
-    let x = scheme_tendencies::potential_vorticity(p, h, b, u, v, q);
+    let x = scheme_tendencies::potential_vorticity(p, h, b, u, v, barriers, q);
     answers::tell(answer, answers::answer_numbers(x))
 }
 
@@ -67,6 +68,7 @@ pub extern "C" fn basin_tendencies(
     b: &[i64],
     u: &[i64],
     v: &[i64],
+    barriers: &[u8],
     q: &[i64],
     dh: &mut [i64],
     du: &mut [i64],
@@ -74,13 +76,13 @@ pub extern "C" fn basin_tendencies(
     answer: &mut [u64; 8],
 ) -> u64
     ensures { λ k. ⌜
-        TendenciesFromC (before (FromC.parameters w n kind g c r) h b u v) (now (q .entry)) (now (dh .entry))
+        TendenciesFromC (before (FromC.parameters w n kind g c r) h b u v barriers) (now (q .entry)) (now (dh .entry))
         (now (du .entry)) (now (dv .entry)) (now (dh .exit)) (now (du .exit)) (now (dv .exit)) k
         (now (answer .exit))
         ⌝ }
 {
     let p = parameters(w, n, kind, g, c, r);
-    let x = scheme_tendencies::tendencies(p, h, b, u, v, q, dh, du, dv);
+    let x = scheme_tendencies::tendencies(p, h, b, u, v, barriers, q, dh, du, dv);
     answers::tell(answer, answers::answer_numbers(x))
 }
 
@@ -101,17 +103,18 @@ pub extern "C" fn basin_step(
     b: &[i64],
     u: &mut [i64],
     v: &mut [i64],
+    barriers: &[u8],
     inflow: &[i64],
     work: &mut [i64],
     answer: &mut [u64; 8],
 ) -> u64
     ensures { λ k. ⌜
-        StepFromC (before (FromC.parameters w n kind g c r) h b u v) (now (inflow .entry)) (now (work .entry))
-        (after (FromC.parameters w n kind g c r) h b u v) (now (work .exit)) k (now (answer .exit))
+        StepFromC (before (FromC.parameters w n kind g c r) h b u v barriers) (now (inflow .entry)) (now (work .entry))
+        (after (FromC.parameters w n kind g c r) h b u v barriers) (now (work .exit)) k (now (answer .exit))
         ⌝ }
 {
     let p = parameters(w, n, kind, g, c, r);
-    let x = step_run::step(p, h, b, u, v, inflow, work);
+    let x = step_run::step(p, h, b, u, v, barriers, inflow, work);
     answers::tell(answer, answers::step_numbers(x))
 }
 
@@ -127,18 +130,19 @@ pub extern "C" fn basin_run(
     b: &[i64],
     u: &mut [i64],
     v: &mut [i64],
+    barriers: &[u8],
     inflow: &[i64],
     steps: u64,
     work: &mut [i64],
     answer: &mut [u64; 8],
 ) -> u64
     ensures { λ k. ⌜
-        RunFromC (before (FromC.parameters w n kind g c r) h b u v) (now (inflow .entry)) steps (now (work .entry))
-        (after (FromC.parameters w n kind g c r) h b u v) (now (work .exit)) k (now (answer .exit))
+        RunFromC (before (FromC.parameters w n kind g c r) h b u v barriers) (now (inflow .entry)) steps (now (work .entry))
+        (after (FromC.parameters w n kind g c r) h b u v barriers) (now (work .exit)) k (now (answer .exit))
         ⌝ }
 {
     let p = parameters(w, n, kind, g, c, r);
-    let x = step_run::run(p, h, b, u, v, inflow, steps, work);
+    let x = step_run::run(p, h, b, u, v, barriers, inflow, steps, work);
     answers::tell(answer, answers::run_numbers(x))
 }
 
@@ -159,16 +163,17 @@ pub extern "C" fn basin_total_depth(
     b: &[i64],
     u: &[i64],
     v: &[i64],
+    barriers: &[u8],
     total: &mut i64,
     answer: &mut [u64; 8],
 ) -> u64
     ensures { λ k. ⌜
-        TotalFromC (TotalDepthPromise (before (FromC.parameters w n kind g c r) h b u v)) (now (total .entry))
+        TotalFromC (TotalDepthPromise (before (FromC.parameters w n kind g c r) h b u v barriers)) (now (total .entry))
         (now (total .exit)) k (now (answer .exit))
         ⌝ }
 {
     let p = parameters(w, n, kind, g, c, r);
-    let x = scheme_totals::total_depth(p, h, b, u, v);
+    let x = scheme_totals::total_depth(p, h, b, u, v, barriers);
     *total = answers::total_or(x, *total);
     answers::tell(answer, answers::total_numbers(x))
 }
@@ -185,16 +190,17 @@ pub extern "C" fn basin_total_energy(
     b: &[i64],
     u: &[i64],
     v: &[i64],
+    barriers: &[u8],
     total: &mut i64,
     answer: &mut [u64; 8],
 ) -> u64
     ensures { λ k. ⌜
-        TotalFromC (TotalEnergyPromise (before (FromC.parameters w n kind g c r) h b u v)) (now (total .entry))
+        TotalFromC (TotalEnergyPromise (before (FromC.parameters w n kind g c r) h b u v barriers)) (now (total .entry))
         (now (total .exit)) k (now (answer .exit))
         ⌝ }
 {
     let p = parameters(w, n, kind, g, c, r);
-    let x = scheme_totals::total_energy(p, h, b, u, v);
+    let x = scheme_totals::total_energy(p, h, b, u, v, barriers);
     *total = answers::total_or(x, *total);
     answers::tell(answer, answers::total_numbers(x))
 }
@@ -218,13 +224,14 @@ pub extern "C" fn basin_write(
     b: &[i64],
     u: &[i64],
     v: &[i64],
+    barriers: &[u8],
     seconds: u64,
     milliseconds: u64,
     record: &mut [u8],
     answer: &mut [u64; 8],
 ) -> u64
     ensures { λ k. ⌜
-        WriteFromC (before (FromC.parameters w n kind g c r) h b u v) (FromC.timestamp seconds milliseconds)
+        WriteFromC (before (FromC.parameters w n kind g c r) h b u v barriers) (FromC.timestamp seconds milliseconds)
         (now («record» .entry)) (now («record» .exit)) k (now (answer .exit))
         ⌝ }
 {
@@ -233,7 +240,7 @@ pub extern "C" fn basin_write(
         seconds,
         milliseconds,
     };
-    let x = record_write::write(p, h, b, u, v, timestamp, record);
+    let x = record_write::write(p, h, b, u, v, barriers, timestamp, record);
     answers::tell(answer, answers::write_numbers(x))
 }
 
@@ -244,16 +251,16 @@ pub extern "C" fn basin_read(
     b: &mut [i64],
     u: &mut [i64],
     v: &mut [i64],
+    barriers: &mut [u8],
     constants: &mut [i64; 3],
     answer: &mut [u64; 8],
 ) -> u64
     ensures { λ k. ⌜
-        ReadFromC (now («record» .entry)) (now (h .entry)) (now (b .entry)) (now (u .entry)) (now (v .entry))
-        (now (h .exit)) (now (b .exit)) (now (u .exit)) (now (v .exit)) (now (constants .entry))
-        (now (constants .exit)) k (now (answer .exit))
+        ReadFromC (now («record» .entry)) (slicesBefore h b u v barriers) (slicesAfter h b u v barriers)
+        (now (constants .entry)) (now (constants .exit)) k (now (answer .exit))
         ⌝ }
 {
-    let x = record_read::read(record, h, b, u, v);
+    let x = record_read::read(record, h, b, u, v, barriers);
     *constants = answers::constants_or(x, *constants);
     answers::tell(answer, answers::read_numbers(x))
 }
@@ -304,5 +311,5 @@ pub extern "C" fn basin_rnd(a: i64, b: i64, rounded: &mut i64) -> u64
 pub extern "C" fn basin_version() -> u64
     ensures { λ k. ⌜ k ≡ version ⌝ }
 {
-    400
+    500
 }

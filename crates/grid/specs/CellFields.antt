@@ -1,10 +1,10 @@
 -- What stands in a field that was filled cell by cell, and past it. Assumes nothing.
 use mathlib.Core.Path.{_≡_, refl, sym, ap, subst, _∙_}
-use mathlib.Core.List.{List}
+use mathlib.Core.List.{List, [], _∷_}
 use Prim.Native.Nat.{ℕ, zero, suc, _*_, _/_, _%_, _+_, _<_}
 use native.Mathlib.Nat.{not-suc-le-zero, le-of-suc-le-suc, mod-lt, div-lt-iff-lt-mul, mul-comm}
 use lib.IntN.{ℤ, pos}
-use lib.ListN.{length, getD, take, drop, List·getD-append}
+use lib.ListN.{length, getD, take, drop, replicate, List·getD-append}
 use lib.Seq.{take-at, drop-at, ext-getD}
 use Rattle.model.specs.Grid.{tabulate, byCell, filled, at}
 use Rattle.grid.specs.Cells.{cell-lt, by-index}
@@ -18,6 +18,23 @@ module _ {A : Type 0} where
   getD-tabulate zero f k z h = absurd (not-suc-le-zero h)
   getD-tabulate (suc m) f zero z h = refl
   getD-tabulate (suc m) f (suc k) z h = getD-tabulate m (λ k. f (suc k)) k z (le-of-suc-le-suc h)
+
+  -- a list by its elements, and one element again and again
+  pub tabulate-get : (m : ℕ) (l : List A) (z : A) → length l ≡ m → tabulate m (λ k. getD l k z) ≡ l
+  tabulate-get m l z e = ap (λ m. tabulate m (λ k. getD l k z)) (sym e) ∙ own l
+    where
+      own : (l : List A) → tabulate (length l) (λ k. getD l k z) ≡ l
+      own [] = refl
+      own (x ∷ l) = ap (_∷_ x) (own l)
+
+  pub tabulate-same : (m : ℕ) (a : A) → tabulate m (λ k. a) ≡ replicate m a
+  tabulate-same zero a = refl
+  tabulate-same (suc m) a = ap (_∷_ a) (tabulate-same m a)
+
+  pub same-at : (m : ℕ) (a : A) (k : ℕ) → getD (replicate m a) k a ≡ a
+  same-at zero a k = refl
+  same-at (suc m) a zero = refl
+  same-at (suc m) a (suc k) = same-at m a k
 
   -- the part filled, and the rest
   pub take-filled : (m : ℕ) (l d : List A) → length l ≡ m → take m (filled m l d) ≡ l
@@ -48,7 +65,7 @@ pub at-filled : (w n : ℕ) (l d : List ℤ) (i j : ℕ) → length l ≡ w * n 
 at-filled w n l d i j e p q = List·getD-append l (drop (w * n) d) (pos 0) (j * w + i) (rw e (cell-lt p q))
 
 -- an index has its row
-row-lt : {w n k : ℕ} → 0 < w → k < w * n → k / w < n
+pub row-lt : {w n k : ℕ} → 0 < w → k < w * n → k / w < n
 row-lt {w} {n} z h = div-lt-iff-lt-mul z .1 (rw (mul-comm w n) at h)
 
 -- what holds at every cell holds at every index

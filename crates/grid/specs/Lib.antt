@@ -1,8 +1,8 @@
 -- sums over the grid, the shift law, and polynomial sums over the torus by computation
 pub mod Sums
 pub mod Torus
--- where walls can stand; cells and neighbours; fields filled cell by cell; loops that write a list, and parts of a work space; loops that scan
-pub mod Walls
+-- cells and neighbours; fields filled cell by cell; loops that write a list, and parts of a work space; loops that scan; and the loop
+-- that puts 0 on the edges which barriers close
 pub mod Cells
 pub mod Stencils
 pub mod CellFields
@@ -10,3 +10,4 @@ pub mod Parts
 pub mod WritingLoops
 pub mod Banks
 pub mod Scanning
+pub mod Barred

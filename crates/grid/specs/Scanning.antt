@@ -2,7 +2,8 @@
 use mathlib.Core.Path.{_≡_, sym, ap, subst, _∙_}
 use mathlib.Core.Bool.{Bool, true, false, cond}
 use mathlib.Core.Option.{none, some}
-use Prim.Native.Nat.{ℕ, zero, suc, _+_, _-_, _≤_, _<_}
+use Prim.Native.Nat.{ℕ, suc, _+_, _-_, _*_, _≤_, _<_}
+use native.Mathlib.Nat.{le-antisymm, le-refl, mul-comm}
 use native.Mathlib.Numerals.{add-one}
 use native.Mathlib.Omega.{arith}
 use Rattle.model.specs.Grid.{firstFrom}
@@ -38,9 +39,6 @@ module _ {bad : ℕ → Bool} {m : ℕ} where
       none-left : (m k : ℕ) → m ≤ k → m - k ≡ 0
       none-left m k h = omega arith
 
-  -- indices at which the test cannot hold are passed unseen
-  pub scanned-past : {k : ℕ} (d : ℕ) → Scanned bad m k → k + d ≤ m → ((x : ℕ) → k ≤ x → x < k + d → bad x ≡ false) → Scanned bad m (k + d)
-  scanned-past {k} zero p h f = scanned-at p (omega arith)
-  scanned-past {k} (suc d) p h f =
-      let q = scanned-past d p (omega arith) (λ x a b. f x a (omega arith)) in
-      scanned-at (scanned-more q (omega arith) (f (k + d) (omega arith) (omega arith))) (omega arith)
+-- by rows of w indices: all n of them have passed
+pub rows-scanned : {bad : ℕ → Bool} (w n : ℕ) {j : ℕ} → j ≤ n → n ≤ j → Scanned bad (w * n) (j * w) → firstFrom bad (w * n) 0 ≡ none
+rows-scanned w n {j} h l p = scanned-all (scanned-at p (ap (λ j. j * w) (le-antisymm h l) ∙ mul-comm n w)) (le-refl (w * n))

@@ -1,17 +1,17 @@
-// The grid as proved code: the boundary, neighbours, cells, and parts of a work space. In specs/ the shift law, sums over the
+// The grid as proved code: the boundary, barriers, neighbours, cells, and parts of a work space. In specs/ the shift law, sums over the
 // torus by computation, and the laws of loops that fill, scan, and write a part.
 ghost use mathlib.Core.Path.{_≡_};
-ghost use mathlib.Core.Bool.{false};
 ghost use Prim.Native.Nat.{ℕ, _+_, _*_, _<_, _≤_};
 ghost use lib.IntN.{pos};
-ghost use lib.ListN.{length, replicate};
+ghost use lib.ListN.{length, getD, replicate};
 ghost use Rattle.model.specs.Grid;
 ghost use Rattle.model.specs.State;
 ghost use Rattle.model.specs.Grid.{filled};
-ghost use Rattle.model.specs.State.{State, boundaryOf, wallWest, wallSouth, closedWest, closedSouth};
+ghost use Rattle.model.specs.State.{State, boundaryOf, wallWest, wallSouth, barrierAt, closedWest, closedSouth};
 ghost use Rattle.grid.specs.Cells.{Cell};
 ghost use Rattle.grid.specs.Stencils.{IsAround};
 ghost use Rattle.grid.specs.Parts.{part, replaced};
+ghost use Rattle.grid.specs.Barred.{bars, closedAt, Cleared};
 use model::Boundary;
 use model::BoundaryByte;
 
@@ -66,50 +66,92 @@ pub fn wall_south(e: BoundaryByte, j: usize) -> bool
     }
 }
 
-// Whether the west edge of cell (i, j) is closed, and the south edge, in a state of that kind: whoever works at an edge asks here, and
-// goes by nothing else. They rule out, for instance: the row taken for the column; a closed edge where the kind has no walls.
-pub fn closed_west(kind: u8, i: usize, j: usize) -> bool
-    ensures { λ r. ⌜ ((s : State) → s .kind ≡ kind → r ≡ closedWest s i j) ⌝ }
+// The same of a kind: whether a wall closes the west edges of column i, and the south edges of row j. They rule out, for instance: the walls
+// of an unknown kind; the wall of column 0 along every column.
+pub fn walled_west(kind: u8, i: usize) -> bool
+    ensures { λ r. ⌜ r ≡ wallWest (boundaryOf kind) i ⌝ }
 {
     wall_west(boundary_of(kind), i)
 }
 
-pub fn closed_south(kind: u8, i: usize, j: usize) -> bool
-    ensures { λ r. ⌜ ((s : State) → s .kind ≡ kind → r ≡ closedSouth s i j) ⌝ }
+pub fn walled_south(kind: u8, j: usize) -> bool
+    ensures { λ r. ⌜ r ≡ wallSouth (boundaryOf kind) j ⌝ }
 {
     wall_south(boundary_of(kind), j)
 }
 
-// How many columns of w, from the first on, can have a closed west edge, and how many rows of n a closed south edge: whoever looks for
-// closed edges need go no further. They rule out, for instance: a basin's west wall past them; the last row's for the first's.
-pub fn closable_columns(kind: u8, w: usize) -> usize
-    ensures { λ r. ⌜
-        (r ≤ w)
-        × ((s : State) (i j : ℕ) → s .kind ≡ kind → r ≤ i → i < w → closedWest s i j ≡ false)
-        ⌝ }
+// The byte of barriers (02: piers) of the cell with index k: 0 past the end of them, so that no byte means no barrier. It rules out, for
+// instance: the byte of the cell before; a byte from 128 on taken as negative.
+pub fn barrier_at(barriers: &[u8], k: usize) -> u8
+    ensures { λ r. ⌜ r ≡ getD (now (barriers .entry)) k 0 ⌝ }
 {
-    if w == 0 {
-        return 0;
-    }
-    if wall_west(boundary_of(kind), 0) {
-        return 1;
+    if k < barriers.len() {
+        return barriers[k];
     }
     0
 }
 
-pub fn closable_rows(kind: u8, n: usize) -> usize
+// The highest byte. Its callers need that none is above it, so the contract says that alone. The loop has no exit, so that it is compiled to
+// take many bytes at a time. It rules out, for instance: the last byte left out; the first byte for all.
+pub fn highest(bytes: &[u8]) -> u8
+    ensures { λ r. ⌜ ((k : ℕ) → getD (now (bytes .entry)) k 0 ≤ r) ⌝ }
+{
+    let mut most = 0;
+    for k in 0..bytes.len() {
+        let byte = bytes[k];
+        if most < byte {
+            most = byte;
+        }
+    }
+    most
+}
+
+// An edge of a cell that has a velocity: u stands on the west edge, v on the south edge.
+pub enum Edge {
+    West,
+    South,
+}
+
+// Whether a byte of barriers closes this edge of its cell. It rules out, for instance: the two bits swapped; a west edge that is closed by
+// 1 and not by 3.
+pub fn is_barred(barrier: u8, edge: Edge) -> bool
+    ensures { λ r. ⌜ r ≡ bars edge barrier ⌝ }
+{
+    match edge {
+        Edge::West => barrier % 2 == 1,
+        Edge::South => barrier / 2 % 2 == 1,
+    }
+}
+
+// Whether the west edge of cell (i, j) is closed, and the south edge, in a state of that kind with that byte of barriers: by a wall or by a
+// barrier. They rule out, for instance: a wall that a barrier opens; the south edge's bit for the west edge; a south wall along every row.
+fn closed_west(kind: u8, barrier: u8, i: usize) -> bool
     ensures { λ r. ⌜
-        (r ≤ n)
-        × ((s : State) (i j : ℕ) → s .kind ≡ kind → r ≤ j → j < n → closedSouth s i j ≡ false)
+        ((s : State) (j : ℕ) → s .kind ≡ kind → barrierAt s i j ≡ barrier → r ≡ closedWest s i j)
         ⌝ }
 {
-    if n == 0 {
-        return 0;
+    walled_west(kind, i) || is_barred(barrier, Edge::West)
+}
+
+fn closed_south(kind: u8, barrier: u8, j: usize) -> bool
+    ensures { λ r. ⌜
+        ((s : State) (i : ℕ) → s .kind ≡ kind → barrierAt s i j ≡ barrier → r ≡ closedSouth s i j)
+        ⌝ }
+{
+    walled_south(kind, j) || is_barred(barrier, Edge::South)
+}
+
+// The same of either edge: whoever looks for closed edges asks here. It rules out, for instance: the other edge; the column taken for the
+// row.
+pub fn is_closed(kind: u8, barrier: u8, edge: Edge, i: usize, j: usize) -> bool
+    ensures { λ r. ⌜
+        ((s : State) → s .kind ≡ kind → barrierAt s i j ≡ barrier → r ≡ closedAt s edge i j)
+        ⌝ }
+{
+    match edge {
+        Edge::West => closed_west(kind, barrier, i),
+        Edge::South => closed_south(kind, barrier, j),
     }
-    if wall_south(boundary_of(kind), 0) {
-        return 1;
-    }
-    0
 }
 
 // The next place on a side of w places, and the one before: both wrap, without a division. They rule out, for instance: the last place
@@ -204,5 +246,21 @@ pub fn clear(work: &mut [i64], m: usize)
 {
     for k in 0..m {
         work[k] = 0;
+    }
+}
+
+// Puts 0 on the edges that barriers close: f has, from `at` on, a number for this edge of each cell. It rules out, for instance: a 0 on the
+// other edge; the number of the cell before.
+pub fn clear_barred(f: &mut [i64], at: usize, barriers: &[u8], edge: Edge)
+    requires { ⌜ at + length (now barriers) ≤ length (now f) ⌝ }
+    ensures { λ _. ⌜ Cleared edge (now (barriers .entry)) at (now (f .entry)) (now (f .exit)) ⌝ }
+{
+    if highest(barriers) == 0 {
+        return;
+    }
+    for k in 0..barriers.len() {
+        if is_barred(barriers[k], edge) {
+            f[at + k] = 0;
+        }
     }
 }

@@ -5,7 +5,8 @@ use Prim.Native.Nat.{ℕ, _*_, _≤_}
 use lib.IntN.{ℤ}
 use lib.ListN.{length, take}
 use Rattle.model.specs.Grid.{filled}
-use Rattle.model.specs.State.{State, stateOf, WithinLimits}
+use Rattle.model.specs.Numbers.{depthLimits}
+use Rattle.model.specs.State.{State, Fields, stateFrom, Side, FieldWithin, WithinLimits}
 use Rattle.model.specs.Step.{stepTest, stepAnswer, stepState, workLeft}
 use Rattle.model.specs.Program.{Printed, stepLines}
 use Rattle.model.specs.declared.Parameters.{Parameters}
@@ -19,23 +20,29 @@ pub record Stepped (s : State) (inflow work : List ℤ) (s′ : State) (work′ 
 abbrev pub count : Parameters → ℕ
 count p = p .w * p .n
 
--- the state in the first w·n places of fields
-abbrev pub front : Parameters → List ℤ → List ℤ → List ℤ → List ℤ → State
-front p h b u v = stateOf p (take (count p) h) (take (count p) b) (take (count p) u) (take (count p) v)
+-- lent fields whose first w·n places hold a state within the limits
+pub record Ready (p : Parameters) (d : Fields) : Type 0 where
+  pub inside : WithinLimits (stateFrom p d)
+  pub room-h : count p ≤ length (d .h)
+  pub room-b : count p ≤ length (d .b)
+  pub room-u : count p ≤ length (d .u)
+  pub room-v : count p ≤ length (d .v)
+  pub room-barriers : count p ≤ length (d .barriers)
 
--- where it is one within the limits
-pub record Ready (p : Parameters) (h b u v : List ℤ) : Type 0 where
-  pub inside : WithinLimits (front p h b u v)
-  pub room-h : count p ≤ length h
-  pub room-b : count p ≤ length b
-  pub room-u : count p ≤ length u
-  pub room-v : count p ≤ length v
-
-pub record SteppedParts (p : Parameters) (h b u v inflow work : List ℤ) (out : List ℕ) (r : ℕ) (h′ u′ v′ work′ : List ℤ) (out′ : List ℕ) : Type 0 where
+-- a step of that state: b and the barriers stay
+pub record SteppedParts (p : Parameters) (d : Fields) (inflow work : List ℤ) (out : List ℕ) (r : ℕ) (h′ u′ v′ work′ : List ℤ) (out′ : List ℕ) : Type 0 where
   pub after : State
-  pub steps : after ≡ stepState (front p h b u v) (take (count p) inflow) (length work)
-  pub fills-h : h′ ≡ filled (count p) (after .h) h
-  pub fills-u : u′ ≡ filled (count p) (after .u) u
-  pub fills-v : v′ ≡ filled (count p) (after .v) v
-  pub clears : work′ ≡ workLeft (stepTest (front p h b u v) (take (count p) inflow) (length work)) (front p h b u v) work
-  pub prints : Printed (stepLines (stepAnswer (front p h b u v) (take (count p) inflow) (length work)) after) out r out′
+  pub steps : after ≡ stepState (stateFrom p d) (take (count p) inflow) (length work)
+  pub fills-h : h′ ≡ filled (count p) (after .h) (d .h)
+  pub fills-u : u′ ≡ filled (count p) (after .u) (d .u)
+  pub fills-v : v′ ≡ filled (count p) (after .v) (d .v)
+  pub clears : work′ ≡ workLeft (stepTest (stateFrom p d) (take (count p) inflow) (length work)) (stateFrom p d) work
+  pub prints : Printed (stepLines (stepAnswer (stateFrom p d) (take (count p) inflow) (length work)) after) out r out′
+
+-- what is printed of a state may be printed: its depths are within their limits, and each field has w·n numbers
+pub record Printable (p : Parameters) (h u v : List ℤ) : Type 0 where
+  pub columns : Side (p .w)
+  pub rows : Side (p .n)
+  pub depths : FieldWithin depthLimits (count p) h
+  pub us : length u ≡ count p
+  pub vs : length v ≡ count p

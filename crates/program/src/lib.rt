@@ -1,19 +1,23 @@
 // The step program: a record read into lent arrays, one step, and what is printed of it; the program's own arrays; its input and
 // output.
 ghost use mathlib.Core.Path.{_≡_};
+ghost use mathlib.Core.List.{[]};
 ghost use Prim.Native.Nat.{_≤_};
 ghost use lib.ListN.{length, take};
-ghost use Rattle.model.specs.State.{WithinLimits, lent, before, after};
+ghost use Rattle.model.specs.State.{WithinLimits, stateOf, lent, before, after, slices, slicesBefore, slicesAfter};
 ghost use Rattle.model.specs.Program.{stateLines, programOutput, Printed, ProgramPromise};
-ghost use Rattle.program.specs.Stepped.{Ready, Stepped, SteppedParts};
+ghost use Rattle.program.specs.Stepped.{Printable, Ready, Stepped, SteppedParts};
 use model::Parameters;
 use model::ReadAnswer;
 use model::StepAnswer;
 
-// Prints a state: its total depth, then each cell.
-fn print_state(p: Parameters, h: &[i64], b: &[i64], u: &[i64], v: &[i64], out: &mut [u8]) -> usize
-    requires { ⌜ WithinLimits (lent p h b u v) ⌝ }
-    ensures { λ r. ⌜ Printed (stateLines (before p h b u v)) (now (out .entry)) r (now (out .exit)) ⌝ }
+// Prints a state: its total depth, then each cell. Bottom and barriers do not enter: in the contract they have no cells.
+fn print_state(p: Parameters, h: &[i64], u: &[i64], v: &[i64], out: &mut [u8]) -> usize
+    requires { ⌜ Printable p (now h) (now u) (now v) ⌝ }
+    ensures { λ r. ⌜
+        Printed (stateLines (stateOf p (now (h .entry)) [] (now (u .entry)) (now (v .entry)) []))
+        (now (out .entry)) r (now (out .exit))
+        ⌝ }
 {
     let at = text::put_total(out, scheme_totals::sum_depths(h));
     text::put_cells(out, at, p.w, h, u, v)
@@ -26,19 +30,20 @@ fn step_state(
     b: &[i64],
     u: &mut [i64],
     v: &mut [i64],
+    barriers: &[u8],
     inflow: &[i64],
     work: &mut [i64],
     out: &mut [u8],
 ) -> usize
-    requires { ⌜ WithinLimits (lent p h b u v) ⌝ }
+    requires { ⌜ WithinLimits (lent p h b u v barriers) ⌝ }
     ensures { λ r. ⌜
-        (let s = before p h b u v in
-        Stepped s (now (inflow .entry)) (now (work .entry)) (after p h b u v) (now (work .exit))
+        (let s = before p h b u v barriers in
+        Stepped s (now (inflow .entry)) (now (work .entry)) (after p h b u v barriers) (now (work .exit))
         (now (out .entry)) r (now (out .exit)))
         ⌝ }
 {
-    match step_run::step_within(p, h, b, u, v, inflow, work) {
-        StepAnswer::Done => print_state(p, h, b, u, v, out),
+    match step_run::step_within(p, h, b, u, v, barriers, inflow, work) {
+        StepAnswer::Done => print_state(p, h, u, v, out),
         StepAnswer::Refused(refusal) => text::put_refused(out, answers::number_of(refusal)),
         StepAnswer::OutOfBounds {
             pass: _,
@@ -55,15 +60,16 @@ fn step_parts(
     b: &[i64],
     u: &mut [i64],
     v: &mut [i64],
+    barriers: &[u8],
     inflow: &[i64],
     work: &mut [i64],
     out: &mut [u8],
 ) -> usize
-    requires { ⌜ Ready p (now h) (now b) (now u) (now v) ⌝ }
+    requires { ⌜ Ready p (slices h b u v barriers) ⌝ }
     ensures { λ r. ⌜
-        SteppedParts p (now (h .entry)) (now (b .entry)) (now (u .entry)) (now (v .entry))
-        (now (inflow .entry)) (now (work .entry)) (now (out .entry)) r (now (h .exit)) (now (u .exit))
-        (now (v .exit)) (now (work .exit)) (now (out .exit))
+        SteppedParts p (slicesBefore h b u v barriers) (now (inflow .entry)) (now (work .entry))
+        (now (out .entry)) r (now (h .exit)) (now (u .exit)) (now (v .exit)) (now (work .exit))
+        (now (out .exit))
         ⌝ }
 {
     let m = p.w * p.n;
@@ -74,14 +80,15 @@ fn step_parts(
         &b[..m],
         &mut u[..m],
         &mut v[..m],
+        &barriers[..m],
         &inflow[..k],
         work,
         out,
     )
 }
 
-// A record read into h, b, u and v, one step of it with the inflow lent, and what is printed of that. Answers how many bytes of out
-// it has filled. It rules out, for instance: the total before the step; a refused step that has printed cells; a grid cut to the
+// A record read into h, b, u, v and the barriers, one step of it with the inflow lent, and what is printed of that. Answers how many bytes
+// of out it has filled. It rules out, for instance: the total before the step; a refused step that has printed cells; a grid cut to the
 // room lent.
 pub fn print_step(
     input: &[u8],
@@ -89,24 +96,25 @@ pub fn print_step(
     b: &mut [i64],
     u: &mut [i64],
     v: &mut [i64],
+    barriers: &mut [u8],
     inflow: &[i64],
     work: &mut [i64],
     out: &mut [u8],
 ) -> usize
     ensures { λ r. ⌜
-        ProgramPromise (now (input .entry)) (now (h .entry)) (now (b .entry)) (now (u .entry))
-        (now (v .entry)) (now (inflow .entry)) (now (work .entry)) (now (out .entry)) r (now (h .exit))
-        (now (b .exit)) (now (u .exit)) (now (v .exit)) (now (work .exit)) (now (out .exit))
+        ProgramPromise (now (input .entry)) (slicesBefore h b u v barriers) (now (inflow .entry))
+        (now (work .entry)) (now (out .entry)) r (slicesAfter h b u v barriers) (now (work .exit))
+        (now (out .exit))
         ⌝ }
 {
     if input.len() >= 65536 {
         return text::put_refused(out, 7);
     }
-    match record_read::read(input, h, b, u, v) {
+    match record_read::read(input, h, b, u, v, barriers) {
         ReadAnswer::Read {
             parameters,
             timestamp: _,
-        } => step_parts(parameters, h, b, u, v, inflow, work, out),
+        } => step_parts(parameters, h, b, u, v, barriers, inflow, work, out),
         ReadAnswer::Refused(refusal) => text::put_refused(out, answers::number_of(refusal)),
     }
 }
@@ -120,6 +128,7 @@ pub fn output(input: &[u8], out: &mut [u8]) -> usize
     let mut b = [0; 1024];
     let mut u = [0; 1024];
     let mut v = [0; 1024];
+    let mut barriers = [0u8; 1024];
     let inflow = [0; 1024];
     let mut work = [0; 8192];
     print_step(
@@ -128,6 +137,7 @@ pub fn output(input: &[u8], out: &mut [u8]) -> usize
         &mut b,
         &mut u,
         &mut v,
+        &mut barriers,
         &inflow,
         &mut work,
         out,

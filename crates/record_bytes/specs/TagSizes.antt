@@ -7,7 +7,7 @@ use lib.Dec.{T, eqb, leb, leb→le}
 use lib.ListN.{length, take}
 use Rattle.model.specs.Numbers.{all}
 use Rattle.model.specs.Refusals.{lengthTest}
-use Rattle.model.specs.Record.{Size, fixed, perCell, TagRow, tagTable, Part, valueOf, sizeIn, allows, bytesTest, bytesTests}
+use Rattle.model.specs.Record.{Size, fixed, perCell, TagRow, tagTable, Part, has, valueOf, sizeIn, allows, bytesTest, bytesTests}
 use Rattle.theorems.specs.Truth.{and-iff, differ}
 use Rattle.theorems.specs.TagLaws.{each-tag}
 use Rattle.record_bytes.specs.declared.TagSize.{TagSize}
@@ -30,13 +30,13 @@ pub cells-allow : (z : Size) {k : ℕ} (size : ℕ) → PerCell k ≡ tagSizeOf 
 cells-allow (fixed m) size e = differ (cc e)
 cells-allow (perCell m) size e = refl
 
--- test 2 of a value, by the code's
+-- test 2 of a value that is there, by the code's
 module _ (m : ℕ) (value : List ℕ) where
-  pub fixed-untested : (z : Size) {k : ℕ} → Fixed k ≡ tagSizeOf z → bytesTest m value z ≡ []
+  pub fixed-untested : (z : Size) {k : ℕ} → Fixed k ≡ tagSizeOf z → bytesTest m true value z ≡ []
   fixed-untested (fixed n) e = refl
   fixed-untested (perCell n) e = differ (cc e)
 
-  pub cells-tested : (z : Size) {k : ℕ} → PerCell k ≡ tagSizeOf z → bytesTest m value z ≡ lengthTest (k * m) (length value) ∷ []
+  pub cells-tested : (z : Size) {k : ℕ} → PerCell k ≡ tagSizeOf z → bytesTest m true value z ≡ lengthTest (k * m) (length value) ∷ []
   cells-tested (fixed n) e = differ (cc e)
   cells-tested (perCell n) {k} e = let h : k ≡ n = cc e in ap (λ n. lengthTest (n * m) (length value) ∷ []) (sym h)
 
@@ -62,7 +62,7 @@ cells-few t {k} e = by (sizeIn tagTable t) (few-in tagTable t tt) e
 
 -- test 2 by rising tag: one row more
 pub row-more : (m : ℕ) (parts : List Part) (t : ℕ) → 1 ≤ t → t ≤ lastTag
-    → bytesTests m parts (take (t - 1) tagTable) ++ bytesTest m (valueOf t parts) (sizeIn tagTable t) ≡ bytesTests m parts (take t tagTable)
+    → bytesTests m parts (take (t - 1) tagTable) ++ bytesTest m (has t parts) (valueOf t parts) (sizeIn tagTable t) ≡ bytesTests m parts (take t tagTable)
 row-more m parts =
-    each-tag (λ t. bytesTests m parts (take (t - 1) tagTable) ++ bytesTest m (valueOf t parts) (sizeIn tagTable t) ≡ bytesTests m parts (take t tagTable))
-    (refl, (refl, (refl, (refl, (refl, (refl, (refl, (refl, tt))))))))
+    each-tag (λ t. bytesTests m parts (take (t - 1) tagTable) ++ bytesTest m (has t parts) (valueOf t parts) (sizeIn tagTable t) ≡ bytesTests m parts (take t tagTable))
+    (refl, (refl, (refl, (refl, (refl, (refl, (refl, (refl, (refl, tt)))))))))

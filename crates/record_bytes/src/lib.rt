@@ -2,9 +2,9 @@
 // every count of bytes. And the table of the record's tags, by which its writer, reader and comparison go.
 ghost use mathlib.Core.Path.{_≡_};
 ghost use Prim.Native.Nat.{_+_, _*_, _^_, _≤_, _<_};
-ghost use lib.ListN.{length, take, drop};
+ghost use lib.ListN.{length, getD, take, drop};
 ghost use mir.Val.{toZ, ofZ, SFits, hbits};
-ghost use Rattle.model.specs.Grid.{filled};
+ghost use Rattle.model.specs.Grid.{tabulate, filled};
 ghost use Rattle.model.specs.Record.{bytes, unsigned, tagTable, sizeIn};
 ghost use Rattle.theorems.specs.NumbersAsBytes.{EachFits};
 ghost use Rattle.record_bytes.specs.NumberSizes.{sizeOf, widthOf, signedBy, bytesBy, numbersBy, valueBy};
@@ -172,6 +172,32 @@ pub fn put_numbers(d: &mut [u8], k: usize, f: &[i64], size: Size) -> usize
     after
 }
 
+// ---- fields of bytes
+
+// Fills the first m places of d with the bytes of a value, and 0 past its end. It rules out, for instance: places left as they were where
+// there is no value; a place past them.
+pub fn read_bytes(value: &[u8], m: usize, d: &mut [u8])
+    requires { ⌜ m ≤ length (now d) ⌝ }
+    ensures { λ _. ⌜
+        now (d .exit) ≡ filled m (tabulate m (λ k. getD (now (value .entry)) k 0)) (now (d .entry))
+        ⌝ }
+{
+    for i in 0..m {
+        d[i] = grid::barrier_at(value, i);
+    }
+}
+
+// Puts bytes, one after the other, from k on. It rules out, for instance: the first byte at every place; the last byte left out.
+pub fn put_bytes(d: &mut [u8], k: usize, f: &[u8]) -> usize
+    requires { ⌜ k + length (now f) ≤ length (now d) ⌝ }
+    ensures { λ r. ⌜ Puts (now (d .entry)) k (now (f .entry)) r (now (d .exit)) ⌝ }
+{
+    for i in 0..f.len() {
+        d[k + i] = f[i];
+    }
+    k + f.len()
+}
+
 // ---- the table of tags
 
 // How many bytes the value of a tag has in a record: so many, or so many a cell.
@@ -181,7 +207,7 @@ pub enum TagSize {
 }
 
 // Tags are 1 to this one.
-pub const LAST_TAG: usize = 8;
+pub const LAST_TAG: usize = 9;
 
 // Of these a record must have 1 to this one.
 pub const LAST_REQUIRED: usize = 7;
@@ -200,6 +226,7 @@ pub fn tag_size(tag: usize) -> TagSize
         6 => TagSize::PerCell(2),
         7 => TagSize::PerCell(2),
         8 => TagSize::Fixed(2),
+        9 => TagSize::PerCell(1),
         _ => TagSize::PerCell(0),
     }
 }

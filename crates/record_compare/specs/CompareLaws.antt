@@ -1,6 +1,6 @@
 -- What the comparison of two records answers, by what is found in each. Assumes nothing.
 use mathlib.Core.Path.{_≡_, refl, sym, ap, ap₂, _∙_}
-use mathlib.Core.Bool.{Bool, true, false, cond, _&&_, _||_}
+use mathlib.Core.Bool.{Bool, true, false, cond, _&&_, _||_, or-false}
 use mathlib.Core.List.{List, []}
 use Prim.Native.Nat.{ℕ, _≤_}
 use native.Mathlib.Nat.{le-refl}
@@ -15,7 +15,6 @@ use Rattle.model.specs.declared.Timestamp.{Timestamp}
 use Rattle.model.specs.declared.Refusal.{Refusal}
 use Rattle.model.specs.declared.CompareAnswer.{CompareAnswer}
 use Rattle.model.specs.declared.CompareAnswer.the-variants.{Same, FirstNewer, SecondNewer, Conflict, FirstRefused, SecondRefused}
-use Rattle.theorems.specs.Truth.{or-false}
 use Rattle.theorems.specs.Limits.{known-iff}
 use Rattle.record_tags.specs.Places.{partsIn}
 use Rattle.record_tests.specs.RecordTested.{stateRead, Accepted}

@@ -1,6 +1,7 @@
--- Two accepted records have the same state exactly where each tag that is required, but for 3, has the same bytes in both. Assumes nothing.
-use mathlib.Core.Path.{_≡_, refl, sym, ap, subst, _∙_}
-use mathlib.Core.Bool.{true, false}
+-- Two accepted records have the same state exactly where each tag that is required, but for 3, has the same bytes in both, and tag 9 means
+-- the same barriers. Assumes nothing.
+use mathlib.Core.Path.{_≡_, refl, sym, ap, ap₂, subst, _∙_}
+use mathlib.Core.Bool.{Bool, true, false}
 use mathlib.Core.List.{List}
 use Prim.Native.Nat.{ℕ, _+_, _*_, _≤_, _<_}
 use native.Mathlib.Omega.{arith}
@@ -8,18 +9,22 @@ use lib.Dec.{T, eqb, eqb→eq, eqb-refl}
 use lib.ListN.{take, drop, getD}
 use borrow.Author.Count.{below-more}
 use Rattle.model.specs.Numbers.{sameBy}
-use Rattle.model.specs.State.{State}
+use Rattle.model.specs.Grid.{tabulate}
+use Rattle.model.specs.State.{State, parametersOf, cells}
+use Rattle.model.specs.Refusals.{gridKnown}
 use Rattle.model.specs.Record.{valueOf, partsOf, signed2, signed4, numbers, stateIn, timestampIn, sameState}
 use Rattle.model.specs.declared.Timestamp.{Timestamp}
 use Rattle.theorems.specs.Truth.{T-true, true-T, not-T, same-by, by-same}
 use Rattle.theorems.specs.Walks.{whole-record}
 use Rattle.theorems.specs.TagLaws.{lastRequired, each-required, required-known, there}
 use Rattle.theorems.specs.Damage.{whole-iff}
+use Rattle.theorems.specs.Limits.{known-iff}
 use Rattle.theorems.specs.RoundTrip.{fields-iff}
 use Rattle.theorems.specs.Written.{all-bytes, as-written}
 use Rattle.theorems.specs.Comparing.{same-state, same-self}
 use Rattle.record_tags.specs.Places.{partsIn}
 use Rattle.record_tests.specs.RecordTested.{stateRead, Accepted}
+use Rattle.record_tests.proofs.ValueLaws.{barriers-are}
 use Rattle.record_compare.specs.Read.{rooms, BothRead}
 
 -- ---- two lists, by a test of their numbers
@@ -45,7 +50,7 @@ module _ {rec at : List ℕ} (bytes : (k : ℕ) → getD rec k 0 < 256) (a : Acc
       let parts = partsIn rec in
       let w = whole-iff rec parts .0 (a .placed .walks) in
       let each = whole-record rec (all-bytes rec bytes) parts (a .placed .walks) .each in
-      as-written parts (w .1) each (fields-iff parts rooms .0 (a .passes) .0) t (there parts (w .1) t l h) (required-known t l h)
+      as-written parts (w .1) each (fields-iff parts rooms (w .1) .0 (a .passes) .0) t (there parts (w .1) t l h) (required-known t l h)
 
 -- so a tag whose value differs tells two states apart
 pub other-read : {first p second q : List ℕ} → ((k : ℕ) → getD first k 0 < 256) → ((k : ℕ) → getD second k 0 < 256) → BothRead first p second q
@@ -79,9 +84,13 @@ module _ {first second : List ℕ} where
   }
 
   -- all of them have
-  state-same : {m : ℕ} → SameTo first second m → lastRequired < m → stateRead first ≡ stateRead second
+  cells-same : {m : ℕ} → SameTo first second m → lastRequired < m → cells (stateRead first) ≡ cells (stateRead second)
   unfolding stateRead stateIn
-  state-same s h =
+  cells-same s h = ap (λ l. getD l 0 0 * getD l 1 0) (s .each 1 (omega arith) (omega arith) (λ e. omega arith))
+
+  state-same : {m : ℕ} → SameTo first second m → lastRequired < m → stateRead first .barriers ≡ stateRead second .barriers → stateRead first ≡ stateRead second
+  unfolding stateRead stateIn
+  state-same s h e9 =
       let e1 = s .each 1 (omega arith) (omega arith) (λ e. omega arith) in
       let e2 = s .each 2 (omega arith) (omega arith) (λ e. omega arith) in
       let e4 = s .each 4 (omega arith) (omega arith) (λ e. omega arith) in
@@ -99,7 +108,32 @@ module _ {first second : List ℕ} where
         b = numbers signed4 4 (getD (e1 i) 0 0 * getD (e1 i) 1 0) (e5 i);
         u = numbers signed2 2 (getD (e1 i) 0 0 * getD (e1 i) 1 0) (e6 i);
         v = numbers signed2 2 (getD (e1 i) 0 0 * getD (e1 i) 1 0) (e7 i);
+        barriers = e9 i;
       }
 
-  pub same-read : {m : ℕ} → SameTo first second m → lastRequired < m → true ≡ sameState (stateRead first) (stateRead second)
-  same-read s h = sym (ap (sameState (stateRead first)) (sym (state-same s h)) ∙ T-true _ (same-self (stateRead first)))
+  -- then the barriers decide
+  by-barriers : {m : ℕ} → SameTo first second m → lastRequired < m → (x : Bool) → sameBy eqb (stateRead first .barriers) (stateRead second .barriers) ≡ x
+      → x ≡ sameState (stateRead first) (stateRead second)
+  by-barriers s h true e =
+      let same = state-same s h (same-by eqb eqb→eq (stateRead first .barriers) (stateRead second .barriers) (true-T e)) in
+      sym (ap (sameState (stateRead first)) (sym same) ∙ T-true _ (same-self (stateRead first)))
+  by-barriers s h false e =
+      sym (not-T (sameState (stateRead first) (stateRead second)) (λ x.
+      subst T (lists-same (ap (λ s. s .barriers) (same-state (stateRead first) (stateRead second) x)) ∙ e) tt))
+
+  -- as they are compared, over the m cells of the first record
+  pub same-read : {k m : ℕ} {a b : List ℕ} → SameTo first second k → lastRequired < k → m ≡ cells (stateRead first) → a ≡ valueOf 9 (partsIn first) → b ≡ valueOf 9 (partsIn second)
+      → sameBy eqb (tabulate m (λ k. getD a k 0)) (tabulate m (λ k. getD b k 0)) ≡ sameState (stateRead first) (stateRead second)
+  same-read {m = m} {a} {b} s h e p q =
+      ap₂ (sameBy eqb)
+      (ap₂ (λ n l. tabulate n (λ k. getD l k 0)) e p ∙ sym (barriers-are first))
+      (ap₂ (λ n l. tabulate n (λ k. getD l k 0)) (e ∙ cells-same s h) q ∙ sym (barriers-are second))
+      ∙ by-barriers s h _ refl
+
+-- ---- the grid of an accepted record is known
+
+pub known-grid : {rec at : List ℕ} → Accepted rec at rooms → T (gridKnown (parametersOf (stateRead rec)))
+unfolding stateRead
+known-grid {rec} a =
+    let l = fields-iff (partsIn rec) rooms (whole-iff rec (partsIn rec) .0 (a .placed .walks) .1) .0 (a .passes) .3 in
+    known-iff (parametersOf (stateRead rec)) .1 (record { columns = l .columns; rows = l .rows; boundary = l .boundary })

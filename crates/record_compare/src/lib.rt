@@ -2,7 +2,9 @@
 ghost use mathlib.Core.Path.{_≡_};
 ghost use Prim.Native.Nat.{_≤_};
 ghost use lib.Dec.{eqb};
+ghost use lib.ListN.{getD};
 ghost use Rattle.model.specs.Numbers.{sameBy};
+ghost use Rattle.model.specs.Grid.{tabulate};
 ghost use Rattle.model.specs.Record.{valueOf, newer, sameState};
 ghost use Rattle.model.specs.Promises.{ComparePromise};
 ghost use Rattle.record_bytes.specs.TagSizes.{lastTag};
@@ -43,8 +45,23 @@ fn same_value(first: &[u8], p: &Places, second: &[u8], q: &Places, tag: usize) -
     )
 }
 
+// Whether two values of tag 9 mean the same barriers of m cells: no byte for a cell means 0.
+fn same_barriers(a: &[u8], b: &[u8], m: usize) -> bool
+    ensures { λ r. ⌜
+        r ≡ sameBy eqb (tabulate m (λ k. getD (now (a .entry)) k 0))
+        (tabulate m (λ k. getD (now (b .entry)) k 0))
+        ⌝ }
+{
+    for k in 0..m {
+        if grid::barrier_at(a, k) != grid::barrier_at(b, k) {
+            return false;
+        }
+    }
+    true
+}
+
 // Whether two accepted records have the same state: tags 1, 2 and 4 to 7 mean the same exactly where they have the same bytes, since
-// their lengths are right. p and q are the places of their tags.
+// their lengths are right; tag 9 may be absent. p and q are the places of their tags.
 fn same_state(first: &[u8], p: &Places, second: &[u8], q: &Places) -> bool
     requires { ⌜ BothRead (now first) (now p) (now second) (now q) ⌝ }
     ensures { λ r. ⌜ r ≡ sameState (stateRead (now (first .entry))) (stateRead (now (second .entry))) ⌝ }
@@ -57,7 +74,10 @@ fn same_state(first: &[u8], p: &Places, second: &[u8], q: &Places) -> bool
             }
         }
     }
-    true
+    let m = tests::cells_of(record_tests::parameters_in(first, p));
+    let a = record_tags::value_of(first, p, 9);
+    let b = record_tags::value_of(second, q, 9);
+    same_barriers(a, b, m)
 }
 
 // Whether a timestamp is newer than another: by second, then millisecond. Never by one number of milliseconds, which need not fit.
@@ -91,7 +111,8 @@ fn compare_read(first: &[u8], p: &Places, second: &[u8], q: &Places) -> CompareA
 
 // Two records compared (01: same, first newer, second newer, clash): the first is tested wholly, then the second. Refusals: 7, 1, 2, 3,
 // 9, 4, 5, of the first or of the second. It rules out, for instance: an answer by timestamp before the second record is tested; same
-// where only the states are the same; a conflict where the milliseconds differ.
+// where only the states are the same; a conflict where the milliseconds differ; same where the barriers differ; a record without tag 9
+// told apart from one of zeros.
 pub fn compare(first: &[u8], second: &[u8]) -> CompareAnswer
     ensures { λ r. ⌜ ComparePromise (now (first .entry)) (now (second .entry)) r ⌝ }
 {

@@ -8,8 +8,7 @@ use contract.Lifetimes.{Lfts}
 use denote.Ref.{now}
 use denote.Triple.Clauses.{AtExit}
 use borrow.Fn.Kinds.{Dens, resT, endedOf}
-use lib.IntN.{ℤ}
-use Rattle.model.specs.State.{State, stateOf}
+use Rattle.model.specs.State.{State, Fields, stateOf, slices}
 use Rattle.model.specs.Promises.{WritePromise, ReadPromise}
 use Rattle.model.specs.declared.Timestamp.{Timestamp}
 use Rattle.model.specs.declared.ReadAnswer.{ReadAnswer}
@@ -23,23 +22,17 @@ use Rattle.record_read.proofs.read.Reads as read-reads
 
 pub record ReadCall : Type 0 where
   pub rec : List ℕ
-  pub h : List ℤ
-  pub b : List ℤ
-  pub u : List ℤ
-  pub v : List ℤ
-  pub h′ : List ℤ
-  pub b′ : List ℤ
-  pub u′ : List ℤ
-  pub v′ : List ℤ
+  pub d : Fields
+  pub d′ : Fields
   pub answer : ReadAnswer
-  pub promise : ReadPromise rec h b u v answer h′ b′ u′ v′
+  pub promise : ReadPromise rec d answer d′
 
-module _ (κs : Lfts 5) (a : Dens κs read-kinds.ps) (answer : resT read-kinds.r κs .Denot) (e : AtExit (endedOf 5 read-kinds.ps read-kinds.r) κs) where
+module _ (κs : Lfts 6) (a : Dens κs read-kinds.ps) (answer : resT read-kinds.r κs .Denot) (e : AtExit (endedOf 6 read-kinds.ps read-kinds.r) κs) where
   abbrev pub read-call : read-reads.Learnt κs a answer e → ReadCall
   read-call told =
-      let (rec, (h, (b, (u, (v, _))))) = a in
-      let (_, (h′, (b′, (u′, (v′, _))))) = e in
-      record { rec = now rec; h = now h; b = now b; u = now u; v = now v; h′ = now h′; b′ = now b′; u′ = now u′; v′ = now v′; answer = answer; promise = told }
+      let (rec, (h, (b, (u, (v, (barriers, _)))))) = a in
+      let (_, (h′, (b′, (u′, (v′, (barriers′, _)))))) = e in
+      record { rec = now rec; d = slices h b u v barriers; d′ = slices h′ b′ u′ v′ barriers′; answer = answer; promise = told }
 
 -- ---- `write`
 
@@ -51,9 +44,9 @@ pub record WriteCall : Type 0 where
   pub answer : WriteAnswer
   pub promise : WritePromise state timestamp d answer d′
 
-module _ (κs : Lfts 5) (a : Dens κs write-kinds.ps) (answer : resT write-kinds.r κs .Denot) (e : AtExit (endedOf 5 write-kinds.ps write-kinds.r) κs) where
+module _ (κs : Lfts 6) (a : Dens κs write-kinds.ps) (answer : resT write-kinds.r κs .Denot) (e : AtExit (endedOf 6 write-kinds.ps write-kinds.r) κs) where
   abbrev pub write-call : write-reads.Learnt κs a answer e → WriteCall
   write-call told =
-      let (p, (h, (b, (u, (v, (timestamp, (d, _))))))) = a in
-      let (_, (_, (_, (_, (_, (_, (d′, _))))))) = e in
-      record { state = stateOf p (now h) (now b) (now u) (now v); timestamp = timestamp; d = now d; d′ = now d′; answer = answer; promise = told }
+      let (p, (h, (b, (u, (v, (barriers, (timestamp, (d, _)))))))) = a in
+      let (_, (_, (_, (_, (_, (_, (_, (d′, _)))))))) = e in
+      record { state = stateOf p (now h) (now b) (now u) (now v) (now barriers); timestamp = timestamp; d = now d; d′ = now d′; answer = answer; promise = told }

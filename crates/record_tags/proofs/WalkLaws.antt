@@ -1,6 +1,6 @@
 -- A walk under way: the fields found so far, and what is left to walk. Assumes nothing.
 use mathlib.Core.Path.{_≡_, refl, sym, ap, subst, _∙_}
-use mathlib.Core.Bool.{Bool, true, false, _||_}
+use mathlib.Core.Bool.{Bool, true, false, _||_, or-false}
 use mathlib.Core.List.{List, [], _∷_, _++_}
 use mathlib.Core.Option.{Option, none, some}
 use mathlib.Core.Logic.{inl, inr}
@@ -16,7 +16,7 @@ use Rattle.model.specs.Promises.{answerOf}
 use Rattle.model.specs.declared.Refusal.{Refusal}
 use Rattle.model.specs.declared.Answer.{Answer}
 use Rattle.model.specs.declared.Answer.the-variants.{Accepted, Refused}
-use Rattle.theorems.specs.Truth.{or-false, T-true, differ}
+use Rattle.theorems.specs.Truth.{T-true, differ}
 use Rattle.theorems.specs.Walks.{Sound, sound-iff, walk-step, walk-end, atEnd}
 use Rattle.theorems.specs.TagLaws.{known-iff, there}
 use Rattle.theorems.specs.Damage.{whole-iff}

@@ -3,10 +3,11 @@ ghost use mathlib.Core.Path.{_≡_};
 ghost use mathlib.Core.List.{List};
 ghost use Prim.Native.Nat.{_+_, _≤_, _<_};
 ghost use lib.ListN.{length, replicate};
+ghost use Rattle.model.specs.Record;
 ghost use Rattle.model.specs.Record.{Part, sizeAt, partAt, rightSize, tagTest, missingTest};
 ghost use Rattle.model.specs.Promises.{answerOf};
 ghost use Rattle.record_bytes.specs.TagSizes.{lastTag};
-ghost use Rattle.record_tags.specs.Places.{places, Seen, Placed, Found, IsValue};
+ghost use Rattle.record_tags.specs.Places.{places, partsIn, Seen, Placed, Found, IsValue};
 use model::Answer;
 use model::Refusal;
 use record_bytes::TagSize;
@@ -115,6 +116,15 @@ pub fn walk(rec: &[u8], at: &mut Places) -> Answer
         k = k + 3 + size_at(rec, k);
     }
     test_end(rec, at)
+}
+
+// Whether a record that passes test 7 has a tag. It rules out, for instance: a tag with an empty value taken for an absent one; a tag that
+// comes last left out.
+pub fn has(rec: &[u8], at: &Places, tag: usize) -> bool
+    requires { ⌜ Placed (now rec) (now at) × (1 ≤ tag) × (tag ≤ lastTag) ⌝ }
+    ensures { λ r. ⌜ r ≡ Record.has tag (partsIn (now (rec .entry))) ⌝ }
+{
+    at[tag] < rec.len()
 }
 
 // The value of a tag, in a record that passes test 7: no bytes where it has none. It rules out, for instance: the value of another tag; a

@@ -1,32 +1,36 @@
 -- Tests 1, 2, 8, 3, 9, 4, 5 of a record that passes test 7, as the code makes them. Assumes nothing.
-use mathlib.Core.Path.{_≡_, refl, sym, ap, _∙_}
-use mathlib.Core.Bool.{Bool, true, false}
-use mathlib.Core.List.{List, [], _∷_, _++_}
-use Prim.Native.Nat.{ℕ, _*_}
+use mathlib.Core.Path.{_≡_, refl, sym, ap, ap₂, subst, _∙_}
+use mathlib.Core.Logic.{_⊎_, ⊎-elim}
+use mathlib.Core.Bool.{Bool, true, false, not, _&&_, _||_}
+use mathlib.Core.List.{List, [], _∷_, _++_, map}
+use Prim.Native.Nat.{ℕ, _+_, _*_, _/_, _%_, _≤_, zero-le}
 use lib.Dec.{T}
-use lib.IntN.{ℤ}
-use Rattle.model.specs.State.{State, stateOf, parametersOf, cells}
-use Rattle.model.specs.Tests.{Test, must, _then_, firstFound}
+use lib.IntN.{ℤ, pos}
+use lib.ListN.{length, getD, replicate}
+use Rattle.model.specs.Numbers.{eqℤ}
+use Rattle.model.specs.State.{State, stateOf, parametersOf, cells, boundaryOf, wallWest, wallSouth, barsWest, barsSouth, closedWest, closedSouth}
+use Rattle.model.specs.Tests.{Test, seeks, must, _then_, firstFound}
 use Rattle.model.specs.Refusals.{taken, fieldsOf, gridKnown, edgeTests, timedContentTests, roomTests}
 use Rattle.model.specs.Fields.{limitsOf}
-use Rattle.model.specs.Record.{tagTable, Part, bytesTests, recordTest, Walked, damaged, whole, walked, stateIn, timestampIn, judged, readBy, decode}
+use Rattle.model.specs.Record.{Size, fixed, perCell, tagTable, Part, bytesTest, bytesTests, recordTest, Walked, damaged, whole, walked, stateIn, timestampIn, judged, readBy, decode}
 use Rattle.model.specs.Promises.{answerOf}
-use Rattle.model.specs.Claims.{BytesOf}
+use Rattle.model.specs.Claims.{Missing, BytesOf}
 use Rattle.model.specs.declared.Parameters.{Parameters}
 use Rattle.model.specs.declared.Timestamp.{Timestamp}
 use Rattle.model.specs.declared.Field.{Field}
 use Rattle.model.specs.declared.Field.the-variants.{VelocityU, VelocityV}
 use Rattle.model.specs.declared.Refusal.{Refusal}
-use Rattle.model.specs.declared.Refusal.the-variants.{Grid}
+use Rattle.model.specs.declared.Refusal.the-variants.{Grid, ClosedEdge}
 use Rattle.model.specs.declared.Answer.{Answer}
 use Rattle.model.specs.declared.Answer.the-variants.{Accepted, Refused}
 use Rattle.theorems.specs.Truth.{true-T, differ}
 use Rattle.theorems.specs.TestLaws.{passes-append, found-append}
 use Rattle.theorems.specs.RoundTrip.{bytes-iff}
-use Rattle.tests.specs.declared.Edge.{Edge}
-use Rattle.tests.specs.declared.Edge.the-variants.{West, South}
-use Rattle.tests.specs.Sought.{bare, stillTest, edges-are}
-use Rattle.tests.specs.Links.{after, Chain, passed, accepted-none, refused-some}
+use Rattle.grid.specs.CellFields.{same-at}
+use Rattle.grid.specs.declared.Edge.{Edge}
+use Rattle.grid.specs.declared.Edge.the-variants.{West, South}
+use Rattle.tests.specs.Sought.{bare, stillTest, edges-are, barriersTest}
+use Rattle.tests.specs.Links.{after, Chain, idle, passed, small-inside, accepted-none, refused-some}
 use Rattle.record_tags.specs.Places.{partsIn, Placed, Found}
 use Rattle.record_tests.specs.RecordTested.{stateRead, Meant, Examined}
 
@@ -44,16 +48,50 @@ module _ {rec at : List ℕ} {p : Parameters} (z : Meant rec at p) where
   own-taken field e = λ i. record { field = field; count = cells-are i; limits = limitsOf field; numbers = e i }
 
   -- u's edges, then v's
-  pub own-edges : stillTest p West VelocityU (s .u) ∷ stillTest p South VelocityV (s .v) ∷ [] ≡ edgeTests s
-  own-edges = edges-are p (s .h) (s .b) (s .u) (s .v) ∙ ap (λ p. edgeTests (stateOf p (s .h) (s .b) (s .u) (s .v))) (z .parameters)
+  pub own-edges : stillTest p (s .barriers) West VelocityU (s .u) ∷ stillTest p (s .barriers) South VelocityV (s .v) ∷ [] ≡ edgeTests s
+  own-edges = edges-are p (s .h) (s .b) (s .u) (s .v) (s .barriers) ∙ ap (λ p. edgeTests (stateOf p (s .h) (s .b) (s .u) (s .v) (s .barriers))) (z .parameters)
 
--- a link whose numbers are known to be others
-pub numbers-as : (a : Answer) {r : Answer} (p : Parameters) (edge : Edge) (field : Field) {l f : List ℤ} → l ≡ f → r ≡ after a (stillTest p edge field l ∷ []) → r ≡ after a (stillTest p edge field f ∷ [])
-numbers-as a p edge field e h = h ∙ ap (λ l. after a (stillTest p edge field l ∷ [])) e
+-- tests that go by barriers go by what they mean at each cell
+module _ (o l : List ℕ) (e : (k : ℕ) → getD o k 0 ≡ getD l k 0) where
+  pub same-still : (p : Parameters) (edge : Edge) (field : Field) (f : List ℤ) → stillTest p o edge field f ≡ stillTest p l edge field f
+  unfolding closedWest closedSouth
+  same-still p West field f =
+      λ i. seeks (λ k. (wallWest (boundaryOf (p .kind)) (k % p .w) || barsWest (e (k / p .w * p .w + k % p .w) i)) && not (eqℤ (getD f k (pos 0)) (pos 0))) (p .w * p .n) (ClosedEdge field)
+  same-still p South field f =
+      λ i. seeks (λ k. (wallSouth (boundaryOf (p .kind)) (k / p .w) || barsSouth (e (k / p .w * p .w + k % p .w) i)) && not (eqℤ (getD f k (pos 0)) (pos 0))) (p .w * p .n) (ClosedEdge field)
+
+-- a value of barriers has all bytes of m cells, or none, and then there are no barriers
+abbrev pub AllOrNone : (o l : List ℕ) (m : ℕ) → Type 0
+AllOrNone o l m = ((o ≡ l) × (length o ≡ m)) ⊎ ((o ≡ []) × (l ≡ replicate m 0))
+
+-- so test 4 of its bytes is that of the barriers, where it is not idle
+pub bytes-tested : (a : Answer) {r : Answer} (o l : List ℕ) (m : ℕ) → (a ≡ Accepted → AllOrNone o l m)
+    → r ≡ after a (barriersTest o (length o) ∷ []) → r ≡ after a (barriersTest l m ∷ [])
+bytes-tested (Refused x) o l m e h = h
+bytes-tested Accepted o l m e h =
+    h
+    ∙ ⊎-elim
+    (λ x. ap₂ (λ o m. after Accepted (barriersTest o m ∷ [])) (x .0) (x .1))
+    (λ x. ap (λ o. after Accepted (barriersTest o (length o) ∷ [])) (x .0) ∙ small-inside [] 0 (λ k. zero-le) ∙ sym (small-inside (replicate m 0) m (λ k. subst (λ y. y ≤ 3) (sym (same-at m 0 k)) zero-le)) ∙ ap (λ l. after Accepted (barriersTest l m ∷ [])) (sym (x .1)))
+    (e refl)
+
+-- a link whose numbers are known to be others, and so its barriers, where it is not idle
+pub numbers-as : (a : Answer) {r : Answer} (p : Parameters) (edge : Edge) (field : Field) (o l : List ℕ) {x f : List ℤ} → (a ≡ Accepted → (k : ℕ) → getD o k 0 ≡ getD l k 0) → x ≡ f
+    → r ≡ after a (stillTest p o edge field x ∷ []) → r ≡ after a (stillTest p l edge field f ∷ [])
+numbers-as a p edge field o l {x} {f} b e h =
+    h
+    ∙ ap (λ x. after a (stillTest p o edge field x ∷ [])) e
+    ∙ idle a (stillTest p o edge field f ∷ []) (stillTest p l edge field f ∷ []) (λ q. ap (λ t. t ∷ []) (same-still o l (b q) p edge field f))
+
+-- test 2 of a tag that is absent passes
+pub absent-passes : (a : Answer) (m : ℕ) (value : List ℕ) (z : Size) → after a (bytesTest m false value z) ≡ a
+absent-passes Accepted m value (fixed k) = refl
+absent-passes Accepted m value (perCell k) = refl
+absent-passes (Refused r) m value z = refl
 
 -- where test 2 has passed, after one test
-pub bytes-passed : (m : ℕ) (parts : List Part) {e a : Answer} {t : Test Refusal} {k : List (Test Refusal)} → Chain e a (t ∷ (bytesTests m parts tagTable ++ k)) → a ≡ Accepted → BytesOf m parts
-bytes-passed m parts {k = k} c h = bytes-iff m parts .0 (passes-append (bytesTests m parts tagTable) k .0 (passed c h .1) .0)
+pub bytes-passed : (m : ℕ) (parts : List Part) → (Missing parts → ⊥) → {e a : Answer} {t : Test Refusal} {k : List (Test Refusal)} → Chain e a (t ∷ (bytesTests m parts tagTable ++ k)) → a ≡ Accepted → BytesOf m parts
+bytes-passed m parts full {k = k} c h = bytes-iff m parts full .0 (passes-append (bytesTests m parts tagTable) k .0 (passed c h .1) .0)
 
 -- ---- destinations that are tested alike where the grid is known
 

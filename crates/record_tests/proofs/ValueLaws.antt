@@ -1,18 +1,22 @@
 -- What the values of a record that passes test 7 mean. Assumes nothing.
 use mathlib.Core.Path.{_≡_, refl, sym, ap, ap₂, subst, _∙_}
-use mathlib.Core.Logic.{⊎-elim}
-use mathlib.Core.Bool.{true}
-use mathlib.Core.List.{List}
+use mathlib.Core.Logic.{_⊎_, inl, inr, ⊎-elim}
+use mathlib.Core.Bool.{Bool, true, false}
+use mathlib.Core.List.{List, []}
 use Prim.Native.Nat.{ℕ, _*_, _≤_}
 use native.Mathlib.Nat.{mul-comm}
 use native.Mathlib.Omega.{arith}
-use lib.Dec.{lit≤}
+use lib.Dec.{T, lit≤}
 use lib.IntN.{ℤ}
-use lib.ListN.{length}
+use lib.ListN.{length, getD, replicate}
 use borrow.Author.Tests.{eqb-true}
+use Rattle.model.specs.Grid.{tabulate}
 use Rattle.model.specs.State.{State, cells}
-use Rattle.model.specs.Record.{valueOf, rightSize, stateIn}
-use Rattle.theorems.specs.TagLaws.{lastRequired}
+use Rattle.model.specs.Record.{Part, has, valueOf, rightSize, stateIn}
+use Rattle.model.specs.Claims.{BytesOf}
+use Rattle.grid.specs.CellFields.{tabulate-get, tabulate-same, same-at}
+use Rattle.theorems.specs.TagLaws.{lastRequired, among-iff}
+use Rattle.theorems.specs.Written.{absent-value}
 use Rattle.record_bytes.specs.declared.Size.{Size}
 use Rattle.record_bytes.specs.declared.Size.the-variants.{Two, Four}
 use Rattle.record_bytes.specs.NumberSizes.{numbersBy}
@@ -61,6 +65,10 @@ module _ (rec : List ℕ) where
   unfolding stateRead stateIn
   v-is = refl
 
+  pub barriers-are : s .barriers ≡ tabulate (cells s) (λ k. getD (valueOf 9 (partsIn rec)) k 0)
+  unfolding stateRead stateIn
+  barriers-are = refl
+
 -- ---- a tag's value, as `value_of` hands it over
 
 module _ {rec value : List ℕ} {t : ℕ} (v : IsValue rec t value) where
@@ -71,3 +79,35 @@ module _ {rec value : List ℕ} {t : ℕ} (v : IsValue rec t value) where
   -- its numbers are those of a field of the state
   pub value-numbers : (z : Size) {m : ℕ} {f : List ℤ} → m ≡ cells (stateRead rec) → f ≡ numbersBy z (cells (stateRead rec)) (valueOf t (partsIn rec)) → numbersBy z m value ≡ f
   value-numbers z e h = ap₂ (numbersBy z) e (v .is) ∙ sym h
+
+-- ---- tag 9: no byte for a cell means 0, and test 2 leaves none over
+
+-- all bytes of the state's barriers, or none where there are none
+pub value-bytes : {rec value : List ℕ} {m : ℕ} → IsValue rec 9 value → m ≡ cells (stateRead rec) → BytesOf m (partsIn rec)
+    → ((value ≡ stateRead rec .barriers) × (length value ≡ cells (stateRead rec))) ⊎ ((value ≡ []) × (stateRead rec .barriers ≡ replicate (cells (stateRead rec)) 0))
+value-bytes {rec} {value} {m} v e b = by (has 9 parts) refl
+  where
+    parts : List Part
+    parts = partsIn rec
+
+    o : List ℕ
+    o = valueOf 9 parts
+
+    n : ℕ
+    n = cells (stateRead rec)
+
+    by : (x : Bool) → has 9 parts ≡ x → ((value ≡ stateRead rec .barriers) × (length value ≡ n)) ⊎ ((value ≡ []) × (stateRead rec .barriers ≡ replicate n 0))
+    by true q =
+        let long : length o ≡ n = b .4 (among-iff 9 parts .0 (subst T (sym q) tt)) ∙ e in
+        inl (v .is ∙ sym (tabulate-get n o 0 long) ∙ sym (barriers-are rec), ap length (v .is) ∙ long)
+    by false q =
+        let none = absent-value 9 parts q in
+        inr (v .is ∙ none, barriers-are rec ∙ ap (λ l. tabulate n (λ k. getD l k 0)) none ∙ tabulate-same n 0)
+
+-- so each byte means the state's, and no byte 0
+pub value-barriers : {rec value : List ℕ} {m : ℕ} → IsValue rec 9 value → m ≡ cells (stateRead rec) → BytesOf m (partsIn rec) → (k : ℕ) → getD value k 0 ≡ getD (stateRead rec .barriers) k 0
+value-barriers {rec} v e b k =
+    ⊎-elim
+    (λ x. ap (λ l. getD l k 0) (x .0))
+    (λ x. ap (λ l. getD l k 0) (x .0) ∙ sym (same-at (cells (stateRead rec)) 0 k) ∙ ap (λ l. getD l k 0) (sym (x .1)))
+    (value-bytes v e b)

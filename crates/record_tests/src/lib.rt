@@ -7,18 +7,19 @@ ghost use lib.ListN.{length, replicate};
 ghost use Rattle.model.specs.Grid.{firstFrom};
 ghost use Rattle.model.specs.State.{parametersOf};
 ghost use Rattle.model.specs.Refusals.{taken, fieldsOf, valueTest, valueTests, edgeTests};
-ghost use Rattle.model.specs.Record.{tagTable, sizeIn, valueOf, timestampIn, bytesTest, bytesTests, recordTest};
+ghost use Rattle.model.specs.Record.{tagTable, sizeIn, has, valueOf, timestampIn, bytesTest, bytesTests, recordTest};
 ghost use Rattle.model.specs.Promises.{answerOf};
 ghost use Rattle.model.specs.Claims.{BytesOf};
 ghost use Rattle.model.specs.declared.Answer.the-variants.{Accepted};
 ghost use Rattle.model.specs.declared.Refusal.the-variants.{Value};
 ghost use Rattle.integers.specs.Ranges.{between};
-ghost use Rattle.tests.specs.Sought.{bare, foundBy, outsideIn, movingAt, badIn, stillTest};
+ghost use Rattle.tests.specs.Sought.{bare, edgesOf, foundBy, outsideIn, movingAt, badIn, stillTest};
 ghost use Rattle.tests.specs.Links.{after};
 ghost use Rattle.record_bytes.specs.NumberSizes.{sizeOf, numbersBy};
 ghost use Rattle.record_bytes.specs.TagSizes.{lastTag};
 ghost use Rattle.record_tags.specs.Places.{places, partsIn, Placed};
 ghost use Rattle.record_tests.specs.RecordTested.{stateRead, Meant, Examined};
+use grid::Edge;
 use integers::Range;
 use model::Answer;
 use model::Field;
@@ -27,7 +28,6 @@ use model::Timestamp;
 use record_bytes::Size;
 use record_bytes::TagSize;
 use record_tags::Places;
-use tests::Edge;
 use tests::Found;
 
 // ---- tags 1, 2, 3 and 8
@@ -66,14 +66,18 @@ pub fn timestamp_in(rec: &[u8], at: &Places) -> Timestamp
 
 // ---- test 2
 
-// Test 2 of one tag: its value has the table's bytes of m cells. Where the table has a fixed length, test 7 has asked for it.
+// Test 2 of one tag: where it is there, its value has the table's bytes of m cells. Where the table has a fixed length, test 7 has asked for
+// it.
 fn then_bytes(earlier: Answer, rec: &[u8], at: &Places, tag: usize, m: usize) -> Answer
     requires { ⌜ Placed (now rec) (now at) × (1 ≤ tag) × (tag ≤ lastTag) × (m ≤ 4096) ⌝ }
     ensures { λ r. ⌜
-        (let value = valueOf tag (partsIn (now (rec .entry))) in
-        r ≡ after earlier (bytesTest m value (sizeIn tagTable tag)))
+        (let parts = partsIn (now (rec .entry)) in
+        r ≡ after earlier (bytesTest m (has tag parts) (valueOf tag parts) (sizeIn tagTable tag)))
         ⌝ }
 {
+    if !record_tags::has(rec, at, tag) {
+        return earlier;
+    }
     let value = record_tags::value_of(rec, at, tag);
     match record_bytes::tag_size(tag) {
         TagSize::Fixed(_) => earlier,
@@ -111,24 +115,26 @@ fn first_outside_in(m: usize, value: &[u8], size: Size, l: Range) -> Found
 }
 
 // The first cell of the numbers in a value with a velocity on a closed edge, in index order: the loops end there.
-fn first_moving_in(p: Parameters, value: &[u8], size: Size, edge: Edge) -> Found
+fn first_moving_in(p: Parameters, value: &[u8], barriers: &[u8], size: Size, edge: Edge) -> Found
     requires { ⌜ length (now value) ≡ p .w * p .n * sizeOf size ⌝ }
     ensures { λ r. ⌜
         (let numbers = numbersBy size (p .w * p .n) (now (value .entry)) in
-        r ≡ foundBy (firstFrom (badIn (movingAt (p .kind) edge) (p .w) numbers) (p .w * p .n) 0))
+        r ≡ foundBy
+        (firstFrom (badIn (movingAt (edgesOf p (now (barriers .entry))) edge) (p .w) numbers) (p .w * p .n) 0))
         ⌝ }
 {
     let each = record_bytes::bytes_of(size);
-    let columns = tests::columns_of(p, edge);
-    let rows = tests::rows_of(p, edge);
     let mut found = Found::Nowhere;
-    'scan: for j in 0..rows {
-        for i in 0..columns {
+    'scan: for j in 0..p.n {
+        for i in 0..p.w {
             let k = j * p.w + i;
-            let x = record_bytes::number_at(value, k * each, size);
-            if tests::is_moving(p.kind, edge, x, i, j) {
-                found = Found::At(k);
-                break 'scan;
+            let barrier = grid::barrier_at(barriers, k);
+            // few edges are closed, and no other number is decoded
+            if grid::is_closed(p.kind, barrier, edge, i, j) {
+                if record_bytes::number_at(value, k * each, size) != 0 {
+                    found = Found::At(k);
+                    break 'scan;
+                }
             }
         }
     }
@@ -170,7 +176,8 @@ fn then_field_in(earlier: Answer, p: Parameters, value: &[u8], size: Size, field
     then_within_in(earlier, p, value, size, field, tests::limits(field))
 }
 
-// Test 4, in 01's order of the fields, wherever their tags stand.
+// Test 4, in 01's order of the fields, with the barriers last, wherever their tags stand. Where the record has no barriers, there are no
+// bytes to look at.
 fn then_fields_in(earlier: Answer, rec: &[u8], at: &Places, p: Parameters) -> Answer
     requires { ⌜
         Meant (now rec) (now at) p
@@ -182,10 +189,12 @@ fn then_fields_in(earlier: Answer, rec: &[u8], at: &Places, p: Parameters) -> An
     let b = record_tags::value_of(rec, at, 5);
     let u = record_tags::value_of(rec, at, 6);
     let v = record_tags::value_of(rec, at, 7);
+    let barriers = record_tags::value_of(rec, at, 9);
     let depth = then_field_in(earlier, p, h, Size::Four, Field::Depth);
     let bottom = then_field_in(depth, p, b, Size::Four, Field::Bottom);
     let west = then_field_in(bottom, p, u, Size::Two, Field::VelocityU);
-    then_field_in(west, p, v, Size::Two, Field::VelocityV)
+    let south = then_field_in(west, p, v, Size::Two, Field::VelocityV);
+    tests::then_barriers(south, barriers)
 }
 
 // Test 5 of one field of velocities.
@@ -193,6 +202,7 @@ fn then_still_in(
     earlier: Answer,
     p: Parameters,
     value: &[u8],
+    barriers: &[u8],
     size: Size,
     field: Field,
     edge: Edge,
@@ -200,13 +210,13 @@ fn then_still_in(
     requires { ⌜ (earlier ≡ Accepted → length (now value) ≡ p .w * p .n * sizeOf size) ⌝ }
     ensures { λ r. ⌜
         (let numbers = numbersBy size (p .w * p .n) (now (value .entry)) in
-        r ≡ after earlier (stillTest p edge field numbers ∷ []))
+        r ≡ after earlier (stillTest p (now (barriers .entry)) edge field numbers ∷ []))
         ⌝ }
 {
     let Answer::Accepted = earlier else {
         return earlier;
     };
-    tests::edge_answer(first_moving_in(p, value, size, edge), field)
+    tests::edge_answer(first_moving_in(p, value, barriers, size, edge), field)
 }
 
 // Test 5: u before v.
@@ -219,8 +229,9 @@ fn then_edges_in(earlier: Answer, rec: &[u8], at: &Places, p: Parameters) -> Ans
 {
     let u = record_tags::value_of(rec, at, 6);
     let v = record_tags::value_of(rec, at, 7);
-    let west = then_still_in(earlier, p, u, Size::Two, Field::VelocityU, Edge::West);
-    then_still_in(west, p, v, Size::Two, Field::VelocityV, Edge::South)
+    let o = record_tags::value_of(rec, at, 9);
+    let west = then_still_in(earlier, p, u, o, Size::Two, Field::VelocityU, Edge::West);
+    then_still_in(west, p, v, o, Size::Two, Field::VelocityV, Edge::South)
 }
 
 // ---- all of them

@@ -13,7 +13,7 @@ use Rattle.theorems.specs.NumbersAsBytes.{EachFits}
 abbrev pub fieldOf : ℕ → List ℕ → List ℕ
 fieldOf tag value = (tag ∷ bytes 2 (length value)) ++ value
 
--- tags 1 to 3, tags 4 to 7, and tag 8
+-- tags 1 to 3, tags 4 to 7, tag 8, and tag 9
 abbrev pub gridOf : Parameters → List ℕ
 gridOf p = fieldOf 1 (p .w ∷ p .n ∷ p .kind ∷ [])
 
@@ -28,6 +28,9 @@ fieldsOf h b u v = fieldOf 4 (eachBy bytes4 h) ++ (fieldOf 5 (eachBy bytes4 b) +
 
 abbrev pub millisecondsOf : ℕ → List ℕ
 millisecondsOf ms = fieldOf 8 (bytes 2 ms)
+
+abbrev pub barriersOf : List ℕ → List ℕ
+barriersOf barriers = fieldOf 9 barriers
 
 -- scalars that fit their bytes
 pub record ScalarsReady (p : Parameters) : Type 0 where

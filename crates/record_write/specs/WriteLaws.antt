@@ -1,7 +1,7 @@
 -- Laws of the writer, over plain lists: its parts, one after the other, are the record; and from the tests to the promise.
 -- Assumes nothing.
 use mathlib.Core.Path.{_≡_, refl, sym, ap, subst, _∙_}
-use mathlib.Core.List.{List, [], _∷_, _++_, append-assoc}
+use mathlib.Core.List.{List, [], _∷_, _++_, append-assoc, append-nil}
 use mathlib.Core.Option.{Option, none, some}
 use Prim.Native.Nat.{ℕ, zero, suc, _+_, _≤_, _<_}
 use native.Mathlib.Numerals.{add-one}
@@ -28,7 +28,7 @@ use Rattle.theorems.specs.NumbersAsBytes.{EachFits}
 use Rattle.theorems.specs.RoundTrip.{each-fits, depth-fits, bottom-fits, velocity-fits, gravity-fits, coriolis-fits, ratio-fits, length-encode}
 use Rattle.tests.specs.Links.{accepted-none, refused-some}
 use Rattle.record_bytes.specs.Stores.{Puts, puts-then, sets-front}
-use Rattle.record_write.specs.FieldBytes.{fieldOf, scalarsOf, fieldsOf, millisecondsOf, ScalarsReady, FieldsReady, WriteReady}
+use Rattle.record_write.specs.FieldBytes.{fieldOf, scalarsOf, fieldsOf, millisecondsOf, barriersOf, ScalarsReady, FieldsReady, WriteReady}
 
 -- ---- fields
 
@@ -59,9 +59,9 @@ three-fit {g} {c} {r} x y z = record { each = each }
     each (suc (suc zero)) l = z
     each (suc (suc (suc k))) l = absurd (omega arith)
 
-module _ (p : Parameters) (h b u v : List ℤ) where
+module _ (p : Parameters) (h b u v : List ℤ) (barriers : List ℕ) where
   abbrev state : State
-  state = stateOf p h b u v
+  state = stateOf p h b u v barriers
 
   pub scalars-ready : {d : List ℕ} → WriteReady state d → ScalarsReady p
   scalars-ready q =
@@ -84,13 +84,19 @@ module _ (p : Parameters) (h b u v : List ℤ) where
 
   -- all fields of the record
   abbrev pub fields-of : Timestamp → List ℕ
-  fields-of t = scalarsOf p (t .seconds) ++ (fieldsOf h b u v ++ millisecondsOf (t .milliseconds))
+  fields-of t = scalarsOf p (t .seconds) ++ (fieldsOf h b u v ++ (millisecondsOf (t .milliseconds) ++ barriersOf barriers))
 
   parts-joined : (t : Timestamp) → fields-of t ≡ encode state t
   unfolding encode partsOf
   parts-joined t =
+      let four = fieldOf 4 (eachBy bytes4 h) in
+      let five = fieldOf 5 (eachBy bytes4 b) in
+      let six = fieldOf 6 (eachBy bytes2 u) in
+      let seven = fieldOf 7 (eachBy bytes2 v) in
+      let eight = millisecondsOf (t .milliseconds) in
       ap (λ l. scalarsOf p (t .seconds) ++ l)
-      (four-then (fieldOf 4 (eachBy bytes4 h)) (fieldOf 5 (eachBy bytes4 b)) (fieldOf 6 (eachBy bytes2 u)) (fieldOf 7 (eachBy bytes2 v)) (millisecondsOf (t .milliseconds)))
+      (four-then four five six seven (eight ++ barriersOf barriers)
+      ∙ ap (λ l. four ++ (five ++ (six ++ (seven ++ (eight ++ ((9 ∷ bytes 2 (length barriers)) ++ l)))))) (sym (append-nil barriers)))
 
   record-long : (t : Timestamp) {d : List ℕ} → WriteReady state d → length (fields-of t) ≡ recordLength state
   record-long t q = ap length (parts-joined t) ∙ length-encode state (q .state) t

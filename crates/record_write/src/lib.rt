@@ -1,4 +1,4 @@
-// The record writer: tags 1 to 8 of a state and its timestamp, by rising tag, into a lent slice of bytes.
+// The record writer: tags 1 to 9 of a state and its timestamp, by rising tag, into a lent slice of bytes.
 ghost use mathlib.Core.Path.{_≡_};
 ghost use mathlib.Core.List.{_∷_};
 ghost use Prim.Native.Nat.{_+_, _≤_, _<_};
@@ -49,6 +49,15 @@ fn put_unsigned_field(d: &mut [u8], k: usize, tag: u8, count: usize, x: u64) -> 
 {
     let from = put_head(d, k, tag, count);
     record_bytes::put_unsigned(d, from, count, x)
+}
+
+// Puts a field of bytes at k: the barriers are such.
+fn put_bytes_field(d: &mut [u8], k: usize, tag: u8, f: &[u8]) -> usize
+    requires { ⌜ k + length (fieldOf tag (now f)) ≤ length (now d) ⌝ }
+    ensures { λ r. ⌜ Puts (now (d .entry)) k (fieldOf tag (now (f .entry))) r (now (d .exit)) ⌝ }
+{
+    let from = put_head(d, k, tag, f.len());
+    record_bytes::put_bytes(d, from, f)
 }
 
 // ---- tags 1 to 3
@@ -104,19 +113,21 @@ fn put_record(
     b: &[i64],
     u: &[i64],
     v: &[i64],
+    barriers: &[u8],
     timestamp: Timestamp,
     d: &mut [u8],
 ) -> usize
-    requires { ⌜ WriteReady (lent p h b u v) (now d) ⌝ }
+    requires { ⌜ WriteReady (lent p h b u v barriers) (now d) ⌝ }
     ensures { λ r. ⌜
-        (let s = before p h b u v in
+        (let s = before p h b u v barriers in
         (r ≡ recordLength s)
         × (now (d .exit) ≡ filled (recordLength s) (encode s timestamp) (now (d .entry))))
         ⌝ }
 {
     let after_scalars = put_scalars(d, 0, p, timestamp.seconds);
     let after_fields = put_fields(d, after_scalars, h, b, u, v);
-    put_unsigned_field(d, after_fields, 8, 2, timestamp.milliseconds)
+    let after_time = put_unsigned_field(d, after_fields, 8, 2, timestamp.milliseconds);
+    put_bytes_field(d, after_time, 9, barriers)
 }
 
 // ---- the call
@@ -128,35 +139,38 @@ fn test_write(
     b: &[i64],
     u: &[i64],
     v: &[i64],
+    barriers: &[u8],
     timestamp: Timestamp,
     room: usize,
 ) -> Answer
-    ensures { λ r. ⌜ r ≡ answerOf (writeTest (before p h b u v) timestamp room) ⌝ }
+    ensures { λ r. ⌜ r ≡ answerOf (writeTest (before p h b u v barriers) timestamp room) ⌝ }
 {
-    let outline = tests::test_outline(p, h, b, u, v);
+    let outline = tests::test_outline(p, h, b, u, v, barriers);
     let time = tests::then_time(outline, timestamp);
-    let values = tests::then_fields(time, p, h, b, u, v);
-    let edges = tests::then_edges(values, p, u, v);
-    let needed = 49 + 12 * tests::cells_of(p);
+    let values = tests::then_fields(time, p, h, b, u, v, barriers);
+    let edges = tests::then_edges(values, p, u, v, barriers);
+    let needed = 52 + 13 * tests::cells_of(p);
     tests::then_room(edges, needed, room)
 }
 
-// The record of a state under a timestamp (01: stamp), into the first 49+12w·n bytes of d. Refusals: 1, 2, 3, 9, 4, 5, 8.
-// It rules out, for instance: a field little-endian; a byte written past the record; 8 told before 4; 9 told after 4.
+// The record of a state under a timestamp (01: stamp), into the first 52+13w·n bytes of d. Refusals: 1, 2, 3, 9, 4, 5, 8.
+// It rules out, for instance: a field little-endian; a byte written past the record; 8 told before 4; 9 told after 4; tag 9 left out where
+// there is no barrier.
 pub fn write(
     p: Parameters,
     h: &[i64],
     b: &[i64],
     u: &[i64],
     v: &[i64],
+    barriers: &[u8],
     timestamp: Timestamp,
     d: &mut [u8],
 ) -> WriteAnswer
-    ensures { λ r. ⌜ WritePromise (before p h b u v) timestamp (now (d .entry)) r (now (d .exit)) ⌝ }
+    ensures { λ r. ⌜ WritePromise (before p h b u v barriers) timestamp (now (d .entry)) r (now (d .exit)) ⌝ }
 {
-    match test_write(p, h, b, u, v, timestamp, d.len()) {
+    match test_write(p, h, b, u, v, barriers, timestamp, d.len()) {
         Answer::Accepted => {
-            let length = put_record(p, h, b, u, v, timestamp, d);
+            let length = put_record(p, h, b, u, v, barriers, timestamp, d);
             WriteAnswer::Written(length)
         }
         Answer::Refused(refusal) => WriteAnswer::Refused(refusal),

@@ -7,3 +7,5 @@ pub mod SchemeSizes
 pub mod Passing
 -- what is handed on from cell to cell and from row to row
 pub mod Handing
+-- what barriers do to tendencies
+pub mod Masking

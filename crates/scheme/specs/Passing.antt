@@ -53,11 +53,11 @@ change-size h p = quotient mostChange 3145728000 h (change-divisor p) (leb→le 
 module _ {s : State} (l : WithinLimits s) {i j : ℕ} (p : i < s .w) (q : j < s .n) where
   pub X-size : Abs (X s i j) mostFlow
   unfolding X
-  X-size = flow-size (fluxU-size l p q) (l .ratio)
+  X-size = flow-size (fluxU-size s (l .depths) p q (l .columns) (l .us)) (l .ratio)
 
   pub Y-size : Abs (Y s i j) mostFlow
   unfolding Y
-  Y-size = flow-size (fluxV-size l p q) (l .ratio)
+  Y-size = flow-size (fluxV-size s (l .depths) p q (l .rows) (l .vs)) (l .ratio)
 
 -- a tendency is two shares, or none
 module _ {s : State} {q : List ℤ} (l : TendenciesReady s q) {i j : ℕ} (p : i < s .w) (r : j < s .n) where

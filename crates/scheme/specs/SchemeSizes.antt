@@ -10,14 +10,14 @@ use mir.Syntax.{w64}
 use mir.Facts.{and-yes}
 use Rattle.model.specs.Numbers.{Within, all, depthLimits, bottomLimits, velocityLimits, gravityLimits}
 use Rattle.model.specs.Grid.{at}
-use Rattle.model.specs.State.{State, FieldWithin, WithinLimits}
+use Rattle.model.specs.State.{State, Side, cells, FieldWithin}
 use Rattle.model.specs.Scheme.{cornerWeight, weight, fluxU, fluxV, B}
 use Rattle.model.specs.Weights.{weights, weightAt, weighted}
 use Rattle.integers.specs.Ring.{Expr, var, con, _⊕_, _⊖_, _⊗_}
 use Rattle.integers.specs.Bounds.{Abs, Sizes, ∎, _◂_, held, size, exact}
 use Rattle.integers.specs.Magnitudes.{depth-size, bottom-size, velocity-size, gravity-size, vorticity-size}
 use Rattle.grid.specs.Cells.{cell-lt, previous-lt, next-lt}
-use Rattle.scheme.specs.Ready.{ReadsAt, reads, TendenciesReady}
+use Rattle.scheme.specs.Ready.{ReadsAt, reads, StateReady, TendenciesReady}
 use Rattle.scheme.specs.Shares.{mostCorner, mostWeight, mostFlux, mostBernoulli, mostHead, mostShare, fluxAt, squaresAt, geopotentialAt, Fit, westShare, eastShare, southShare, northShare, weightsIn, fluxesIn, headIn}
 use Rattle.scheme.specs.declared.Weights.{Weights}
 use Rattle.scheme.specs.declared.Fluxes.{Fluxes}
@@ -116,15 +116,17 @@ module _ {ws : Weights} {fs : Fluxes} {head : ℤ} (h : Fit ws fs head) where
 speed : {w n : ℕ} {f : List ℤ} {i j : ℕ} → FieldWithin velocityLimits (w * n) f → i < w → j < n → Abs (at w f i j) 5000
 speed f p r = velocity-size (reads f (cell-lt p r) .value)
 
-module _ {s : State} (l : WithinLimits s) {i j : ℕ} (p : i < s .w) (r : j < s .n) where
-  pub fluxU-size : Abs (fluxU s i j) mostFlux
+-- of a state whose depths are within the limits
+module _ (s : State) (h : FieldWithin depthLimits (cells s) (s .h)) {i j : ℕ} (p : i < s .w) (r : j < s .n) where
+  pub fluxU-size : Side (s .w) → FieldWithin velocityLimits (cells s) (s .u) → Abs (fluxU s i j) mostFlux
   unfolding fluxU
-  fluxU-size = flux-size (reads (l .us) (cell-lt p r)) (reads (l .depths) (cell-lt (previous-lt (s .w) i (l .columns .some)) r)) (reads (l .depths) (cell-lt p r))
+  fluxU-size l u = flux-size (reads u (cell-lt p r)) (reads h (cell-lt (previous-lt (s .w) i (l .some)) r)) (reads h (cell-lt p r))
 
-  pub fluxV-size : Abs (fluxV s i j) mostFlux
+  pub fluxV-size : Side (s .n) → FieldWithin velocityLimits (cells s) (s .v) → Abs (fluxV s i j) mostFlux
   unfolding fluxV
-  fluxV-size = flux-size (reads (l .vs) (cell-lt p r)) (reads (l .depths) (cell-lt p (previous-lt (s .n) j (l .rows .some)))) (reads (l .depths) (cell-lt p r))
+  fluxV-size l v = flux-size (reads v (cell-lt p r)) (reads h (cell-lt p (previous-lt (s .n) j (l .some)))) (reads h (cell-lt p r))
 
+module _ {s : State} (l : StateReady s) {i j : ℕ} (p : i < s .w) (r : j < s .n) where
   pub B-size : Abs (B s i j) mostBernoulli
   unfolding B
   B-size =
@@ -156,9 +158,9 @@ module _ {s : State} {q : List ℤ} (l : TendenciesReady s q) {i j : ℕ} (p : i
         m = weight-size 1;
         e = weight-size 2;
         f = weight-size 3;
-        west = fluxU-size (l .state) p r;
-        east = fluxU-size (l .state) east r;
-        south = fluxV-size (l .state) p r;
-        north = fluxV-size (l .state) p north;
+        west = fluxU-size s (l .state .depths) p r (l .state .columns) (l .state .us);
+        east = fluxU-size s (l .state .depths) east r (l .state .columns) (l .state .us);
+        south = fluxV-size s (l .state .depths) p r (l .state .rows) (l .state .vs);
+        north = fluxV-size s (l .state .depths) p north (l .state .rows) (l .state .vs);
         bernoulli = size head-expr (B-size (l .state) p r ◂ ∎) tt;
       }

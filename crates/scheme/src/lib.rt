@@ -14,12 +14,12 @@ ghost use lib.IntN.{pos, negℤ, _+ℤ_, _-ℤ_, _*ℤ_};
 ghost use lib.ListN.{length, getD};
 ghost use Rattle.model.specs.Numbers.{rnd, bernoulliScale, tendencyScale, Within, gravityLimits, coriolisLimits, ratioLimits, depthLimits};
 ghost use Rattle.model.specs.Numbers.{bottomLimits, velocityLimits};
-ghost use Rattle.model.specs.State.{FieldWithin, stateOf, lent, before};
+ghost use Rattle.model.specs.State.{FieldWithin, stateOf};
 ghost use Rattle.model.specs.Weights.{weightAt};
 ghost use Rattle.model.specs.Scheme.{vorticityAt};
 ghost use Rattle.model.specs.Step.{X, Y};
 ghost use Rattle.integers.specs.Bounds.{Abs};
-ghost use Rattle.scheme.specs.Ready.{ReadsAt, VorticityReady, FlowReady, Flow, TendenciesReady};
+ghost use Rattle.scheme.specs.Ready.{ReadsAt, VorticityReady, FlowReady, Flow, TendenciesReady, walled, walledBefore};
 ghost use Rattle.scheme.specs.Shares.{mostFlux, mostBernoulli, mostShare, mostTendency, weightedBy, CornersWithin, squaresAt, fluxAt};
 ghost use Rattle.scheme.specs.Shares.{geopotentialAt, westShare, eastShare, southShare, northShare, Fit, IsShares, AreShares};
 ghost use Rattle.scheme.specs.Shares.{AreTendencies};
@@ -69,11 +69,11 @@ fn absolute_vorticity(c: i64, u: &[i64], v: &[i64], here: usize, west: usize, so
     c + v[here] - v[west] + u[south] - u[here]
 }
 
-// The potential vorticity at a cell's southwest corner. The bottom does not enter: in the contract it has no cells. It rules out, for
-// instance: one of the four depths left out; the difference of v taken backwards.
+// The potential vorticity at a cell's southwest corner. The bottom and the barriers do not enter: in the contract there are none. It
+// rules out, for instance: one of the four depths left out; the difference of v taken backwards.
 pub fn vorticity_at(p: Parameters, h: &[i64], u: &[i64], v: &[i64], i: usize, j: usize) -> i64
     requires { ⌜ VorticityReady p (now h) (now u) (now v) × (i < p .w) × (j < p .n) ⌝ }
-    ensures { λ r. ⌜ r ≡ vorticityAt (stateOf p (now (h .entry)) [] (now (u .entry)) (now (v .entry))) i j ⌝ }
+    ensures { λ r. ⌜ r ≡ vorticityAt (stateOf p (now (h .entry)) [] (now (u .entry)) (now (v .entry)) []) i j ⌝ }
 {
     let a = grid::around(p.w, p.n, i, j);
     let z = absolute_vorticity(p.c, u, v, a.here, a.west, a.south);
@@ -315,8 +315,8 @@ pub fn shares_at(
     i: usize,
     j: usize,
 ) -> Shares
-    requires { ⌜ TendenciesReady (lent p h b u v) (now q) × (i < p .w) × (j < p .n) ⌝ }
-    ensures { λ r. ⌜ IsShares (before p h b u v) (now (q .entry)) i j r ⌝ }
+    requires { ⌜ TendenciesReady (walled p h b u v) (now q) × (i < p .w) × (j < p .n) ⌝ }
+    ensures { λ r. ⌜ IsShares (walledBefore p h b u v) (now (q .entry)) i j r ⌝ }
 {
     let a = grid::around(p.w, p.n, i, j);
     let weights = weights_of(corners_at(q, a.northeast, a.north, a.here, a.east));
@@ -352,8 +352,9 @@ pub struct CellTendencies {
     pub north: i64,
 }
 
-// The tendencies of cell (i, j), from what the cells to its west and south have handed on, as far as it needs that. It rules out, for
-// instance: the mask forgotten; the edge's own share twice.
+// The tendencies of cell (i, j), from what the cells to its west and south have handed on, as far as it needs that. Walls close edges here,
+// and barriers do not: whoever fills a field puts 0 on the edges that barriers close (`grid::clear_barred`), so that the loop over all cells
+// has no test of a byte in it. It rules out, for instance: the mask forgotten; the edge's own share twice.
 pub fn tendencies_at(
     p: Parameters,
     h: &[i64],
@@ -367,18 +368,17 @@ pub fn tendencies_at(
     south: i64,
 ) -> CellTendencies
     requires { ⌜
-        (let s = lent p h b u v in
-        TendenciesReady s (now q)
+        TendenciesReady (walled p h b u v) (now q)
         × (i < p .w)
         × (j < p .n)
-        × FromWest s (now q) i j west
-        × FromSouth s (now q) i j south)
+        × FromWest (walled p h b u v) (now q) i j west
+        × FromSouth (walled p h b u v) (now q) i j south
         ⌝ }
-    ensures { λ r. ⌜ AreTendencies (before p h b u v) (now (q .entry)) i j r ⌝ }
+    ensures { λ r. ⌜ AreTendencies (walledBefore p h b u v) (now (q .entry)) i j r ⌝ }
 {
     // read before the call that takes all of p: read after it, the compiler copies p in pieces at each cell, half as long again
-    let closed_west = grid::closed_west(p.kind, i, j);
-    let closed_south = grid::closed_south(p.kind, i, j);
+    let wall_west = grid::walled_west(p.kind, i);
+    let wall_south = grid::walled_south(p.kind, j);
     let columns = p.w;
     let rows = p.n;
     let own = shares_at(p, h, b, u, v, q, i, j);
@@ -386,8 +386,8 @@ pub fn tendencies_at(
     let from_south = other_share(rows, own.north, south);
     CellTendencies {
         depth: own.depth,
-        u: edge_tendency(closed_west, own.west, from_west),
-        v: edge_tendency(closed_south, own.south, from_south),
+        u: edge_tendency(wall_west, own.west, from_west),
+        v: edge_tendency(wall_south, own.south, from_south),
         east: own.east,
         north: own.north,
     }
@@ -405,10 +405,10 @@ pub fn from_west(
     i: usize,
     j: usize,
 ) -> i64
-    requires { ⌜ TendenciesReady (lent p h b u v) (now q) × (i < p .w) × (j < p .n) ⌝ }
-    ensures { λ r. ⌜ FromWest (before p h b u v) (now (q .entry)) i j r ⌝ }
+    requires { ⌜ TendenciesReady (walled p h b u v) (now q) × (i < p .w) × (j < p .n) ⌝ }
+    ensures { λ r. ⌜ FromWest (walledBefore p h b u v) (now (q .entry)) i j r ⌝ }
 {
-    if p.w == 1 || grid::closed_west(p.kind, i, j) {
+    if p.w == 1 || grid::walled_west(p.kind, i) {
         return 0;
     }
     let west = grid::previous(p.w, i);
@@ -426,10 +426,10 @@ pub fn from_south(
     i: usize,
     j: usize,
 ) -> i64
-    requires { ⌜ TendenciesReady (lent p h b u v) (now q) × (i < p .w) × (j < p .n) ⌝ }
-    ensures { λ r. ⌜ FromSouth (before p h b u v) (now (q .entry)) i j r ⌝ }
+    requires { ⌜ TendenciesReady (walled p h b u v) (now q) × (i < p .w) × (j < p .n) ⌝ }
+    ensures { λ r. ⌜ FromSouth (walledBefore p h b u v) (now (q .entry)) i j r ⌝ }
 {
-    if p.n == 1 || grid::closed_south(p.kind, i, j) {
+    if p.n == 1 || grid::walled_south(p.kind, j) {
         return 0;
     }
     let south = grid::previous(p.n, j);
@@ -448,8 +448,8 @@ pub fn hand_north(
     q: &[i64],
     handed: &mut [i64],
 )
-    requires { ⌜ TendenciesReady (lent p h b u v) (now q) × (p .w ≤ length (now handed)) ⌝ }
-    ensures { λ _. ⌜ HandedNorth (before p h b u v) (now (q .entry)) 0 (now (handed .exit)) ⌝ }
+    requires { ⌜ TendenciesReady (walled p h b u v) (now q) × (p .w ≤ length (now handed)) ⌝ }
+    ensures { λ _. ⌜ HandedNorth (walledBefore p h b u v) (now (q .entry)) 0 (now (handed .exit)) ⌝ }
 {
     for i in 0..p.w {
         handed[i] = from_south(p, h, b, u, v, q, i, 0);
@@ -477,12 +477,12 @@ pub struct CellFlows {
     pub y: i64,
 }
 
-// The flows of cell (i, j). The bottom does not enter: in the contract it has no cells. It rules out, for instance: the depth of one
-// cell twice; the flow from the north for the one from the south.
+// The flows of cell (i, j). The bottom and the barriers do not enter: in the contract there are none. It rules out, for instance: the
+// depth of one cell twice; the flow from the north for the one from the south.
 pub fn flows_at(p: Parameters, h: &[i64], u: &[i64], v: &[i64], i: usize, j: usize) -> CellFlows
     requires { ⌜ FlowReady p (now h) (now u) (now v) × (i < p .w) × (j < p .n) ⌝ }
     ensures { λ r. ⌜
-        (let s = stateOf p (now (h .entry)) [] (now (u .entry)) (now (v .entry)) in
+        (let s = stateOf p (now (h .entry)) [] (now (u .entry)) (now (v .entry)) [] in
         (r .x ≡ X s i j)
         × (r .y ≡ Y s i j))
         ⌝ }

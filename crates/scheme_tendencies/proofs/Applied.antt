@@ -1,13 +1,13 @@
 -- The theorems speak of this code, by calls of `tendencies` and `potential_vorticity` (Calls): from what a call promises to the rates is
 -- one step. Assumes nothing.
 use mathlib.Core.Path.{_≡_, subst}
-use Prim.Native.Nat.{_≤_}
+use Prim.Native.Nat.{_*_, _≤_}
 use contract.Lifetimes.{Lfts}
 use denote.Ref.{now}
 use denote.Triple.Clauses.{AtExit}
 use borrow.Fn.Kinds.{Dens, resT, endedOf}
 use lib.IntN.{pos}
-use lib.ListN.{length, take}
+use lib.ListN.{length, take, replicate}
 use Rattle.model.specs.Numbers.{vorticityLimits}
 use Rattle.model.specs.State.{stateOf, cells, FieldWithin, WithinLimits}
 use Rattle.model.specs.Rates.{energyRate, enstrophyRate}
@@ -44,13 +44,13 @@ module _ (call : TendenciesCall) where
   pub energy-rate-zero-within : Taken call → energyRate (call .state) (call .dh′) (call .du′) (call .dv′) ≡ pos 0
   energy-rate-zero-within t = energy-rate-zero (done t)
 
-  -- the scaled enstrophy rate is zero where the grid wraps both ways
-  pub enstrophy-rate-zero : call .state .kind ≡ 0 → call .answer ≡ Accepted → enstrophyRate (call .state) (call .dh′) (call .du′) (call .dv′) (call .q) ≡ pos 0
-  enstrophy-rate-zero k d = theorems .periodic-enstrophy (call .state) (call .q) _ _ _ _ _ _ k (promised d)
+  -- the scaled enstrophy rate is zero where the grid wraps both ways and has no barrier
+  pub enstrophy-rate-zero : call .state .kind ≡ 0 → call .state .barriers ≡ replicate (cells (call .state)) 0 → call .answer ≡ Accepted → enstrophyRate (call .state) (call .dh′) (call .du′) (call .dv′) (call .q) ≡ pos 0
+  enstrophy-rate-zero k o d = theorems .periodic-enstrophy (call .state) (call .q) _ _ _ _ _ _ k o (promised d)
 
   -- at every such state within the limits
-  pub enstrophy-rate-zero-within : call .state .kind ≡ 0 → Taken call → enstrophyRate (call .state) (call .dh′) (call .du′) (call .dv′) (call .q) ≡ pos 0
-  enstrophy-rate-zero-within k t = enstrophy-rate-zero k (done t)
+  pub enstrophy-rate-zero-within : call .state .kind ≡ 0 → call .state .barriers ≡ replicate (cells (call .state)) 0 → Taken call → enstrophyRate (call .state) (call .dh′) (call .du′) (call .dv′) (call .q) ≡ pos 0
+  enstrophy-rate-zero-within k o t = enstrophy-rate-zero k o (done t)
 
 -- ---- a call of `potential_vorticity`
 
@@ -61,15 +61,15 @@ vorticity-may-be-lent call d =
 
 -- ---- the same of the code itself: from what a caller learns of a call, of its own parameters
 
-module _ (κs : Lfts 8) (a : Dens κs tendencies-kinds.ps) (answer : resT tendencies-kinds.r κs .Denot) (e : AtExit (endedOf 8 tendencies-kinds.ps tendencies-kinds.r) κs) where
+module _ (κs : Lfts 9) (a : Dens κs tendencies-kinds.ps) (answer : resT tendencies-kinds.r κs .Denot) (e : AtExit (endedOf 9 tendencies-kinds.ps tendencies-kinds.r) κs) where
   pub code-energy-rate-zero : tendencies-reads.Learnt κs a answer e → answer ≡ Accepted
-      → let (p, (h, (b, (u, (v, _))))) = a in
-      let (_, (_, (_, (_, (_, (_, (dh′, (du′, (dv′, _))))))))) = e in
-      energyRate (stateOf p (now h) (now b) (now u) (now v)) (now dh′) (now du′) (now dv′) ≡ pos 0
+      → let (p, (h, (b, (u, (v, (barriers, _)))))) = a in
+      let (_, (_, (_, (_, (_, (_, (_, (dh′, (du′, (dv′, _)))))))))) = e in
+      energyRate (stateOf p (now h) (now b) (now u) (now v) (now barriers)) (now dh′) (now du′) (now dv′) ≡ pos 0
   code-energy-rate-zero told d = energy-rate-zero (tendencies-call κs a answer e told) d
 
   pub code-enstrophy-rate-zero : tendencies-reads.Learnt κs a answer e → answer ≡ Accepted
-      → let (p, (h, (b, (u, (v, (q, _)))))) = a in
-      let (_, (_, (_, (_, (_, (_, (dh′, (du′, (dv′, _))))))))) = e in
-      p .kind ≡ 0 → enstrophyRate (stateOf p (now h) (now b) (now u) (now v)) (now dh′) (now du′) (now dv′) (now q) ≡ pos 0
-  code-enstrophy-rate-zero told d k = enstrophy-rate-zero (tendencies-call κs a answer e told) k d
+      → let (p, (h, (b, (u, (v, (barriers, (q, _))))))) = a in
+      let (_, (_, (_, (_, (_, (_, (_, (dh′, (du′, (dv′, _)))))))))) = e in
+      p .kind ≡ 0 → now barriers ≡ replicate (p .w * p .n) 0 → enstrophyRate (stateOf p (now h) (now b) (now u) (now v) (now barriers)) (now dh′) (now du′) (now dv′) (now q) ≡ pos 0
+  code-enstrophy-rate-zero told d k o = enstrophy-rate-zero (tendencies-call κs a answer e told) k o d

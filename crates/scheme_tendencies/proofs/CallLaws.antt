@@ -18,8 +18,9 @@ use Rattle.theorems.specs.Truth.{_⟫_}
 use Rattle.theorems.specs.TestLaws.{passes}
 use Rattle.theorems.specs.Limits.{accepted}
 use Rattle.theorems.specs.Causes.{kept}
+use Rattle.theorems.specs.RoundTrip.{bars-long}
 use Rattle.tests.specs.Links.{accepted-none, refused-some}
-use Rattle.scheme.specs.Ready.{TendenciesReady}
+use Rattle.scheme.specs.Ready.{TendenciesReady, ready}
 use Rattle.scheme_tendencies.specs.Rooms.{Room}
 
 -- ---- a call that fills, by what its test found
@@ -40,10 +41,10 @@ vorticity-passed s room e =
     let a = (passes (vorticityTests s room) ⟫ accepted .call s [] (cells s) (room ∷ [])) .0 (accepted-none (vorticityTest s room) e) in (a .0, a .2 .0)
 
 pub tendencies-passed : (s : State) (q dh du dv : List ℤ) → Accepted ≡ answerOf (tendenciesTest s q (length dh) (length du) (length dv))
-    → TendenciesReady s q × Room (cells s) dh du dv
+    → TendenciesReady s q × (length (s .barriers) ≡ cells s) × Room (cells s) dh du dv
 unfolding tendenciesTest
 tendencies-passed s q dh du dv e =
     let l = length dh ∷ length du ∷ length dv ∷ [] in
     let o = accepted-none (tendenciesTest s q (length dh) (length du) (length dv)) e in
     let a = (passes (tendenciesTests s q (length dh) (length du) (length dv)) ⟫ accepted .call s (taken s Vorticity q ∷ []) (cells s) l) .0 o in
-    (record { state = a .0; vorticity = a .1 .0 }, record { h = a .2 .0; u = a .2 .1 .0; v = a .2 .1 .1 .0 })
+    (ready (a .0) (a .1 .0), bars-long s (a .0), record { h = a .2 .0; u = a .2 .1 .0; v = a .2 .1 .1 .0 })

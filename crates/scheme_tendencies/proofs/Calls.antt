@@ -30,12 +30,12 @@ pub record TendenciesCall : Type 0 where
   pub answer : Answer
   pub promise : TendenciesPromise state q dh du dv answer dh′ du′ dv′
 
-module _ (κs : Lfts 8) (a : Dens κs tendencies-kinds.ps) (answer : resT tendencies-kinds.r κs .Denot) (e : AtExit (endedOf 8 tendencies-kinds.ps tendencies-kinds.r) κs) where
+module _ (κs : Lfts 9) (a : Dens κs tendencies-kinds.ps) (answer : resT tendencies-kinds.r κs .Denot) (e : AtExit (endedOf 9 tendencies-kinds.ps tendencies-kinds.r) κs) where
   abbrev pub tendencies-call : tendencies-reads.Learnt κs a answer e → TendenciesCall
   tendencies-call told =
-      let (p, (h, (b, (u, (v, (q, (dh, (du, (dv, _))))))))) = a in
-      let (_, (_, (_, (_, (_, (_, (dh′, (du′, (dv′, _))))))))) = e in
-      record { state = stateOf p (now h) (now b) (now u) (now v); q = now q; dh = now dh; du = now du; dv = now dv; dh′ = now dh′; du′ = now du′; dv′ = now dv′; answer = answer; promise = told }
+      let (p, (h, (b, (u, (v, (barriers, (q, (dh, (du, (dv, _)))))))))) = a in
+      let (_, (_, (_, (_, (_, (_, (_, (dh′, (du′, (dv′, _)))))))))) = e in
+      record { state = stateOf p (now h) (now b) (now u) (now v) (now barriers); q = now q; dh = now dh; du = now du; dv = now dv; dh′ = now dh′; du′ = now du′; dv′ = now dv′; answer = answer; promise = told }
 
 -- ---- `potential_vorticity`
 
@@ -46,9 +46,9 @@ pub record VorticityCall : Type 0 where
   pub answer : Answer
   pub promise : VorticityPromise state d answer d′
 
-module _ (κs : Lfts 5) (a : Dens κs vorticity-kinds.ps) (answer : resT vorticity-kinds.r κs .Denot) (e : AtExit (endedOf 5 vorticity-kinds.ps vorticity-kinds.r) κs) where
+module _ (κs : Lfts 6) (a : Dens κs vorticity-kinds.ps) (answer : resT vorticity-kinds.r κs .Denot) (e : AtExit (endedOf 6 vorticity-kinds.ps vorticity-kinds.r) κs) where
   abbrev pub vorticity-call : vorticity-reads.Learnt κs a answer e → VorticityCall
   vorticity-call told =
-      let (p, (h, (b, (u, (v, (d, _)))))) = a in
-      let (_, (_, (_, (_, (_, (d′, _)))))) = e in
-      record { state = stateOf p (now h) (now b) (now u) (now v); d = now d; d′ = now d′; answer = answer; promise = told }
+      let (p, (h, (b, (u, (v, (barriers, (d, _))))))) = a in
+      let (_, (_, (_, (_, (_, (_, (d′, _))))))) = e in
+      record { state = stateOf p (now h) (now b) (now u) (now v) (now barriers); d = now d; d′ = now d′; answer = answer; promise = told }

@@ -13,23 +13,24 @@ ghost use Rattle.model.specs.Scheme.{D, vorticity, tendencyU, tendencyV, hTende
 ghost use Rattle.model.specs.Promises.{answerOf, VorticityPromise, TendenciesPromise};
 ghost use Rattle.model.specs.declared.Field.the-variants.{Vorticity};
 ghost use Rattle.grid.specs.WritingLoops.{RowWriting};
-ghost use Rattle.scheme.specs.Ready.{VorticityReady, TendenciesReady};
+ghost use Rattle.scheme.specs.Ready.{VorticityReady, TendenciesReady, walled, walledBefore};
 ghost use Rattle.scheme.specs.Handing.{HandedNorth};
 ghost use Rattle.tests.specs.Links.{after};
 ghost use Rattle.scheme_tendencies.specs.Rooms.{Room};
+use grid::Edge;
 use model::Answer;
 use model::Field;
 use model::Parameters;
 
 // ---- potential vorticity
 
-// Fills the first w·n places of d with the potential vorticity of every cell. The bottom does not enter: in the contract it has no
-// cells.
+// Fills the first w·n places of d with the potential vorticity of every cell. The bottom and the barriers do not enter: in the contract
+// there are none.
 fn fill_vorticity(p: Parameters, h: &[i64], u: &[i64], v: &[i64], d: &mut [i64])
     requires { ⌜ VorticityReady p (now h) (now u) (now v) × (p .w * p .n ≤ length (now d)) ⌝ }
     ensures { λ _. ⌜
         now (d .exit) ≡ filled (p .w * p .n)
-        (vorticity (stateOf p (now (h .entry)) [] (now (u .entry)) (now (v .entry)))) (now (d .entry))
+        (vorticity (stateOf p (now (h .entry)) [] (now (u .entry)) (now (v .entry)) [])) (now (d .entry))
         ⌝ }
 {
     for j in 0..p.n {
@@ -48,12 +49,13 @@ pub fn potential_vorticity(
     b: &[i64],
     u: &[i64],
     v: &[i64],
+    barriers: &[u8],
     d: &mut [i64],
 ) -> Answer
-    ensures { λ r. ⌜ VorticityPromise (before p h b u v) (now (d .entry)) r (now (d .exit)) ⌝ }
+    ensures { λ r. ⌜ VorticityPromise (before p h b u v barriers) (now (d .entry)) r (now (d .exit)) ⌝ }
 {
     let m = tests::cells_of(p);
-    let state = tests::test_state(p, h, b, u, v);
+    let state = tests::test_state(p, h, b, u, v, barriers);
     let answer = tests::then_room(state, m, d.len());
     let Answer::Accepted = answer else {
         return answer;
@@ -64,7 +66,8 @@ pub fn potential_vorticity(
 
 // ---- tendencies
 
-// The tendencies of row j. `handed` has what this row needs of the row to the south, and then what the next one needs of this row.
+// The tendencies of row j, as if there were no barriers. `handed` has what this row needs of the row to the south, and then what the next
+// one needs of this row.
 fn fill_row(
     p: Parameters,
     h: &[i64],
@@ -79,14 +82,14 @@ fn fill_row(
     dv: &mut [i64],
 )
     requires { ⌜
-        (let s = lent p h b u v in
+        (let s = walled p h b u v in
         TendenciesReady s (now q)
         × (j < p .n)
         × HandedNorth s (now q) j (now handed)
         × Room (cells s) (now dh) (now du) (now dv))
         ⌝ }
     ensures { λ _. ⌜
-        (let s = before p h b u v in
+        (let s = walledBefore p h b u v in
         let q₀ = now (q .entry) in
         RowWriting (p .w) (p .n) (λ i j. negℤ (D s i j)) 0 j (now (dh .entry)) (p .w) (now (dh .exit))
         × RowWriting (p .w) (p .n) (tendencyU s q₀) 0 j (now (du .entry)) (p .w) (now (du .exit))
@@ -112,8 +115,8 @@ fn fill_row(
     }
 }
 
-// Fills the first w·n places of dh with -D, of du with Tu and of dv with Tv.
-fn fill_tendencies(
+// Fills the first w·n places of dh with -D, of du with Tu and of dv with Tv, as if there were no barriers.
+fn fill_walled(
     p: Parameters,
     h: &[i64],
     b: &[i64],
@@ -125,12 +128,12 @@ fn fill_tendencies(
     dv: &mut [i64],
 )
     requires { ⌜
-        (let s = lent p h b u v in
+        (let s = walled p h b u v in
         TendenciesReady s (now q)
         × Room (cells s) (now dh) (now du) (now dv))
         ⌝ }
     ensures { λ _. ⌜
-        (let s = before p h b u v in
+        (let s = walledBefore p h b u v in
         let q₀ = now (q .entry) in
         (now (dh .exit) ≡ filled (cells s) (hTendencies s) (now (dh .entry)))
         × (now (du .exit) ≡ filled (cells s) (uTendencies s q₀) (now (du .entry)))
@@ -145,21 +148,61 @@ fn fill_tendencies(
     }
 }
 
+// The same with barriers.
+fn fill_tendencies(
+    p: Parameters,
+    h: &[i64],
+    b: &[i64],
+    u: &[i64],
+    v: &[i64],
+    barriers: &[u8],
+    q: &[i64],
+    dh: &mut [i64],
+    du: &mut [i64],
+    dv: &mut [i64],
+)
+    requires { ⌜
+        (let s = lent p h b u v barriers in
+        TendenciesReady s (now q)
+        × (length (now barriers) ≡ cells s)
+        × Room (cells s) (now dh) (now du) (now dv))
+        ⌝ }
+    ensures { λ _. ⌜
+        (let s = before p h b u v barriers in
+        let q₀ = now (q .entry) in
+        (now (dh .exit) ≡ filled (cells s) (hTendencies s) (now (dh .entry)))
+        × (now (du .exit) ≡ filled (cells s) (uTendencies s q₀) (now (du .entry)))
+        × (now (dv .exit) ≡ filled (cells s) (vTendencies s q₀) (now (dv .entry))))
+        ⌝ }
+{
+    fill_walled(p, h, b, u, v, q, dh, du, dv);
+    grid::clear_barred(du, 0, barriers, Edge::West);
+    grid::clear_barred(dv, 0, barriers, Edge::South);
+}
+
 // Tests 1 to 5 of a state and of q, the potential vorticity lent.
-fn test_vorticity(p: Parameters, h: &[i64], b: &[i64], u: &[i64], v: &[i64], q: &[i64]) -> Answer
+fn test_vorticity(
+    p: Parameters,
+    h: &[i64],
+    b: &[i64],
+    u: &[i64],
+    v: &[i64],
+    barriers: &[u8],
+    q: &[i64],
+) -> Answer
     ensures { λ r. ⌜
-        (let s = before p h b u v in
+        (let s = before p h b u v barriers in
         r ≡ answerOf (firstFound (stateTests s (taken s Vorticity (now (q .entry)) ∷ []) [] [])))
         ⌝ }
 {
     let m = tests::cells_of(p);
     let grid = tests::then_grid(Answer::Accepted, p);
-    let own = tests::then_lengths(grid, m, h, b, u, v);
+    let own = tests::then_lengths(grid, m, h, b, u, v, barriers);
     let lengths = tests::then_length(own, m, q.len());
     let constants = tests::then_constants(lengths, p);
-    let fields = tests::then_fields(constants, p, h, b, u, v);
+    let fields = tests::then_fields(constants, p, h, b, u, v, barriers);
     let values = tests::then_field(fields, p, q, Field::Vorticity);
-    tests::then_edges(values, p, u, v)
+    tests::then_edges(values, p, u, v, barriers)
 }
 
 // Test 8 of three destinations for m numbers each, by their lengths.
@@ -179,22 +222,23 @@ pub fn tendencies(
     b: &[i64],
     u: &[i64],
     v: &[i64],
+    barriers: &[u8],
     q: &[i64],
     dh: &mut [i64],
     du: &mut [i64],
     dv: &mut [i64],
 ) -> Answer
     ensures { λ r. ⌜
-        TendenciesPromise (before p h b u v) (now (q .entry)) (now (dh .entry)) (now (du .entry))
+        TendenciesPromise (before p h b u v barriers) (now (q .entry)) (now (dh .entry)) (now (du .entry))
         (now (dv .entry)) r (now (dh .exit)) (now (du .exit)) (now (dv .exit))
         ⌝ }
 {
     let m = tests::cells_of(p);
-    let state = test_vorticity(p, h, b, u, v, q);
+    let state = test_vorticity(p, h, b, u, v, barriers, q);
     let answer = then_rooms(state, m, dh.len(), du.len(), dv.len());
     let Answer::Accepted = answer else {
         return answer;
     };
-    fill_tendencies(p, h, b, u, v, q, dh, du, dv);
+    fill_tendencies(p, h, b, u, v, barriers, q, dh, du, dv);
     Answer::Accepted
 }

@@ -1,19 +1,19 @@
 -- The energy of a cell, as code reads it, and how large it becomes. Assumes nothing.
-use mathlib.Core.Path.{_≡_}
+use mathlib.Core.Path.{_≡_, refl}
 use mathlib.Core.List.{List, [], _∷_}
 use Prim.Native.Nat.{ℕ, _<_}
 use lib.IntN.{ℤ, pos, _+ℤ_, _*ℤ_}
 use lib.ListN.{getD}
 use Rattle.model.specs.Numbers.{Within, gravityLimits, depthLimits, bottomLimits, velocityLimits}
-use Rattle.model.specs.State.{State, cells, WithinLimits}
-use Rattle.model.specs.Totals.{energyAt}
+use Rattle.model.specs.State.{State, stateOf, parametersOf, cells}
+use Rattle.model.specs.Totals.{energyAt, energy4}
 use Rattle.integers.specs.Ring.{Expr, var, con, _⊕_, _⊗_}
 use Rattle.integers.specs.Bounds.{Abs, Sizes, ∎, _◂_, size}
 use Rattle.integers.specs.Magnitudes.{depth-size, bottom-size, velocity-size, gravity-size}
 use Rattle.grid.specs.Cells.{cell-lt, previous-lt}
 use Rattle.grid.specs.Stencils.{IsAround}
 use Rattle.grid.specs.declared.Stencil.{Stencil}
-use Rattle.scheme.specs.Ready.{ReadsAt, reads}
+use Rattle.scheme.specs.Ready.{ReadsAt, reads, StateReady}
 
 -- ---- bounds, for a state within the limits
 
@@ -53,7 +53,7 @@ potential-size a b c = size potential-expr (gravity-size a ◂ depth-size (b .va
 -- ---- of a state
 
 -- the parts of a cell's energy, from its index and those to the west and to the south
-module _ {s : State} (l : WithinLimits s) {here west south : ℕ} (p : here < cells s) (q : west < cells s) (r : south < cells s) where
+module _ {s : State} (l : StateReady s) {here west south : ℕ} (p : here < cells s) (q : west < cells s) (r : south < cells s) where
   pub energy-sizes : Sizes (kineticAt (s .h) (s .u) here west ∷ kineticAt (s .h) (s .v) here south ∷ potentialAt (s .G) (s .h) (s .b) here ∷ []) (mostKinetic ∷ mostKinetic ∷ mostPotential ∷ [])
   energy-sizes =
       let depth = reads (l .depths) p in
@@ -66,9 +66,14 @@ module _ (s : State) {i j : ℕ} where
   unfolding energyAt
   energy-around r = rw (r .here, r .west, r .south)
 
-  pub energy-size : WithinLimits s → i < s .w → j < s .n → Abs (energyAt s i j) mostEnergy
+  pub energy-size : StateReady s → i < s .w → j < s .n → Abs (energyAt s i j) mostEnergy
   unfolding energyAt
   energy-size l p q =
       size energy-expr
       (energy-sizes l (cell-lt p q) (cell-lt (previous-lt (s .w) i (l .columns .some)) q) (cell-lt p (previous-lt (s .n) j (l .rows .some))))
       tt
+
+-- barriers do not enter: the energy of the state without them is its own
+pub energy-barred : (s : State) → energy4 (stateOf (parametersOf s) (s .h) (s .b) (s .u) (s .v) []) ≡ energy4 s
+unfolding energyAt energy4
+energy-barred s = refl

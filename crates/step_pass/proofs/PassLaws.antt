@@ -1,36 +1,64 @@
 -- From what the parts of a pass leave in the work space to the model's pass. Assumes nothing.
 use mathlib.Core.Path.{_≡_, refl, sym, ap, subst, _∙_}
+use mathlib.Core.Bool.{Bool, true, false, cond}
+use mathlib.Core.Logic.{inr}
 use mathlib.Core.List.{List, []}
-use Prim.Native.Nat.{ℕ, _*_, _<_}
+use Prim.Native.Nat.{ℕ, _+_, _*_, _≤_, _<_}
 use native.Mathlib.Omega.{arith}
-use lib.IntN.{ℤ, pos}
-use lib.ListN.{getD}
-use Rattle.model.specs.Numbers.{depthLimits, velocityLimits, vorticityLimits}
-use Rattle.model.specs.Grid.{next, byCell}
-use Rattle.model.specs.State.{State, stateOf, parametersOf, cells, FieldWithin}
-use Rattle.model.specs.Scheme.{Z, H, vorticityAt, vorticity, fluxU, fluxV}
+use lib.IntN.{ℤ, pos, _+ℤ_, _*ℤ_}
+use lib.ListN.{length, getD}
+use Rattle.model.specs.Numbers.{rnd, tendencyScale, depthLimits, velocityLimits, vorticityLimits}
+use Rattle.model.specs.Grid.{next, at, byCell}
+use Rattle.model.specs.State.{State, stateOf, parametersOf, cells, boundaryOf, wallWest, wallSouth, barrierAt, barsWest, barsSouth, closedWest, closedSouth, FieldWithin, WithinLimits}
+use Rattle.model.specs.Scheme.{Z, H, vorticityAt, vorticity, fluxU, fluxV, tendencyU, tendencyV}
 use Rattle.model.specs.Step.{X, Y, newDepth, newU, newV, pass}
 use Rattle.theorems.specs.Theorems.{theorems}
+use Rattle.theorems.specs.Truth.{true-T, or-iff}
+use Rattle.theorems.specs.RoundTrip.{bars-long}
+use Rattle.theorems.specs.Stepping.{SameWalls, rests-west, rests-south}
 use Rattle.integers.specs.Bounds.{Abs}
 use Rattle.grid.specs.Cells.{next-lt}
 use Rattle.grid.specs.CellFields.{at-byCell, byCell-each, byCell-cong}
 use Rattle.grid.specs.Parts.{part}
 use Rattle.grid.specs.Banks.{Elsewhere, kept-before, kept-behind, elsewhere-then, elsewhere-wider}
+use Rattle.grid.specs.Barred.{Cleared, cleared-part, cleared-elsewhere}
+use Rattle.grid.specs.declared.Edge.the-variants.{West, South}
+use Rattle.scheme.specs.Masking.{unbarred, u-masked, v-masked}
 use Rattle.scheme.specs.Passing.{mostFlow, X-size, Y-size}
 use Rattle.step_pass.specs.Spaces.{baseIn, resultIn, depthBy, depthFrom, Flows, DepthReady, VelocityReady, PassReady}
 
--- the bottom does not enter
-bottomless : (s : State) → vorticity (stateOf (parametersOf s) (s .h) [] (s .u) (s .v)) ≡ vorticity s
+-- the bottom and the barriers do not enter
+bottomless : (s : State) → vorticity (stateOf (parametersOf s) (s .h) [] (s .u) (s .v) []) ≡ vorticity s
 unfolding vorticity vorticityAt Z H
 bottomless s = refl
 
-x-bottomless : (s : State) → X (stateOf (parametersOf s) (s .h) [] (s .u) (s .v)) ≡ X s
+x-bottomless : (s : State) → X (stateOf (parametersOf s) (s .h) [] (s .u) (s .v) []) ≡ X s
 unfolding X fluxU
 x-bottomless s = refl
 
-y-bottomless : (s : State) → Y (stateOf (parametersOf s) (s .h) [] (s .u) (s .v)) ≡ Y s
+y-bottomless : (s : State) → Y (stateOf (parametersOf s) (s .h) [] (s .u) (s .v) []) ≡ Y s
 unfolding Y fluxV
 y-bottomless s = refl
+
+-- ---- a velocity after a pass of base b with the tendencies of s, which has the same barriers: 0 where a barrier stands, and else as if
+-- there were none
+
+module _ (s b : State) (q : List ℤ) (same : SameWalls s b) (l : WithinLimits b) (i j : ℕ) (p : i < b .w) (r : j < b .n) where
+  pub u-held : barrierAt b i j ≡ barrierAt s i j → newU s b q i j ≡ cond (barsWest (barrierAt s i j)) (pos 0) (newU (unbarred s) (unbarred b) q i j)
+  unfolding newU closedWest
+  u-held o = by (barsWest (barrierAt s i j)) refl
+    where
+      by : (bar : Bool) → barsWest (barrierAt s i j) ≡ bar → newU s b q i j ≡ cond bar (pos 0) (newU (unbarred s) (unbarred b) q i j)
+      by true e = rests-west b s q same l i j p r (or-iff (wallWest (boundaryOf (b .kind)) i) (barsWest (barrierAt b i j)) .1 (inr (true-T (ap barsWest o ∙ e))))
+      by false e = ap (λ t. at (b .w) (b .u) i j +ℤ rnd t (tendencyScale *ℤ s .R)) (u-masked s q i j ∙ ap (λ bar. cond bar (pos 0) (tendencyU (unbarred s) q i j)) e)
+
+  pub v-held : barrierAt b i j ≡ barrierAt s i j → newV s b q i j ≡ cond (barsSouth (barrierAt s i j)) (pos 0) (newV (unbarred s) (unbarred b) q i j)
+  unfolding newV closedSouth
+  v-held o = by (barsSouth (barrierAt s i j)) refl
+    where
+      by : (bar : Bool) → barsSouth (barrierAt s i j) ≡ bar → newV s b q i j ≡ cond bar (pos 0) (newV (unbarred s) (unbarred b) q i j)
+      by true e = rests-south b s q same l i j p r (or-iff (wallSouth (boundaryOf (b .kind)) j) (barsSouth (barrierAt b i j)) .1 (inr (true-T (ap barsSouth o ∙ e))))
+      by false e = ap (λ t. at (b .w) (b .v) i j +ℤ rnd t (tendencyScale *ℤ s .R)) (v-masked s q i j ∙ ap (λ bar. cond bar (pos 0) (tendencyV (unbarred s) q i j)) e)
 
 -- ---- a pass with the tendencies of s: d₀ before it, d₁ once the flows and the potential vorticity are there, d₂ once the depths are,
 -- d₃ once the velocities are
@@ -40,11 +68,11 @@ module _ (s : State) (inflow d₀ : List ℤ) (r : PassReady s inflow d₀) wher
   m = cells s
 
   abbrev base : State
-  base = baseIn (parametersOf s) (s .b) d₀
+  base = baseIn (parametersOf s) (s .b) (s .barriers) d₀
 
   abbrev Flowed : List ℤ → Type 0
   Flowed d₁ =
-      let g = stateOf (parametersOf s) (s .h) [] (s .u) (s .v) in
+      let g = stateOf (parametersOf s) (s .h) [] (s .u) (s .v) [] in
       (part (4 * m) m d₁ ≡ byCell (s .w) (s .n) (X g)) × (part (5 * m) m d₁ ≡ byCell (s .w) (s .n) (Y g)) × (part (6 * m) m d₁ ≡ vorticity g) × Elsewhere (4 * m) (7 * m) d₀ d₁
 
   module _ {d₁ : List ℤ} (e : Flowed d₁) where
@@ -90,29 +118,78 @@ module _ (s : State) (inflow d₀ : List ℤ) (r : PassReady s inflow d₀) wher
       vorticity-is : part (6 * m) m d₂ ≡ vorticity s
       vorticity-is = let l = r .long in kept-behind (f .1) (6 * m) m (omega arith) (omega (arith, e .3 .long)) ∙ e .2 ∙ bottomless s
 
-      base-is : baseIn (parametersOf s) (s .b) d₂ ≡ base
+      base-is : baseIn (parametersOf s) (s .b) (s .barriers) d₂ ≡ base
       base-is = let l = r .long in rw (kept-before so-far 0 m (omega arith) (omega arith), kept-before so-far m m (omega arith) (omega arith), kept-before so-far (2 * m) m (omega arith) (omega arith))
 
-      pub velocity-ready : VelocityReady s d₂
+      pub velocity-ready : VelocityReady (unbarred s) d₂
       velocity-ready =
           let l = r .long in
           record {
-            state = r .given;
+            state = search (r .given);
+            ratio = r .given .ratio;
             vorticity = subst (FieldWithin vorticityLimits m) (sym vorticity-is) (theorems .own-vorticity s (r .given));
             us = subst (FieldWithin velocityLimits m) (sym (kept-before so-far m m (omega arith) (omega arith))) (r .base .us);
             vs = subst (FieldWithin velocityLimits m) (sym (kept-before so-far (2 * m) m (omega arith) (omega arith))) (r .base .vs);
             long = omega (arith, so-far .long);
           }
 
+      -- as if there were no barriers
       abbrev Moved : List ℤ → Type 0
       Moved d₃ =
-          let b = baseIn (parametersOf s) (s .b) d₂ in
+          let b = baseIn (parametersOf s) (s .b) [] d₂ in
           let q = part (6 * m) m d₂ in
-          (part (4 * m) m d₃ ≡ byCell (s .w) (s .n) (newU s b q)) × (part (5 * m) m d₃ ≡ byCell (s .w) (s .n) (newV s b q)) × Elsewhere (4 * m) (6 * m) d₂ d₃
+          (part (4 * m) m d₃ ≡ byCell (s .w) (s .n) (newU (unbarred s) b q)) × (part (5 * m) m d₃ ≡ byCell (s .w) (s .n) (newV (unbarred s) b q)) × Elsewhere (4 * m) (6 * m) d₂ d₃
 
-      pub passed : {d₃ : List ℤ} → Moved d₃ → (resultIn (parametersOf s) (s .b) d₃ ≡ pass base s inflow) × Elsewhere (3 * m) (7 * m) d₀ d₃
-      unfolding pass
-      passed {d₃} g =
-          let l = r .long in
-          let h = kept-before (g .2) (3 * m) m (omega arith) (omega (arith, so-far .long)) ∙ f .0 ∙ byCell-cong (s .w) (s .n) (r .given .columns .some) depth-is in
-          (rw (h, g .0, g .1, base-is, vorticity-is), elsewhere-then so-far (elsewhere-wider (g .2) (omega arith) (omega arith)))
+      few : length (s .barriers) ≤ m
+      few = omega (arith, bars-long s (r .given))
+
+      -- there is room for what is cleared, on west edges and then on south edges
+      pub west-room : {d₃ : List ℤ} → Moved d₃ → 4 * m + length (s .barriers) ≤ length d₃
+      west-room g = let l = r .long in omega (arith, few, so-far .long, g .2 .long)
+
+      pub south-room : {d₃ d₄ : List ℤ} → Moved d₃ → Cleared West (s .barriers) (4 * m) d₃ d₄ → 5 * m + length (s .barriers) ≤ length d₄
+      south-room g x = let l = r .long in omega (arith, few, so-far .long, g .2 .long, x .long)
+
+      -- with them: d₄ once the velocities on west edges are cleared, d₅ once those on south edges are
+      module _ {d₃ d₄ d₅ : List ℤ} (g : Moved d₃) (x : Cleared West (s .barriers) (4 * m) d₃ d₄) (y : Cleared South (s .barriers) (5 * m) d₄ d₅) where
+        abbrev q : List ℤ
+        q = part (6 * m) m d₂
+
+        -- the base that the velocities are made of is the one before the pass
+        bare-base : baseIn (parametersOf s) (s .b) [] d₂ ≡ unbarred base
+        bare-base = ap unbarred base-is
+
+        same : SameWalls s base
+        unfolding closedWest closedSouth
+        same = record { west = λ i j. refl; south = λ i j. refl }
+
+        west : Elsewhere (4 * m) (5 * m) d₃ d₄
+        west = elsewhere-wider (cleared-elsewhere x few) (omega arith) (omega arith)
+
+        south : Elsewhere (5 * m) (6 * m) d₄ d₅
+        south = elsewhere-wider (cleared-elsewhere y few) (omega arith) (omega arith)
+
+        room : 8 * m ≤ length d₃
+        room = let l = r .long in omega (arith, so-far .long, g .2 .long)
+
+        us-are : part (4 * m) m d₅ ≡ byCell (s .w) (s .n) (newU s base q)
+        us-are =
+            let l = room in
+            kept-before south (4 * m) m (omega arith) (omega (arith, west .long))
+            ∙ cleared-part x (s .w) (s .n) (newU s base q) (newU (unbarred s) (unbarred base) q) (r .given .columns .some) (omega arith)
+            (g .0 ∙ ap (λ b. byCell (s .w) (s .n) (newU (unbarred s) b q)) bare-base) (λ i j a b. u-held s base q same (r .base) i j a b refl)
+
+        vs-are : part (5 * m) m d₅ ≡ byCell (s .w) (s .n) (newV s base q)
+        vs-are =
+            let l = room in
+            cleared-part y (s .w) (s .n) (newV s base q) (newV (unbarred s) (unbarred base) q) (r .given .columns .some) (omega (arith, west .long))
+            (kept-behind west (5 * m) m (omega arith) (omega arith) ∙ g .1 ∙ ap (λ b. byCell (s .w) (s .n) (newV (unbarred s) b q)) bare-base)
+            (λ i j a b. v-held s base q same (r .base) i j a b refl)
+
+        pub passed : (resultIn (parametersOf s) (s .b) (s .barriers) d₅ ≡ pass base s inflow) × Elsewhere (3 * m) (7 * m) d₀ d₅
+        unfolding pass
+        passed =
+            let l = room in
+            let moved : Elsewhere (4 * m) (6 * m) d₂ d₅ = elsewhere-then (g .2) (elsewhere-then (elsewhere-wider west (omega arith) (omega arith)) (elsewhere-wider south (omega arith) (omega arith))) in
+            let h = kept-before moved (3 * m) m (omega arith) (omega (arith, g .2 .long)) ∙ f .0 ∙ byCell-cong (s .w) (s .n) (r .given .columns .some) depth-is in
+            (rw (h, us-are, vs-are, vorticity-is), elsewhere-then so-far (elsewhere-wider moved (omega arith) (omega arith)))

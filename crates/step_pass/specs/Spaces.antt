@@ -12,16 +12,17 @@ use Rattle.model.specs.declared.Parameters.{Parameters}
 use Rattle.integers.specs.Bounds.{Abs}
 use Rattle.grid.specs.Parts.{part}
 use Rattle.grid.specs.Banks.{Elsewhere, kept-before, kept-behind}
+use Rattle.scheme.specs.Ready.{StateReady}
 use Rattle.scheme.specs.Passing.{mostFlow}
 
 -- ---- states in the work space
 
-module _ (p : Parameters) (b d : List ℤ) where
+module _ (p : Parameters) (b : List ℤ) (barriers : List ℕ) (d : List ℤ) where
   abbrev pub baseIn : State
-  baseIn = let m = p .w * p .n in stateOf p (part 0 m d) b (part m m d) (part (2 * m) m d)
+  baseIn = let m = p .w * p .n in stateOf p (part 0 m d) b (part m m d) (part (2 * m) m d) barriers
 
   abbrev pub resultIn : State
-  resultIn = let m = p .w * p .n in stateOf p (part (3 * m) m d) b (part (4 * m) m d) (part (5 * m) m d)
+  resultIn = let m = p .w * p .n in stateOf p (part (3 * m) m d) b (part (4 * m) m d) (part (5 * m) m d) barriers
 
 -- ---- a depth after the pass, from the base's depths h, the flows X and Y and the inflow
 
@@ -59,7 +60,8 @@ pub record DepthReady (p : Parameters) (inflow d : List ℤ) : Type 0 where
 
 -- velocities: of the given state, its potential vorticity and the base
 pub record VelocityReady (s : State) (d : List ℤ) : Type 0 where
-  pub state : WithinLimits s
+  pub state : StateReady s
+  pub ratio : Within ratioLimits (s .R)
   pub vorticity : FieldWithin vorticityLimits (cells s) (part (6 * cells s) (cells s) d)
   pub us : FieldWithin velocityLimits (cells s) (part (cells s) (cells s) d)
   pub vs : FieldWithin velocityLimits (cells s) (part (2 * cells s) (cells s) d)
@@ -68,7 +70,7 @@ pub record VelocityReady (s : State) (d : List ℤ) : Type 0 where
 -- a pass: the given state s and the base are within the limits
 pub record PassReady (s : State) (inflow d : List ℤ) : Type 0 where
   pub given : WithinLimits s
-  pub base : WithinLimits (baseIn (parametersOf s) (s .b) d)
+  pub base : WithinLimits (baseIn (parametersOf s) (s .b) (s .barriers) d)
   pub entering : FieldWithin inflowLimits (cells s) inflow
   pub long : 8 * cells s ≤ length d
 
@@ -98,7 +100,7 @@ module _ (s : State) {d₀ d : List ℤ} (h : Elsewhere (4 * cells s) (6 * cells
   pub vorticity-kept : 8 * cells s ≤ length d₀ → part (6 * cells s) (cells s) d ≡ part (6 * cells s) (cells s) d₀
   vorticity-kept r = let n = cells s in kept-behind h (6 * n) n (omega arith) (omega arith)
 
-  pub base-kept : 8 * cells s ≤ length d₀ → baseIn (parametersOf s) (s .b) d ≡ baseIn (parametersOf s) (s .b) d₀
+  pub base-kept : 8 * cells s ≤ length d₀ → baseIn (parametersOf s) (s .b) (s .barriers) d ≡ baseIn (parametersOf s) (s .b) (s .barriers) d₀
   base-kept r = let n = cells s in rw (kept-before h 0 n (omega arith) (omega arith), kept-before h n n (omega arith) (omega arith), kept-before h (2 * n) n (omega arith) (omega arith))
 
   pub velocity-ready-kept : VelocityReady s d₀ → VelocityReady s d
@@ -107,6 +109,7 @@ module _ (s : State) {d₀ d : List ℤ} (h : Elsewhere (4 * cells s) (6 * cells
       let n = cells s in
       record {
         state = r .state;
+        ratio = r .ratio;
         vorticity = subst (FieldWithin vorticityLimits n) (sym (vorticity-kept l)) (r .vorticity);
         us = subst (FieldWithin velocityLimits n) (sym (kept-before h n n (omega arith) (omega arith))) (r .us);
         vs = subst (FieldWithin velocityLimits n) (sym (kept-before h (2 * n) n (omega arith) (omega arith))) (r .vs);

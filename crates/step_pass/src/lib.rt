@@ -12,8 +12,10 @@ ghost use Rattle.model.specs.Step.{X, Y, newU, newV};
 ghost use Rattle.grid.specs.Parts.{part};
 ghost use Rattle.grid.specs.Banks.{Elsewhere};
 ghost use Rattle.grid.specs.WritingLoops.{RowWriting};
+ghost use Rattle.scheme.specs.Ready.{walled, walledBefore};
 ghost use Rattle.scheme.specs.Handing.{HandedNorth};
 ghost use Rattle.step_pass.specs.Spaces.{baseIn, resultIn, depthFrom, EdgesReady, DepthReady, VelocityReady, PassReady};
+use grid::Edge;
 use model::Parameters;
 
 // The banks: the base's h, u and v; the result's; the given state's potential vorticity. The last bank is free. The flows X and Y, each
@@ -38,11 +40,12 @@ const FLOW_Y: usize = 5;
 
 // ---- flows and potential vorticity
 
-// The flows X and Y and the potential vorticity of the given state, into banks 4, 5 and 6.
+// The flows X and Y and the potential vorticity of the given state, into banks 4, 5 and 6. The bottom and the barriers do not enter: in
+// the contract there are none.
 fn fill_edges(p: Parameters, h: &[i64], u: &[i64], v: &[i64], work: &mut [i64])
     requires { ⌜ EdgesReady p (now h) (now u) (now v) × (8 * (p .w * p .n) ≤ length (now work)) ⌝ }
     ensures { λ _. ⌜
-        (let s = stateOf p (now (h .entry)) [] (now (u .entry)) (now (v .entry)) in
+        (let s = stateOf p (now (h .entry)) [] (now (u .entry)) (now (v .entry)) [] in
         let m = p .w * p .n in
         let d = now (work .exit) in
         (part (4 * m) m d ≡ byCell (p .w) (p .n) (X s))
@@ -104,8 +107,8 @@ fn fill_depth(p: Parameters, inflow: &[i64], work: &mut [i64])
 
 // ---- velocities
 
-// The velocities of row j after the pass. `handed` has what this row needs of the row to the south, and then what the next one needs of
-// this row.
+// The velocities of row j after the pass, as if there were no barriers. `handed` has what this row needs of the row to the south, and then
+// what the next one needs of this row.
 fn velocity_row(
     p: Parameters,
     h: &[i64],
@@ -117,19 +120,19 @@ fn velocity_row(
     work: &mut [i64],
 )
     requires { ⌜
-        (let s = lent p h b u v in
+        (let s = walled p h b u v in
         let m = p .w * p .n in
         VelocityReady s (now work)
         × (j < p .n)
         × HandedNorth s (part (6 * m) m (now work)) j (now handed))
         ⌝ }
     ensures { λ _. ⌜
-        (let s = before p h b u v in
+        (let s = walledBefore p h b u v in
         let m = p .w * p .n in
         let d = now (work .entry) in
         let e = now (work .exit) in
         let q = part (6 * m) m d in
-        let base = baseIn p (now (b .entry)) d in
+        let base = baseIn p (now (b .entry)) [] d in
         RowWriting (p .w) (p .n) (newU s base q) 0 j (part (4 * m) m d) (p .w) (part (4 * m) m e)
         × RowWriting (p .w) (p .n) (newV s base q) 0 j (part (5 * m) m d) (p .w) (part (5 * m) m e)
         × HandedNorth s q (j + 1) (now (handed .exit))
@@ -163,16 +166,16 @@ fn velocity_row(
     }
 }
 
-// The velocities after the pass, into banks 4 and 5.
+// The velocities after the pass, as if there were no barriers, into banks 4 and 5.
 fn fill_velocity(p: Parameters, h: &[i64], b: &[i64], u: &[i64], v: &[i64], work: &mut [i64])
-    requires { ⌜ VelocityReady (lent p h b u v) (now work) ⌝ }
+    requires { ⌜ VelocityReady (walled p h b u v) (now work) ⌝ }
     ensures { λ _. ⌜
-        (let s = before p h b u v in
+        (let s = walledBefore p h b u v in
         let m = p .w * p .n in
         let d = now (work .entry) in
         let e = now (work .exit) in
         let q = part (6 * m) m d in
-        let base = baseIn p (now (b .entry)) d in
+        let base = baseIn p (now (b .entry)) [] d in
         (part (4 * m) m e ≡ byCell (p .w) (p .n) (newU s base q))
         × (part (5 * m) m e ≡ byCell (p .w) (p .n) (newV s base q))
         × Elsewhere (4 * m) (6 * m) d e)
@@ -205,20 +208,25 @@ pub fn pass(
     b: &[i64],
     u: &[i64],
     v: &[i64],
+    barriers: &[u8],
     inflow: &[i64],
     work: &mut [i64],
 )
-    requires { ⌜ PassReady (lent p h b u v) (now inflow) (now work) ⌝ }
+    requires { ⌜ PassReady (lent p h b u v barriers) (now inflow) (now work) ⌝ }
     ensures { λ _. ⌜
         (let m = p .w * p .n in
         let d = now (work .entry) in
         let e = now (work .exit) in
-        (resultIn p (now (b .entry)) e
-        ≡ Step.pass (baseIn p (now (b .entry)) d) (before p h b u v) (now (inflow .entry)))
+        (resultIn p (now (b .entry)) (now (barriers .entry)) e
+        ≡ Step.pass (baseIn p (now (b .entry)) (now (barriers .entry)) d) (before p h b u v barriers) (now (inflow .entry)))
         × Elsewhere (3 * m) (7 * m) d e)
         ⌝ }
 {
     fill_edges(p, h, u, v, work);
     fill_depth(p, inflow, work);
     fill_velocity(p, h, b, u, v, work);
+    // a velocity on a closed edge is 0, and stays 0
+    let m = p.w * p.n;
+    grid::clear_barred(work, NEW_U * m, barriers, Edge::West);
+    grid::clear_barred(work, NEW_V * m, barriers, Edge::South);
 }

@@ -43,26 +43,26 @@ limits-kept {s} {t} {calls} l made = theorems .limits-kept s t calls l (made-his
 -- ---- the same of the code itself: from what a caller learns of a call, of its own parameters
 
 -- a call of `step`, or of `run`, is the first of a list: from the state lent, by the state left
-module _ (κs : Lfts 6) (a : Dens κs step-kinds.ps) (answer : resT step-kinds.r κs .Denot) (e : AtExit (endedOf 6 step-kinds.ps step-kinds.r) κs) where
+module _ (κs : Lfts 7) (a : Dens κs step-kinds.ps) (answer : resT step-kinds.r κs .Denot) (e : AtExit (endedOf 7 step-kinds.ps step-kinds.r) κs) where
   pub code-step-made : step-reads.Learnt κs a answer e → {calls : List Call} {t : State}
-      → let (p, (h, (b, (u, (v, (inflow, (work, _))))))) = a in
+      → let (p, (h, (b, (u, (v, (barriers, (inflow, (work, _)))))))) = a in
       let (_, (h′, (_, (u′, (v′, _))))) = e in
-      Made (stateOf p (now h′) (now b) (now u′) (now v′)) calls t → Made (stateOf p (now h) (now b) (now u) (now v)) (step (now inflow) (now work) ∷ calls) t
+      Made (stateOf p (now h′) (now b) (now u′) (now v′) (now barriers)) calls t → Made (stateOf p (now h) (now b) (now u) (now v) (now barriers)) (step (now inflow) (now work) ∷ calls) t
   code-step-made told more = step-made (step-call κs a answer e told) more
 
-module _ (κs : Lfts 6) (a : Dens κs run-kinds.ps) (answer : resT run-kinds.r κs .Denot) (e : AtExit (endedOf 6 run-kinds.ps run-kinds.r) κs) where
+module _ (κs : Lfts 7) (a : Dens κs run-kinds.ps) (answer : resT run-kinds.r κs .Denot) (e : AtExit (endedOf 7 run-kinds.ps run-kinds.r) κs) where
   pub code-run-made : run-reads.Learnt κs a answer e → {calls : List Call} {t : State}
-      → let (p, (h, (b, (u, (v, (inflow, (steps, (work, _)))))))) = a in
+      → let (p, (h, (b, (u, (v, (barriers, (inflow, (steps, (work, _))))))))) = a in
       let (_, (h′, (_, (u′, (v′, _))))) = e in
-      Made (stateOf p (now h′) (now b) (now u′) (now v′)) calls t → Made (stateOf p (now h) (now b) (now u) (now v)) (run (now inflow) steps (now work) ∷ calls) t
+      Made (stateOf p (now h′) (now b) (now u′) (now v′) (now barriers)) calls t → Made (stateOf p (now h) (now b) (now u) (now v) (now barriers)) (run (now inflow) steps (now work) ∷ calls) t
   code-run-made told more = run-made (run-call κs a answer e told) more
 
 -- two calls of `total_depth`, before and after such a list
-module _ (κs κs′ : Lfts 4) (a : Dens κs depth-kinds.ps) (a′ : Dens κs′ depth-kinds.ps) (answer : resT depth-kinds.r κs .Denot) (answer′ : resT depth-kinds.r κs′ .Denot)
-    (e : AtExit (endedOf 4 depth-kinds.ps depth-kinds.r) κs) (e′ : AtExit (endedOf 4 depth-kinds.ps depth-kinds.r) κs′) where
+module _ (κs κs′ : Lfts 5) (a : Dens κs depth-kinds.ps) (a′ : Dens κs′ depth-kinds.ps) (answer : resT depth-kinds.r κs .Denot) (answer′ : resT depth-kinds.r κs′ .Denot)
+    (e : AtExit (endedOf 5 depth-kinds.ps depth-kinds.r) κs) (e′ : AtExit (endedOf 5 depth-kinds.ps depth-kinds.r) κs′) where
   pub code-balance : depth-reads.Learnt κs a answer e → depth-reads.Learnt κs′ a′ answer′ e′ → {calls : List Call}
-      → let (p, (h, (b, (u, (v, _))))) = a in
-      let (p′, (h′, (b′, (u′, (v′, _))))) = a′ in
-      let s = stateOf p (now h) (now b) (now u) (now v) in
-      Made s calls (stateOf p′ (now h′) (now b′) (now u′) (now v′)) → answer′ ≡ raised (inflowDue s calls) answer
+      → let (p, (h, (b, (u, (v, (barriers, _)))))) = a in
+      let (p′, (h′, (b′, (u′, (v′, (barriers′, _)))))) = a′ in
+      let s = stateOf p (now h) (now b) (now u) (now v) (now barriers) in
+      Made s calls (stateOf p′ (now h′) (now b′) (now u′) (now v′) (now barriers′)) → answer′ ≡ raised (inflowDue s calls) answer
   code-balance first last made = balance (depth-call κs a answer e first) (depth-call κs′ a′ answer′ e′ last) made

@@ -84,9 +84,9 @@ module _ (s : State) (inflow : List ℤ) (m : ℕ) (work : List ℤ) where
   run-room {r} e f =
       let fields = fieldsOf s ++ (taken s Inflow inflow ∷ []) in
       let first = gridTest (parametersOf s) ∷ runLengthTest m ∷ (lengthTests fields ++ (workTest (cells s) (length work) ∷ [])) in
-      let p = passed-before first (contentTests s fields) r (refl, (refl, (refl, (refl, (refl, (refl, (refl, (refl, tt)))))))) (refused-some test r e) f in
+      let p = passed-before first (contentTests s fields) r (refl, (refl, (refl, (refl, (refl, (refl, (refl, (refl, (refl, tt))))))))) (refused-some test r e) f in
       let k = known-iff (parametersOf s) .0 (p .0) in
-      (k .columns, k .rows, le-iff (workLength s) (length work) .0 (p .1 .1 .1 .1 .1 .1 .1 .0))
+      (k .columns, k .rows, le-iff (workLength s) (length work) .0 (p .1 .1 .1 .1 .1 .1 .1 .1 .0))
 
 -- ---- a step is a run of one
 

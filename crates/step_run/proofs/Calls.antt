@@ -32,12 +32,12 @@ pub record StepCall : Type 0 where
   pub answer : StepAnswer
   pub promise : StepPromise before inflow work answer after work′
 
-module _ (κs : Lfts 6) (a : Dens κs step-kinds.ps) (answer : resT step-kinds.r κs .Denot) (e : AtExit (endedOf 6 step-kinds.ps step-kinds.r) κs) where
+module _ (κs : Lfts 7) (a : Dens κs step-kinds.ps) (answer : resT step-kinds.r κs .Denot) (e : AtExit (endedOf 7 step-kinds.ps step-kinds.r) κs) where
   abbrev pub step-call : step-reads.Learnt κs a answer e → StepCall
   step-call told =
-      let (p, (h, (b, (u, (v, (inflow, (work, _))))))) = a in
-      let (_, (h′, (_, (u′, (v′, (_, (work′, _))))))) = e in
-      record { before = stateOf p (now h) (now b) (now u) (now v); after = stateOf p (now h′) (now b) (now u′) (now v′); inflow = now inflow; work = now work; work′ = now work′; answer = answer; promise = told }
+      let (p, (h, (b, (u, (v, (barriers, (inflow, (work, _)))))))) = a in
+      let (_, (h′, (_, (u′, (v′, (_, (_, (work′, _)))))))) = e in
+      record { before = stateOf p (now h) (now b) (now u) (now v) (now barriers); after = stateOf p (now h′) (now b) (now u′) (now v′) (now barriers); inflow = now inflow; work = now work; work′ = now work′; answer = answer; promise = told }
 
 -- ---- `run`
 
@@ -51,12 +51,12 @@ pub record RunCall : Type 0 where
   pub answer : RunAnswer
   pub promise : RunPromise before inflow steps work answer after work′
 
-module _ (κs : Lfts 6) (a : Dens κs run-kinds.ps) (answer : resT run-kinds.r κs .Denot) (e : AtExit (endedOf 6 run-kinds.ps run-kinds.r) κs) where
+module _ (κs : Lfts 7) (a : Dens κs run-kinds.ps) (answer : resT run-kinds.r κs .Denot) (e : AtExit (endedOf 7 run-kinds.ps run-kinds.r) κs) where
   abbrev pub run-call : run-reads.Learnt κs a answer e → RunCall
   run-call told =
-      let (p, (h, (b, (u, (v, (inflow, (steps, (work, _)))))))) = a in
-      let (_, (h′, (_, (u′, (v′, (_, (_, (work′, _)))))))) = e in
-      record { before = stateOf p (now h) (now b) (now u) (now v); after = stateOf p (now h′) (now b) (now u′) (now v′); inflow = now inflow; steps = steps; work = now work; work′ = now work′; answer = answer; promise = told }
+      let (p, (h, (b, (u, (v, (barriers, (inflow, (steps, (work, _))))))))) = a in
+      let (_, (h′, (_, (u′, (v′, (_, (_, (_, (work′, _))))))))) = e in
+      record { before = stateOf p (now h) (now b) (now u) (now v) (now barriers); after = stateOf p (now h′) (now b) (now u′) (now v′) (now barriers); inflow = now inflow; steps = steps; work = now work; work′ = now work′; answer = answer; promise = told }
 
 -- ---- `total_depth`
 
@@ -65,8 +65,8 @@ pub record DepthCall : Type 0 where
   pub answer : TotalAnswer
   pub promise : TotalDepthPromise state answer
 
-module _ (κs : Lfts 4) (a : Dens κs depth-kinds.ps) (answer : resT depth-kinds.r κs .Denot) (e : AtExit (endedOf 4 depth-kinds.ps depth-kinds.r) κs) where
+module _ (κs : Lfts 5) (a : Dens κs depth-kinds.ps) (answer : resT depth-kinds.r κs .Denot) (e : AtExit (endedOf 5 depth-kinds.ps depth-kinds.r) κs) where
   abbrev pub depth-call : depth-reads.Learnt κs a answer e → DepthCall
   depth-call told =
-      let (p, (h, (b, (u, (v, _))))) = a in
-      record { state = stateOf p (now h) (now b) (now u) (now v); answer = answer; promise = told }
+      let (p, (h, (b, (u, (v, (barriers, _)))))) = a in
+      record { state = stateOf p (now h) (now b) (now u) (now v) (now barriers); answer = answer; promise = told }

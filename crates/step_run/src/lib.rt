@@ -3,7 +3,7 @@ ghost use mathlib.Core.Path.{_≡_};
 ghost use mathlib.Core.Bool.{false};
 ghost use mathlib.Core.List.{List};
 ghost use mathlib.Core.Option.{some};
-ghost use Prim.Native.Nat.{_*_, _≤_};
+ghost use Prim.Native.Nat.{ℕ, _*_, _≤_};
 ghost use lib.IntN.{ℤ, pos};
 ghost use lib.ListN.{length, replicate};
 ghost use Rattle.model.specs.Grid.{filled};
@@ -54,7 +54,8 @@ fn clear_after(refusal: Refusal, p: Parameters, work: &mut [i64])
         (leavesAll refusal ≡ false → Side (p .w) × Side (p .n) × (8 * (p .w * p .n) ≤ length (now work)))
         ⌝ }
     ensures { λ _. ⌜
-        ((h b u v : List ℤ) → now (work .exit) ≡ workLeft (some refusal) (stateOf p h b u v) (now (work .entry)))
+        ((h b u v : List ℤ) (barriers : List ℕ)
+        → now (work .exit) ≡ workLeft (some refusal) (stateOf p h b u v barriers) (now (work .entry)))
         ⌝ }
 {
     if !leaves_all(refusal) {
@@ -71,22 +72,23 @@ fn test_run(
     b: &[i64],
     u: &[i64],
     v: &[i64],
+    barriers: &[u8],
     inflow: &[i64],
     steps: u64,
     room: usize,
 ) -> Answer
-    ensures { λ r. ⌜ r ≡ answerOf (runTest (before p h b u v) (now (inflow .entry)) steps room) ⌝ }
+    ensures { λ r. ⌜ r ≡ answerOf (runTest (before p h b u v barriers) (now (inflow .entry)) steps room) ⌝ }
 {
     let m = tests::cells_of(p);
     let grid = tests::then_grid(Answer::Accepted, p);
     let length = tests::then_run_length(grid, steps);
-    let own = tests::then_lengths(length, m, h, b, u, v);
+    let own = tests::then_lengths(length, m, h, b, u, v, barriers);
     let lengths = tests::then_length(own, m, inflow.len());
     let work = tests::then_work(lengths, m, room);
     let constants = tests::then_constants(work, p);
-    let fields = tests::then_fields(constants, p, h, b, u, v);
+    let fields = tests::then_fields(constants, p, h, b, u, v, barriers);
     let values = tests::then_field(fields, p, inflow, Field::Inflow);
-    tests::then_edges(values, p, u, v)
+    tests::then_edges(values, p, u, v, barriers)
 }
 
 // Steps with the same inflow, until there are so many or the next one is refused with 6.
@@ -96,20 +98,21 @@ fn run_steps(
     b: &[i64],
     u: &mut [i64],
     v: &mut [i64],
+    barriers: &[u8],
     inflow: &[i64],
     steps: u64,
     work: &mut [i64],
 ) -> RunAnswer
-    requires { ⌜ StepReady (lent p h b u v) (now inflow) (now work) ⌝ }
+    requires { ⌜ StepReady (lent p h b u v barriers) (now inflow) (now work) ⌝ }
     ensures { λ r. ⌜
-        (let ran = runFrom steps 0 (before p h b u v) (now (inflow .entry)) in
+        (let ran = runFrom steps 0 (before p h b u v barriers) (now (inflow .entry)) in
         (r ≡ ran .answer)
-        × (after p h b u v ≡ ran .state)
+        × (after p h b u v barriers ≡ ran .state)
         × Rest (p .w * p .n) (now (work .entry)) (now (work .exit)))
         ⌝ }
 {
     for done in 0..steps {
-        match step_two_pass::two_pass(p, h, b, u, v, inflow, work) {
+        match step_two_pass::two_pass(p, h, b, u, v, barriers, inflow, work) {
             Outcome::Moved => {}
             Outcome::Stuck { pass, field, cell } => {
                 return RunAnswer::Stopped {
@@ -132,19 +135,20 @@ fn run_tested(
     b: &[i64],
     u: &mut [i64],
     v: &mut [i64],
+    barriers: &[u8],
     inflow: &[i64],
     steps: u64,
     work: &mut [i64],
 ) -> RunAnswer
-    requires { ⌜ tested ≡ answerOf (runTest (lent p h b u v) (now inflow) steps (length (now work))) ⌝ }
+    requires { ⌜ tested ≡ answerOf (runTest (lent p h b u v barriers) (now inflow) steps (length (now work))) ⌝ }
     ensures { λ r. ⌜
-        (let s = before p h b u v in
-        RunPromise s (now (inflow .entry)) steps (now (work .entry)) r (after p h b u v) (now (work .exit)))
+        (let s = before p h b u v barriers in
+        RunPromise s (now (inflow .entry)) steps (now (work .entry)) r (after p h b u v barriers) (now (work .exit)))
         ⌝ }
 {
     match tested {
         Answer::Accepted => {
-            let answer = run_steps(p, h, b, u, v, inflow, steps, work);
+            let answer = run_steps(p, h, b, u, v, barriers, inflow, steps, work);
             clear_used(p, work);
             answer
         }
@@ -163,17 +167,18 @@ pub fn run(
     b: &[i64],
     u: &mut [i64],
     v: &mut [i64],
+    barriers: &[u8],
     inflow: &[i64],
     steps: u64,
     work: &mut [i64],
 ) -> RunAnswer
     ensures { λ r. ⌜
-        (let s = before p h b u v in
-        RunPromise s (now (inflow .entry)) steps (now (work .entry)) r (after p h b u v) (now (work .exit)))
+        (let s = before p h b u v barriers in
+        RunPromise s (now (inflow .entry)) steps (now (work .entry)) r (after p h b u v barriers) (now (work .exit)))
         ⌝ }
 {
-    let tested = test_run(p, h, b, u, v, inflow, steps, work.len());
-    run_tested(tested, p, h, b, u, v, inflow, steps, work)
+    let tested = test_run(p, h, b, u, v, barriers, inflow, steps, work.len());
+    run_tested(tested, p, h, b, u, v, barriers, inflow, steps, work)
 }
 
 // ---- the step
@@ -202,15 +207,16 @@ pub fn step(
     b: &[i64],
     u: &mut [i64],
     v: &mut [i64],
+    barriers: &[u8],
     inflow: &[i64],
     work: &mut [i64],
 ) -> StepAnswer
     ensures { λ r. ⌜
-        (let s = before p h b u v in
-        StepPromise s (now (inflow .entry)) (now (work .entry)) r (after p h b u v) (now (work .exit)))
+        (let s = before p h b u v barriers in
+        StepPromise s (now (inflow .entry)) (now (work .entry)) r (after p h b u v barriers) (now (work .exit)))
         ⌝ }
 {
-    as_step(run(p, h, b, u, v, inflow, 1, work))
+    as_step(run(p, h, b, u, v, barriers, inflow, 1, work))
 }
 
 // ---- a step of a state that is known to be within the limits
@@ -236,15 +242,16 @@ pub fn step_within(
     b: &[i64],
     u: &mut [i64],
     v: &mut [i64],
+    barriers: &[u8],
     inflow: &[i64],
     work: &mut [i64],
 ) -> StepAnswer
-    requires { ⌜ WithinLimits (lent p h b u v) ⌝ }
+    requires { ⌜ WithinLimits (lent p h b u v barriers) ⌝ }
     ensures { λ r. ⌜
-        (let s = before p h b u v in
-        StepPromise s (now (inflow .entry)) (now (work .entry)) r (after p h b u v) (now (work .exit)))
+        (let s = before p h b u v barriers in
+        StepPromise s (now (inflow .entry)) (now (work .entry)) r (after p h b u v barriers) (now (work .exit)))
         ⌝ }
 {
     let tested = test_beside(p, inflow, work.len());
-    as_step(run_tested(tested, p, h, b, u, v, inflow, 1, work))
+    as_step(run_tested(tested, p, h, b, u, v, barriers, inflow, 1, work))
 }

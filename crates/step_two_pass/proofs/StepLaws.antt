@@ -36,7 +36,7 @@ outside-some (some x) f k e =
 
 -- ---- states in the work space
 
-module _ (p : Parameters) (b : List ℤ) where
+module _ (p : Parameters) (b : List ℤ) (barriers : List ℕ) where
   abbrev m : ℕ
   m = p .w * p .n
 
@@ -44,24 +44,24 @@ module _ (p : Parameters) (b : List ℤ) where
   abbrev Taken : ℕ → (d h u v : List ℤ) → Type 0
   Taken a d h u v = (h ≡ part a m d) × (u ≡ part (a + m) m d) × (v ≡ part (a + 2 * m) m d)
 
-  pub taken-result : (d h u v : List ℤ) → Taken (3 * m) d h u v → stateOf p h b u v ≡ resultIn p b d
+  pub taken-result : (d h u v : List ℤ) → Taken (3 * m) d h u v → stateOf p h b u v barriers ≡ resultIn p b barriers d
   taken-result d h u v e =
       let x : 3 * m + m ≡ 4 * m = omega arith in
       let y : 3 * m + 2 * m ≡ 5 * m = omega arith in
       rw (e .0, e .1 ∙ ap (λ a. part a m d) x, e .2 ∙ ap (λ a. part a m d) y)
 
-  pub taken-base : (d h u v : List ℤ) → Taken 0 d h u v → stateOf p h b u v ≡ baseIn p b d
+  pub taken-base : (d h u v : List ℤ) → Taken 0 d h u v → stateOf p h b u v barriers ≡ baseIn p b barriers d
   taken-base d h u v e =
       let x : 0 + m ≡ m = omega arith in
       let y : 0 + 2 * m ≡ 2 * m = omega arith in
       rw (e .0, e .1 ∙ ap (λ a. part a m d) x, e .2 ∙ ap (λ a. part a m d) y)
 
   -- what is kept there is the base
-  pub kept-base : (d h u v : List ℤ) → part 0 m d ≡ h → part m m d ≡ u → part (2 * m) m d ≡ v → baseIn p b d ≡ stateOf p h b u v
+  pub kept-base : (d h u v : List ℤ) → part 0 m d ≡ h → part m m d ≡ u → part (2 * m) m d ≡ v → baseIn p b barriers d ≡ stateOf p h b u v barriers
   kept-base d h u v e f g = rw (e, f, g)
 
   -- a pass writes banks 3 to 6
-  pub base-after : {d₀ d : List ℤ} → Elsewhere (3 * m) (7 * m) d₀ d → 8 * m ≤ length d₀ → baseIn p b d ≡ baseIn p b d₀
+  pub base-after : {d₀ d : List ℤ} → Elsewhere (3 * m) (7 * m) d₀ d → 8 * m ≤ length d₀ → baseIn p b barriers d ≡ baseIn p b barriers d₀
   base-after h r = rw (kept-before h 0 m (omega arith) (omega arith), kept-before h m m (omega arith) (omega arith), kept-before h (2 * m) m (omega arith) (omega arith))
 
 -- ---- past the numbers that a step uses
@@ -103,10 +103,10 @@ module _ (s : State) (inflow : List ℤ) where
   first-stuck f k h = come-to (ap (λ o. passed o 1 (second s first inflow)) (outside-some (leaves first) f k h)) (record { answers = refl; leads = refl })
 
   -- the state is ready for pass 1, and pass 1's result for pass 2, where the base in the work space is s
-  pub first-ready : {d : List ℤ} → StepReady s inflow d → baseIn (parametersOf s) (s .b) d ≡ s → PassReady s inflow d
+  pub first-ready : {d : List ℤ} → StepReady s inflow d → baseIn (parametersOf s) (s .b) (s .barriers) d ≡ s → PassReady s inflow d
   first-ready r f = record { given = r .state; base = subst WithinLimits (sym f) (r .state); entering = r .entering; long = r .long }
 
-  pub second-ready : {d : List ℤ} → StepReady s inflow d → Kept ≡ boundsBy (leaves first) → baseIn (parametersOf s) (s .b) d ≡ s → PassReady first inflow d
+  pub second-ready : {d : List ℤ} → StepReady s inflow d → Kept ≡ boundsBy (leaves first) → baseIn (parametersOf s) (s .b) (s .barriers) d ≡ s → PassReady first inflow d
   unfolding pass
   second-ready r h f = record { given = first-within s inflow (r .state) (kept-none (leaves first) h); base = subst WithinLimits (sym f) (r .state); entering = r .entering; long = r .long }
 

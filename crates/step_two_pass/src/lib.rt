@@ -3,7 +3,7 @@
 // leaves a bound.
 ghost use mathlib.Core.Path.{_≡_};
 ghost use mathlib.Core.List.{List, [], _∷_};
-ghost use Prim.Native.Nat.{_+_, _*_, _≤_};
+ghost use Prim.Native.Nat.{ℕ, _+_, _*_, _≤_};
 ghost use lib.IntN.{ℤ};
 ghost use lib.ListN.{length};
 ghost use Rattle.model.specs.State.{Side, lent, before, after};
@@ -43,7 +43,9 @@ fn then_bounds(earlier: Bounds, f: &[i64], field: Field) -> Bounds
 // Where the result of a pass leaves a bound: h, then u, then v, lowest cell.
 fn first_outside(p: Parameters, work: &[i64]) -> Bounds
     requires { ⌜ Side (p .w) × Side (p .n) × (8 * (p .w * p .n) ≤ length (now work)) ⌝ }
-    ensures { λ r. ⌜ ((b : List ℤ) → r ≡ boundsBy (leaves (resultIn p b (now (work .entry))))) ⌝ }
+    ensures { λ r. ⌜
+        ((b : List ℤ) (barriers : List ℕ) → r ≡ boundsBy (leaves (resultIn p b barriers (now (work .entry)))))
+        ⌝ }
 {
     let m = p.w * p.n;
     let h = grid::part_of(work, 3 * m, m);
@@ -115,18 +117,19 @@ fn second_pass(
     b: &[i64],
     u: &mut [i64],
     v: &mut [i64],
+    barriers: &[u8],
     inflow: &[i64],
     work: &mut [i64],
 ) -> Outcome
-    requires { ⌜ PassReady (lent p h b u v) (now inflow) (now work) ⌝ }
+    requires { ⌜ PassReady (lent p h b u v barriers) (now inflow) (now work) ⌝ }
     ensures { λ r. ⌜
-        (let base = baseIn p (now (b .entry)) (now (work .entry)) in
-        Stepped base (second base (before p h b u v) (now (inflow .entry))) r (after p h b u v)
+        (let base = baseIn p (now (b .entry)) (now (barriers .entry)) (now (work .entry)) in
+        Stepped base (second base (before p h b u v barriers) (now (inflow .entry))) r (after p h b u v barriers)
         × Rest (p .w * p .n) (now (work .entry)) (now (work .exit)))
         ⌝ }
 {
     let m = p.w * p.n;
-    step_pass::pass(p, h, b, u, v, inflow, work);
+    step_pass::pass(p, h, b, u, v, barriers, inflow, work);
     match first_outside(p, work) {
         Bounds::Kept => {
             take_state(work, 3 * m, m, h, u, v);
@@ -151,23 +154,24 @@ pub fn two_pass(
     b: &[i64],
     u: &mut [i64],
     v: &mut [i64],
+    barriers: &[u8],
     inflow: &[i64],
     work: &mut [i64],
 ) -> Outcome
-    requires { ⌜ StepReady (lent p h b u v) (now inflow) (now work) ⌝ }
+    requires { ⌜ StepReady (lent p h b u v barriers) (now inflow) (now work) ⌝ }
     ensures { λ r. ⌜
-        (let s = before p h b u v in
-        Stepped s (twoPass s (now (inflow .entry))) r (after p h b u v)
+        (let s = before p h b u v barriers in
+        Stepped s (twoPass s (now (inflow .entry))) r (after p h b u v barriers)
         × Rest (p .w * p .n) (now (work .entry)) (now (work .exit)))
         ⌝ }
 {
     let cells = p.w * p.n;
     keep_base(cells, h, u, v, work);
-    step_pass::pass(p, h, b, u, v, inflow, work);
+    step_pass::pass(p, h, b, u, v, barriers, inflow, work);
     match first_outside(p, work) {
         Bounds::Kept => {
             take_state(work, 3 * cells, cells, h, u, v);
-            second_pass(p, h, b, u, v, inflow, work)
+            second_pass(p, h, b, u, v, barriers, inflow, work)
         }
         Bounds::Outside { field, cell } => Outcome::Stuck {
             pass: 1,

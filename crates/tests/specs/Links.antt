@@ -1,12 +1,15 @@
 -- Links of a chain of tests: what is answered after an answer and further tests. Assumes nothing.
-use mathlib.Core.Path.{_≡_, refl, sym, ap, _∙_}
-use mathlib.Core.List.{List, [], _∷_, _++_}
+use mathlib.Core.Path.{_≡_, refl, sym, ap, ap₂, _∙_}
+use mathlib.Core.Bool.{not, false, _&&_}
+use mathlib.Core.List.{List, [], _∷_, _++_, map}
 use mathlib.Core.Option.{Option, none, some}
-use Prim.Native.Nat.{ℕ}
+use Prim.Native.Nat.{ℕ, _≤_, zero-le}
 use lib.Dec.{eqb→eq}
-use lib.IntN.{ℤ}
-use lib.ListN.{length}
-use Rattle.model.specs.State.{State, parametersOf, cells}
+use lib.IntN.{ℤ, pos}
+use lib.ListN.{length, getD, length-map, List·getD-map}
+use borrow.Author.Tests.{le-leb}
+use Rattle.model.specs.Numbers.{within, barrierLimits}
+use Rattle.model.specs.State.{State, parametersOf, cells, barrierNumbers}
 use Rattle.model.specs.Tests.{Test, _then_, firstFound}
 use Rattle.model.specs.Refusals.{fieldsOf, gridTest, lengthTest, lengthTests, constantsTest}
 use Rattle.model.specs.Promises.{answerOf}
@@ -16,6 +19,7 @@ use Rattle.model.specs.declared.Answer.{Answer}
 use Rattle.model.specs.declared.Answer.the-variants.{Accepted, Refused}
 use Rattle.theorems.specs.Truth.{differ}
 use Rattle.theorems.specs.TestLaws.{passes, found-append}
+use Rattle.tests.specs.Sought.{barriersTest}
 
 -- a refusal stays; where there is none, the tests decide
 abbrev pub after : Answer → List (Test Refusal) → Answer
@@ -28,6 +32,7 @@ pub record FieldsLong (s : State) : Type 0 where
   pub b : length (s .b) ≡ cells s
   pub u : length (s .u) ≡ cells s
   pub v : length (s .v) ≡ cells s
+  pub barriers : length (s .barriers) ≡ cells s
 
 -- ---- one link after another
 
@@ -77,7 +82,7 @@ pub begun : {e a : Answer} {l : List (Test Refusal)} → Chain e a l → a ≡ A
 begun {e} {l = l} c h = by-start e l (sym h ∙ c .is) .0
 
 -- a link whose test goes by a number, n, that the code knows as m where the link is not idle
-idle : (a : Answer) (x y : List (Test Refusal)) → (a ≡ Accepted → x ≡ y) → after a x ≡ after a y
+pub idle : (a : Answer) (x y : List (Test Refusal)) → (a ≡ Accepted → x ≡ y) → after a x ≡ after a y
 idle Accepted x y e = ap (after Accepted) (e refl)
 idle (Refused r) x y e = refl
 
@@ -93,6 +98,7 @@ long-by s k t =
       b = eqb→eq (length (s .b)) (cells s) (t .1 .0);
       u = eqb→eq (length (s .u)) (cells s) (t .1 .1 .0);
       v = eqb→eq (length (s .v)) (cells s) (t .1 .1 .1 .0);
+      barriers = sym (length-map (s .barriers) pos) ∙ eqb→eq (length (barrierNumbers s)) (cells s) (t .1 .1 .1 .1 .0);
     }
 
 pub fields-long-after : (s : State) {e a : Answer} {t : Test Refusal} {k : List (Test Refusal)} → Chain e a (t ∷ (lengthTests (fieldsOf s) ++ k)) → a ≡ Accepted → FieldsLong s
@@ -102,9 +108,21 @@ pub fields-long-after-two : (s : State) {e a : Answer} {t u : Test Refusal} {k :
 fields-long-after-two s {k = k} c h = long-by s k (passed c h .1 .1)
 
 -- test 2 of a state's own fields, where they must have m numbers
-abbrev pub ownLengths : (h b u v : List ℤ) (m : ℕ) → List (Test Refusal)
-ownLengths h b u v m = lengthTest m (length h) ∷ lengthTest m (length b) ∷ lengthTest m (length u) ∷ lengthTest m (length v) ∷ []
+abbrev pub ownLengths : (h b u v : List ℤ) (barriers : List ℕ) (m : ℕ) → List (Test Refusal)
+ownLengths h b u v barriers m =
+    lengthTest m (length h) ∷ lengthTest m (length b) ∷ lengthTest m (length u) ∷ lengthTest m (length v) ∷ lengthTest m (length (map pos barriers)) ∷ []
 
 -- tests 1, 2 and 3 of a state
 abbrev pub outlineTests : State → List (Test Refusal)
 outlineTests s = gridTest (parametersOf s) ∷ (lengthTests (fieldsOf s) ++ (constantsTest (parametersOf s) ∷ []))
+
+-- ---- bytes of barriers that are all 3 at most: none is found
+
+pub small-inside : (l : List ℕ) (m : ℕ) → ((k : ℕ) → getD l k 0 ≤ 3) → after Accepted (barriersTest l m ∷ []) ≡ Accepted
+unfolding within barrierLimits
+small-inside l m h = ap answerOf (passes (barriersTest l m ∷ []) .1 (λ k p. inside k, tt))
+  where
+    inside : (k : ℕ) → not (within barrierLimits (getD (map pos l) k (pos 0))) ≡ false
+    inside k =
+        ap (λ x. not (within barrierLimits x)) (List·getD-map pos l k 0)
+        ∙ ap₂ (λ a b. not (a && b)) (le-leb 0 (getD l k 0) zero-le) (le-leb (getD l k 0) 3 (h k))

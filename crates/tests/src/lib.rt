@@ -2,14 +2,14 @@
 // what its own test finds: after a refusal it does nothing. A call writes its tests as a chain, in the order of its list in the model.
 ghost use mathlib.Core.Path.{_≡_};
 ghost use mathlib.Core.Bool.{_&&_};
-ghost use mathlib.Core.List.{List, [], _∷_};
+ghost use mathlib.Core.List.{List, [], _∷_, map};
 ghost use Prim.Native.Nat.{_*_, _≤_};
 ghost use lib.Dec.{T, leb};
-ghost use lib.IntN.{ℤ};
+ghost use lib.IntN.{ℤ, pos};
 ghost use lib.ListN.{length};
 ghost use Rattle.model.specs.Numbers.{longestSide};
 ghost use Rattle.model.specs.Grid.{firstFrom};
-ghost use Rattle.model.specs.State.{stateOf, lent, before};
+ghost use Rattle.model.specs.State.{State, stateOf, lent, before, barrierAt};
 ghost use Rattle.model.specs.Fields.{fieldNumber, limitsOf};
 ghost use Rattle.model.specs.Tests.{asks, firstFound};
 ghost use Rattle.model.specs.Refusals.{taken, fieldsOf, gridKnown, gridTest, runLengthTest, lengthTest, workTest};
@@ -18,8 +18,9 @@ ghost use Rattle.model.specs.Promises.{answerOf};
 ghost use Rattle.model.specs.declared.Answer.the-variants.{Accepted};
 ghost use Rattle.model.specs.declared.Refusal.the-variants.{Value, ClosedEdge};
 ghost use Rattle.integers.specs.Ranges.{between};
-ghost use Rattle.tests.specs.Sought.{bare, foundBy, answerBy, outsideIn, movingAt, badIn, ColumnsOf, RowsOf, stillTest};
+ghost use Rattle.tests.specs.Sought.{bare, edgesOf, foundBy, answerBy, outsideIn, movingAt, badIn, barriersTest, stillTest};
 ghost use Rattle.tests.specs.Links.{after, ownLengths, outlineTests, FieldsLong};
+use grid::Edge;
 use integers::Range;
 use model::Answer;
 use model::Field;
@@ -55,6 +56,7 @@ pub fn row_of(field: Field) -> FieldRow
         Field::VelocityV => row(3, -5000, 5000),
         Field::Vorticity => row(4, -2000000, 2000000),
         Field::Inflow => row(5, -1000, 1000),
+        Field::Barriers => row(6, 0, 3),
     }
 }
 
@@ -86,58 +88,45 @@ pub fn first_outside(f: &[i64], l: Range) -> Found
     Found::Nowhere
 }
 
-// An edge of a cell that has a velocity: u stands on the west edge, v on the south edge.
-pub enum Edge {
-    West,
-    South,
-}
-
-// Whether x is a velocity on a closed edge of cell (i, j). It rules out, for instance: the south wall along column 0; a velocity of 0
-// refused.
-pub fn is_moving(kind: u8, edge: Edge, x: i64, i: usize, j: usize) -> bool
-    ensures { λ r. ⌜ r ≡ movingAt kind edge x i j ⌝ }
-{
-    match edge {
-        Edge::West => grid::closed_west(kind, i, j) && x != 0,
-        Edge::South => grid::closed_south(kind, i, j) && x != 0,
-    }
-}
-
-// How many columns, from the first on, can have such an edge closed, and how many rows: a scan goes no further. They rule out, for instance:
-// the south wall looked for at its first cell alone; the west wall in one row.
-pub fn columns_of(p: Parameters, edge: Edge) -> usize
-    ensures { λ r. ⌜ ColumnsOf (movingAt (p .kind) edge) (p .w) r ⌝ }
-{
-    match edge {
-        Edge::West => grid::closable_columns(p.kind, p.w),
-        Edge::South => p.w,
-    }
-}
-
-pub fn rows_of(p: Parameters, edge: Edge) -> usize
-    ensures { λ r. ⌜ RowsOf (movingAt (p .kind) edge) (p .n) r ⌝ }
-{
-    match edge {
-        Edge::West => p.n,
-        Edge::South => grid::closable_rows(p.kind, p.n),
-    }
-}
-
-// The first cell with a velocity on a closed edge, in index order: the loops end there. It rules out, for instance: the last such cell; a
-// row told for a cell.
-pub fn first_moving(p: Parameters, f: &[i64], edge: Edge) -> Found
-    requires { ⌜ length (now f) ≡ p .w * p .n ⌝ }
+// The same of bytes. It rules out, for instance: a byte from 128 on taken as negative; the last byte left out.
+pub fn first_byte_outside(bytes: &[u8], l: Range) -> Found
     ensures { λ r. ⌜
-        r ≡ foundBy (firstFrom (badIn (movingAt (p .kind) edge) (p .w) (now (f .entry))) (p .w * p .n) 0)
+        r ≡ foundBy (firstFrom (outsideIn l (map pos (now (bytes .entry)))) (length (now (bytes .entry))) 0)
         ⌝ }
 {
-    let columns = columns_of(p, edge);
-    let rows = rows_of(p, edge);
+    for k in 0..bytes.len() {
+        let x = bytes[k] as i64;
+        if !integers::within(x, l) {
+            return Found::At(k);
+        }
+    }
+    Found::Nowhere
+}
+
+// Whether x is a velocity on a closed edge of cell (i, j), in a state of that kind whose byte of barriers there is this one. It rules out, for
+// instance: the south wall along column 0; a velocity of 0 refused; u's edge closed by the bit of v's.
+pub fn is_moving(kind: u8, barrier: u8, edge: Edge, x: i64, i: usize, j: usize) -> bool
+    ensures { λ r. ⌜
+        ((s : State) → s .kind ≡ kind → barrierAt s i j ≡ barrier → r ≡ movingAt s edge x i j)
+        ⌝ }
+{
+    grid::is_closed(kind, barrier, edge, i, j) && x != 0
+}
+
+// The first cell with a velocity on a closed edge, in index order: the loops end there. A barrier may stand anywhere, so they go over all
+// cells. It rules out, for instance: the last such cell; a row told for a cell; the first row and column alone.
+pub fn first_moving(p: Parameters, f: &[i64], barriers: &[u8], edge: Edge) -> Found
+    requires { ⌜ (length (now f) ≡ p .w * p .n) × (length (now barriers) ≡ p .w * p .n) ⌝ }
+    ensures { λ r. ⌜
+        r ≡ foundBy
+        (firstFrom (badIn (movingAt (edgesOf p (now (barriers .entry))) edge) (p .w) (now (f .entry))) (p .w * p .n) 0)
+        ⌝ }
+{
     let mut found = Found::Nowhere;
-    'scan: for j in 0..rows {
-        for i in 0..columns {
+    'scan: for j in 0..p.n {
+        for i in 0..p.w {
             let k = j * p.w + i;
-            if is_moving(p.kind, edge, f[k], i, j) {
+            if is_moving(p.kind, barriers[k], edge, f[k], i, j) {
                 found = Found::At(k);
                 break 'scan;
             }
@@ -246,15 +235,26 @@ pub fn then_work(earlier: Answer, m: usize, room: usize) -> Answer
 }
 
 // Test 2 of a state's own fields. It rules out, for instance: v's length untested; b's for u's.
-pub fn then_lengths(earlier: Answer, m: usize, h: &[i64], b: &[i64], u: &[i64], v: &[i64]) -> Answer
+pub fn then_lengths(
+    earlier: Answer,
+    m: usize,
+    h: &[i64],
+    b: &[i64],
+    u: &[i64],
+    v: &[i64],
+    barriers: &[u8],
+) -> Answer
     ensures { λ r. ⌜
-        r ≡ after earlier (ownLengths (now (h .entry)) (now (b .entry)) (now (u .entry)) (now (v .entry)) m)
+        r ≡ after earlier
+        (ownLengths (now (h .entry)) (now (b .entry)) (now (u .entry)) (now (v .entry))
+        (now (barriers .entry)) m)
         ⌝ }
 {
     let depth = then_length(earlier, m, h.len());
     let bottom = then_length(depth, m, b.len());
     let west = then_length(bottom, m, u.len());
-    then_length(west, m, v.len())
+    let south = then_length(west, m, v.len());
+    then_length(south, m, barriers.len())
 }
 
 // ---- 3
@@ -330,7 +330,25 @@ pub fn then_field(earlier: Answer, p: Parameters, f: &[i64], field: Field) -> An
     then_within(earlier, p, f, field, limits(field))
 }
 
-// Test 4 of a state's own fields, in 01's order. It rules out, for instance: b before h; v untested.
+// Test 4 of the barriers. It rules out, for instance: 4 taken for a barrier; the last cell outside told.
+pub fn then_barriers(earlier: Answer, barriers: &[u8]) -> Answer
+    ensures { λ r. ⌜
+        r ≡ after earlier (barriersTest (now (barriers .entry)) (length (now (barriers .entry))) ∷ [])
+        ⌝ }
+{
+    let Answer::Accepted = earlier else {
+        return earlier;
+    };
+    // nearly always so, and fast: the scan is for the first one that is outside
+    if grid::highest(barriers) <= 3 {
+        return value_answer(Found::Nowhere, Field::Barriers);
+    }
+    let found = first_byte_outside(barriers, limits(Field::Barriers));
+    value_answer(found, Field::Barriers)
+}
+
+// Test 4 of a state's own fields, in 01's order, with the barriers last. It rules out, for instance: b before h; v untested; the barriers
+// before v.
 pub fn then_fields(
     earlier: Answer,
     p: Parameters,
@@ -338,39 +356,54 @@ pub fn then_fields(
     b: &[i64],
     u: &[i64],
     v: &[i64],
+    barriers: &[u8],
 ) -> Answer
-    requires { ⌜ (earlier ≡ Accepted → FieldsLong (lent p h b u v)) ⌝ }
-    ensures { λ r. ⌜ r ≡ after earlier (valueTests Value (fieldsOf (before p h b u v))) ⌝ }
+    requires { ⌜ (earlier ≡ Accepted → FieldsLong (lent p h b u v barriers)) ⌝ }
+    ensures { λ r. ⌜ r ≡ after earlier (valueTests Value (fieldsOf (before p h b u v barriers))) ⌝ }
 {
     let depth = then_field(earlier, p, h, Field::Depth);
     let bottom = then_field(depth, p, b, Field::Bottom);
     let west = then_field(bottom, p, u, Field::VelocityU);
-    then_field(west, p, v, Field::VelocityV)
+    let south = then_field(west, p, v, Field::VelocityV);
+    then_barriers(south, barriers)
 }
 
 // Test 5 of one field of velocities.
-fn then_still(earlier: Answer, p: Parameters, f: &[i64], field: Field, edge: Edge) -> Answer
-    requires { ⌜ (earlier ≡ Accepted → length (now f) ≡ p .w * p .n) ⌝ }
-    ensures { λ r. ⌜ r ≡ after earlier (stillTest p edge field (now (f .entry)) ∷ []) ⌝ }
+fn then_still(
+    earlier: Answer,
+    p: Parameters,
+    f: &[i64],
+    barriers: &[u8],
+    field: Field,
+    edge: Edge,
+) -> Answer
+    requires { ⌜
+        (earlier ≡ Accepted → (length (now f) ≡ p .w * p .n) × (length (now barriers) ≡ p .w * p .n))
+        ⌝ }
+    ensures { λ r. ⌜
+        r ≡ after earlier (stillTest p (now (barriers .entry)) edge field (now (f .entry)) ∷ [])
+        ⌝ }
 {
     let Answer::Accepted = earlier else {
         return earlier;
     };
-    edge_answer(first_moving(p, f, edge), field)
+    edge_answer(first_moving(p, f, barriers, edge), field)
 }
 
-// Test 5: u before v. It rules out, for instance: v's closed edges told before u's; the south wall untested.
-pub fn then_edges(earlier: Answer, p: Parameters, u: &[i64], v: &[i64]) -> Answer
+// Test 5: u before v. It rules out, for instance: v's closed edges told before u's; the south wall untested; the barriers left out.
+pub fn then_edges(earlier: Answer, p: Parameters, u: &[i64], v: &[i64], barriers: &[u8]) -> Answer
     requires { ⌜
-        (earlier ≡ Accepted → (length (now u) ≡ p .w * p .n) × (length (now v) ≡ p .w * p .n))
+        (earlier ≡ Accepted
+        → (length (now u) ≡ p .w * p .n) × (length (now v) ≡ p .w * p .n)
+        × (length (now barriers) ≡ p .w * p .n))
         ⌝ }
     ensures { λ r. ⌜
         ((h b : List ℤ)
-        → r ≡ after earlier (edgeTests (stateOf p h b (now (u .entry)) (now (v .entry)))))
+        → r ≡ after earlier (edgeTests (stateOf p h b (now (u .entry)) (now (v .entry)) (now (barriers .entry)))))
         ⌝ }
 {
-    let west = then_still(earlier, p, u, Field::VelocityU, Edge::West);
-    then_still(west, p, v, Field::VelocityV, Edge::South)
+    let west = then_still(earlier, p, u, barriers, Field::VelocityU, Edge::West);
+    then_still(west, p, v, barriers, Field::VelocityV, Edge::South)
 }
 
 // ---- 8
@@ -386,21 +419,35 @@ pub fn then_room(earlier: Answer, m: usize, room: usize) -> Answer
 
 // Tests 1, 2 and 3 of a state: its grid, the lengths of its fields and its constants. It rules out, for instance: 3 told before 2; a
 // field's length left out.
-pub fn test_outline(p: Parameters, h: &[i64], b: &[i64], u: &[i64], v: &[i64]) -> Answer
-    ensures { λ r. ⌜ r ≡ answerOf (firstFound (outlineTests (before p h b u v))) ⌝ }
+pub fn test_outline(
+    p: Parameters,
+    h: &[i64],
+    b: &[i64],
+    u: &[i64],
+    v: &[i64],
+    barriers: &[u8],
+) -> Answer
+    ensures { λ r. ⌜ r ≡ answerOf (firstFound (outlineTests (before p h b u v barriers))) ⌝ }
 {
     let m = cells_of(p);
     let grid = then_grid(Answer::Accepted, p);
-    let lengths = then_lengths(grid, m, h, b, u, v);
+    let lengths = then_lengths(grid, m, h, b, u, v, barriers);
     then_constants(lengths, p)
 }
 
 // Tests 1 to 5 of a state, and of nothing beside it. It rules out, for instance: 3 told before 2; the last cell outside instead of the
 // first.
-pub fn test_state(p: Parameters, h: &[i64], b: &[i64], u: &[i64], v: &[i64]) -> Answer
-    ensures { λ r. ⌜ r ≡ answerOf (firstFound (stateTests (before p h b u v) [] [] [])) ⌝ }
+pub fn test_state(
+    p: Parameters,
+    h: &[i64],
+    b: &[i64],
+    u: &[i64],
+    v: &[i64],
+    barriers: &[u8],
+) -> Answer
+    ensures { λ r. ⌜ r ≡ answerOf (firstFound (stateTests (before p h b u v barriers) [] [] [])) ⌝ }
 {
-    let outline = test_outline(p, h, b, u, v);
-    let values = then_fields(outline, p, h, b, u, v);
-    then_edges(values, p, u, v)
+    let outline = test_outline(p, h, b, u, v, barriers);
+    let values = then_fields(outline, p, h, b, u, v, barriers);
+    then_edges(values, p, u, v, barriers)
 }

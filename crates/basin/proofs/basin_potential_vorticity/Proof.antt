@@ -11,10 +11,10 @@ returns c =
     let n = c .before in
     let k = n .before .before .before in
     let m = k .before .before in
-    let given = m .before .fits in
+    let given = m .before .before .fits in
     let f = made (m .parameters .ensures) (toZ-ofZ (given .g)) (toZ-ofZ (given .c)) (toZ-ofZ (given .r)) in
-    let a = m .before .args in
-    record { answer = k .potential-vorticity .result; promise = vorticity-of f (a .h .now) (a .b .now) (a .u .now) (a .v .now) (k .potential-vorticity .ensures); told = told-by (n .answer-numbers .ensures) (c .tell .ensures) }
+    let a = m .before .before .args in
+    record { answer = k .potential-vorticity .result; promise = vorticity-of f (a .h .now) (a .b .now) (a .u .now) (a .v .now) (a .barriers .now) (k .potential-vorticity .ensures); told = told-by (n .answer-numbers .ensures) (c .tell .ensures) }
 
 pub basin-potential-vorticity-spec : {M : Type 1} → statement M
 basin-potential-vorticity-spec =

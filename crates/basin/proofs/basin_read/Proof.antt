@@ -8,7 +8,7 @@ returns : tie.Need-returns
 returns c =
     let n = c .before in
     let o = n .before .before in
-    let k = o .before .before .before .before .before .before in
+    let k = o .before .before .before .before .before .before .before .before in
     record { answer = k .read .result; promise = k .read .ensures; holds = o .constants-or .ensures; told = told-by (n .read-numbers .ensures) (c .tell .ensures) }
 
 pub basin-read-spec : {M : Type 1} → statement M
@@ -19,6 +19,7 @@ basin-read-spec =
     (λ c κs. search needs)
     (λ c κs. search needs)
     (λ c κs. search needs)
+    (λ c. search needs)
     (λ c. search needs)
     (λ c. search needs)
     (λ c. search needs)

@@ -17,13 +17,13 @@ returns c =
     let o = n .before .before in
     let k = o .before .before in
     let m = k .before in
-    let given = m .before .fits in
+    let given = m .before .before .fits in
     let f = made (m .parameters .ensures) (toZ-ofZ (given .g)) (toZ-ofZ (given .c)) (toZ-ofZ (given .r)) in
-    let a = m .before .args in
+    let a = m .before .before .args in
     let x = k .total-depth .result in
     record {
       answer = x;
-      promise = depth-of f (a .h .now) (a .b .now) (a .u .now) (a .v .now) (k .total-depth .ensures);
+      promise = depth-of f (a .h .now) (a .b .now) (a .u .now) (a .v .now) (a .barriers .now) (k .total-depth .ensures);
       holds = held-is w64 (o .total-or .ok) (o .total-or .ensures) ∙ ap (λ z. getD (totalIn x) 0 z) (toZ-ofZ {w = w64} {z = a .total .now} (record { sfits = o .before .total-or-arg .given }));
       told = told-by (n .total-numbers .ensures) (c .tell .ensures);
     }

@@ -12,10 +12,10 @@ returns c =
     let n = c .before in
     let k = n .before .before .before .before in
     let m = k .before .before in
-    let given = m .before .before .fits in
+    let given = m .before .before .before .fits in
     let f = made (m .parameters .ensures) (toZ-ofZ (given .g)) (toZ-ofZ (given .c)) (toZ-ofZ (given .r)) in
-    let a = m .before .before .args in
-    record { answer = k .write .result; promise = write-of f (a .h .now) (a .b .now) (a .u .now) (a .v .now) (timestamp (a .seconds) (a .milliseconds)) (k .write .ensures); told = told-by (n .write-numbers .ensures) (c .tell .ensures) }
+    let a = m .before .before .before .args in
+    record { answer = k .write .result; promise = write-of f (a .h .now) (a .b .now) (a .u .now) (a .v .now) (a .barriers .now) (timestamp (a .seconds) (a .milliseconds)) (k .write .ensures); told = told-by (n .write-numbers .ensures) (c .tell .ensures) }
 
 pub basin-write-spec : {M : Type 1} → statement M
 basin-write-spec = tie.close (tie.spec (λ c κs. search needs) (λ c κs. search needs) (λ c κs. search needs) (λ c κs. search needs) (λ c. search needs) returns)

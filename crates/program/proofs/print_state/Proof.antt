@@ -1,5 +1,6 @@
 -- `program::print_state` meets its contract. Assumes nothing.
 use mathlib.Core.Path.{ap, _∙_}
+use mathlib.Core.List.{[]}
 use borrow.Author.Needs.{needs}
 use mir.Syntax.{w64}
 use Rattle.model.specs.State.{State, stateOf}
@@ -12,7 +13,7 @@ use Rattle.program.proofs.print_state.Statement.{statement}
 use Rattle.program.proofs.print_state.Tie as tie
 
 abbrev state : tie.Start → State
-state c = let a = c .args in stateOf (a .p) (a .h .now) (a .b .now) (a .u .now) (a .v .now)
+state c = let a = c .args in stateOf (a .p) (a .h .now) [] (a .u .now) (a .v .now) []
 
 returns : tie.Need-returns
 unfolding totalDepth
@@ -31,8 +32,8 @@ pub print-state-spec : {M : Type 1} → statement M
 print-state-spec =
     tie.close
     (tie.spec
-    (λ c κs. depths-ready (state (c .before .before)) (c .before .before .pre))
+    (λ c κs. depths-ready (c .before .before .pre))
     (λ c κs. search needs)
-    (λ c κs. cells-ready _ (c .before .before .before .before .before .before .before .pre))
+    (λ c κs. cells-ready (c .before .before .before .before .before .before .before .pre))
     (λ c. search needs)
     returns)

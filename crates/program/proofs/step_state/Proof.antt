@@ -1,14 +1,14 @@
 -- `program::step_state` meets its contract. There is one return for each answer of the step, and a law of StepLaws for each: done,
 -- refused, out of bounds. After a step the state is within the limits again, so it can be printed. Assumes nothing.
 use borrow.Author.Needs.{needs}
-use Rattle.program.specs.StepLaws.{after-within, step-done, step-refused, step-outside}
+use Rattle.program.specs.StepLaws.{printable, after-within, step-done, step-refused, step-outside}
 use Rattle.program.proofs.step_state.Statement.{statement}
 use Rattle.program.proofs.step_state.Tie as tie
 
 print-state-requires : tie.Need-print-state-requires
 print-state-requires c κs =
     let p = c .before .before .before .before .before .before .before .before .before .before in
-    after-within (p .step-within .ensures) (p .before .before .before .before .before .before .pre)
+    printable _ (after-within (p .step-within .ensures) (p .before .before .before .before .before .before .before .pre))
 
 returns : tie.Need-returns
 returns c =

@@ -4,10 +4,11 @@ use Rattle.record_bytes.proofs.tag_size.Statement.{statement}
 use Rattle.record_bytes.proofs.tag_size.Tie as tie
 
 -- no tag of the table
-returns-9 : tie.Need-returns-9
-returns-9 c =
+unknown : tie.Need-returns-10
+unknown c =
     let r = c .match .rest in
     rw (
+      ne-eqb _ _ (r .0 .0 .0 .0 .0 .0 .0 .0 .1),
       ne-eqb _ _ (r .0 .0 .0 .0 .0 .0 .0 .1),
       ne-eqb _ _ (r .0 .0 .0 .0 .0 .0 .1),
       ne-eqb _ _ (r .0 .0 .0 .0 .0 .1),
@@ -30,4 +31,5 @@ tag-size-spec =
     (λ c. rw (c .match .keys6))
     (λ c. rw (c .match .keys7))
     (λ c. rw (c .match .keys8))
-    returns-9)
+    (λ c. rw (c .match .keys9))
+    unknown)

@@ -7,11 +7,13 @@ use Rattle.model.specs.State.{State}
 use Rattle.model.specs.Tests.{Test}
 use Rattle.model.specs.Refusals.{fieldsOf, gridTest, roomTests, constantsTest, timeTest, valueTests, edgeTests}
 use Rattle.model.specs.Record.{tagTable, Part, bytesTests, recordTest}
+use Rattle.model.specs.Claims.{Missing}
 use Rattle.model.specs.declared.Parameters.{Parameters}
 use Rattle.model.specs.declared.Timestamp.{Timestamp}
 use Rattle.model.specs.declared.Answer.the-variants.{Accepted}
 use Rattle.model.specs.declared.Refusal.{Refusal}
 use Rattle.model.specs.declared.Refusal.the-variants.{Value}
+use Rattle.theorems.specs.Damage.{whole-iff}
 use Rattle.tests.specs.Links.{after, Chain, start, more, counted, passed}
 use Rattle.record_tags.specs.Places.{partsIn}
 use Rattle.record_tests.specs.RecordTested.{stateRead, Meant}
@@ -32,6 +34,10 @@ module _ (c : tie.After-cells-of) where
 
   meant : Meant (c .before .before .before .args .rec .now) (c .before .before .before .args .at .now) read
   meant = record { placed = c .before .before .before .pre; parameters = c .before .parameters-in .ensures }
+
+  -- no tag is missing
+  full : Missing parts → ⊥
+  full = whole-iff (c .before .before .before .args .rec .now) parts .0 (meant .placed .walks) .1
 
   -- tests 1, 2, 8, 3 and 9, by the parameters p and the timestamp t
   abbrev so-far : Parameters → Timestamp → List (Test Refusal)
@@ -95,6 +101,6 @@ test-record-spec =
     (λ c κs. search needs)
     (λ c κs. search needs)
     (λ c κs. search needs)
-    (λ c κs. let m = c .before .before .before .before .before .before in (meant m, λ h. bytes-passed (read m .w * read m .n) (parts m) (time c) h))
-    (λ c κs. let m = c .before .before .before .before .before .before .before in (meant m, λ h. bytes-passed (read m .w * read m .n) (parts m) (values c) h))
+    (λ c κs. let m = c .before .before .before .before .before .before in (meant m, λ h. bytes-passed (read m .w * read m .n) (parts m) (full m) (time c) h))
+    (λ c κs. let m = c .before .before .before .before .before .before .before in (meant m, λ h. bytes-passed (read m .w * read m .n) (parts m) (full m) (values c) h))
     returns)

@@ -4,7 +4,7 @@ use mathlib.Core.List.{[]}
 use Prim.Native.Nat.{_+_, _-_, _≤_}
 use native.Mathlib.Omega.{arith}
 use lib.ListN.{take}
-use Rattle.model.specs.Record.{tagTable, sizeIn, valueOf, bytesTest, bytesTests}
+use Rattle.model.specs.Record.{tagTable, sizeIn, has, valueOf, bytesTest, bytesTests}
 use Rattle.tests.specs.Links.{after-none, Chain, start, more}
 use Rattle.record_bytes.specs.TagSizes.{lastTag, row-more}
 use Rattle.record_tags.specs.Places.{partsIn}
@@ -32,7 +32,7 @@ loop-again c =
       omega (arith, i .loop-test .taken),
       subst (λ k. Chain (a .earlier) (c .then-bytes .result) (bytesTests (a .m) parts (take k tagTable))) e
           (subst (Chain (a .earlier) (c .then-bytes .result)) (row-more (a .m) parts t (l .loop .inv .0) (i .loop-test .taken))
-          (more (bytesTest (a .m) (valueOf t parts) (sizeIn tagTable t)) (l .loop .inv .2) (c .then-bytes .ensures))),
+          (more (bytesTest (a .m) (has t parts) (valueOf t parts) (sizeIn tagTable t)) (l .loop .inv .2) (c .then-bytes .ensures))),
     )
 
 returns : tie.Need-returns Inv-loop μ-loop

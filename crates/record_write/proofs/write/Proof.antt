@@ -9,31 +9,31 @@ use Rattle.record_write.specs.WriteLaws.{write-ready, write-refused, wri
 use Rattle.record_write.proofs.write.Statement.{statement}
 use Rattle.record_write.proofs.write.Tie as tie
 
-abbrev state : tie.Start → State
-state c = let a = c .args in stateOf (a .p) (a .h .now) (a .b .now) (a .u .now) (a .v .now)
+abbrev state : tie.After-shared-slice-known → State
+state c = let a = c .before .args in stateOf (a .p) (a .h .now) (a .b .now) (a .u .now) (a .v .now) (a .barriers .now)
 
-accepted : (c : tie.After-enum-told) → let b = c .before .before .before .before in Accepted ≡ answerOf (writeTest (state b) (b .args .timestamp) (length (b .args .d .now)))
+accepted : (c : tie.After-enum-told) → let b = c .before .before .before .before in Accepted ≡ answerOf (writeTest (state b) (b .before .args .timestamp) (length (b .before .args .d .now)))
 accepted c = sym (c .enum-told .given .1) ∙ c .before .before .test-write .ensures
 
 put-record-requires : tie.Need-put-record-requires
 put-record-requires c κs =
     let e = c .before in
     let b = e .before .before .before .before in
-    write-ready (state b) (b .args .timestamp) (b .args .d .now) (accepted e)
+    write-ready (state b) (b .before .args .timestamp) (b .before .args .d .now) (accepted e)
 
 returns : tie.Need-returns
 returns c =
     let r = c .before .before in
     let e = r .before .before in
     let b = e .before .before .before .before in
-    write-done (state b) (b .args .timestamp) (b .args .d .now) (accepted e) (r .put-record .ensures)
+    write-done (state b) (b .before .args .timestamp) (b .before .args .d .now) (accepted e) (r .put-record .ensures)
 
 returns-2 : tie.Need-returns-2
 returns-2 c =
     let k = c .before in
     let t = k .before .before in
     let b = t .before .before in
-    write-refused (state b) (b .args .timestamp) (b .args .d .now) (sym (k .refusal .given .1) ∙ t .test-write .ensures)
+    write-refused (state b) (b .before .args .timestamp) (b .before .args .d .now) (sym (k .refusal .given .1) ∙ t .test-write .ensures)
 
 pub write-spec : {M : Type 1} → statement M
 write-spec =

@@ -1,5 +1,6 @@
 -- `scheme::hand_north` meets its contract: the first `i` places have what row 0 needs there. Assumes nothing.
 use mathlib.Core.Path.{_≡_, refl, sym, subst}
+use mathlib.Core.List.{[]}
 use Prim.Native.Nat.{_-_, _<_}
 use native.Mathlib.Omega.{arith}
 use lib.ListN.{length, length-set}
@@ -11,13 +12,13 @@ use Rattle.scheme.proofs.hand_north.Statement.{statement}
 use Rattle.scheme.proofs.hand_north.Tie as tie
 
 abbrev Inv-loop : tie.InvT-loop
-Inv-loop p h b u v q handed₀ i₀ i-end handed i = Handed (stateOf p h b u v) q 0 0 i handed × (length handed ≡ length handed₀)
+Inv-loop p h b u v q handed₀ i₀ i-end handed i = Handed (stateOf p h b u v []) q 0 0 i handed × (length handed ≡ length handed₀)
 
 abbrev μ-loop : tie.MeasureT-loop
 μ-loop p h b u v q handed₀ i₀ i-end handed i = p .w - i
 
 abbrev state : tie.Start Inv-loop μ-loop → State
-state c = let a = c .args in stateOf (a .p) (a .h .now) (a .b .now) (a .u .now) (a .v .now)
+state c = let a = c .args in stateOf (a .p) (a .h .now) (a .b .now) (a .u .now) (a .v .now) []
 
 in-slice : (c : tie.In-loop Inv-loop μ-loop) → c .before .loop .i < length (c .before .loop .handed)
 in-slice c = omega (arith, c .loop-test .taken, c .before .loop .inv .1, c .before .before .pre .1)

@@ -1,5 +1,6 @@
 -- `scheme::shares_at` meets its contract. Assumes nothing.
 use mathlib.Core.Path.{_≡_, sym, subst, _∙_}
+use mathlib.Core.List.{[]}
 use Prim.Native.Nat.{_*_}
 use lib.ListN.{length}
 use borrow.Author.Needs.{needs}
@@ -19,7 +20,7 @@ use Rattle.scheme.proofs.shares_at.Statement.{statement}
 use Rattle.scheme.proofs.shares_at.Tie as tie
 
 abbrev state : tie.Start → State
-state c = let a = c .args in stateOf (a .p) (a .h .now) (a .b .now) (a .u .now) (a .v .now)
+state c = let a = c .args in stateOf (a .p) (a .h .now) (a .b .now) (a .u .now) (a .v .now) []
 
 below : (c : tie.After-around) → let p = c .before .args .p in Below (p .w * p .n) (c .around .result)
 below c =

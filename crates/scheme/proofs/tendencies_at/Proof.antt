@@ -1,5 +1,6 @@
 -- `scheme::tendencies_at` meets its contract. Assumes nothing.
 use mathlib.Core.Path.{_≡_, refl, sym, ap₂, _∙_}
+use mathlib.Core.List.{[]}
 use mathlib.Core.Bool.{false, cond}
 use lib.Dec.{eqb}
 use borrow.Author.Needs.{needs}
@@ -11,19 +12,20 @@ use Rattle.integers.specs.Bounds.{Abs, abs-as, held, held-is}
 use Rattle.grid.specs.Cells.{previous-lt}
 use Rattle.scheme.specs.Shares.{mostShare, Fit, weightsIn, fluxesIn, headIn, eastShareAt, northShareAt, u-edge, v-edge}
 use Rattle.scheme.specs.SchemeSizes.{share-held, west-size, east-size, south-size, north-size, fit-in}
+use Rattle.scheme.specs.Masking.{west-walled, south-walled}
 use Rattle.scheme.specs.Handing.{west-beyond, south-beyond}
 use Rattle.scheme.proofs.tendencies_at.Statement.{statement}
 use Rattle.scheme.proofs.tendencies_at.Tie as tie
 
 abbrev state : tie.Start → State
-state c = let a = c .args in stateOf (a .p) (a .h .now) (a .b .now) (a .u .now) (a .v .now)
+state c = let a = c .args in stateOf (a .p) (a .h .now) (a .b .now) (a .u .now) (a .v .now) []
 
 -- whether the edges are closed
-west-closed : (c : tie.After-closed-west) → let s = c .before in c .closed-west .result ≡ closedWest (state s) (s .args .i) (s .args .j)
-west-closed c = c .closed-west .ensures (state (c .before)) refl
+west-closed : (c : tie.After-walled-west) → let s = c .before in c .walled-west .result ≡ closedWest (state s) (s .args .i) (s .args .j)
+west-closed c = let s = c .before in c .walled-west .ensures ∙ west-walled (state s) (s .args .i) (s .args .j)
 
-south-closed : (c : tie.After-closed-south) → let s = c .before .before in c .closed-south .result ≡ closedSouth (state s) (s .args .i) (s .args .j)
-south-closed c = c .closed-south .ensures (state (c .before .before)) refl
+south-closed : (c : tie.After-walled-south) → let s = c .before .before in c .walled-south .result ≡ closedSouth (state s) (s .args .i) (s .args .j)
+south-closed c = let s = c .before .before in c .walled-south .ensures ∙ south-walled (state s) (s .args .i) (s .args .j)
 
 -- the cell's own shares
 abbrev start : tie.After-shares-at → tie.Start

@@ -1,6 +1,7 @@
 -- `scheme_tendencies::fill_row` meets its contract: i cells of the row are filled, the share of the cell to the west is at hand, and the shares
 -- for the row to the north are put in place of those that came from the south. Assumes nothing.
 use mathlib.Core.Path.{refl, sym, subst, _∙_}
+use mathlib.Core.List.{[]}
 use Prim.Native.Nat.{_+_, _-_, _*_, _<_}
 use native.Mathlib.Omega.{arith}
 use lib.IntN.{negℤ}
@@ -19,7 +20,7 @@ use Rattle.scheme_tendencies.proofs.fill_row.Tie as tie
 
 abbrev Inv-loop : tie.InvT-loop
 Inv-loop p h b u v q j handed₀ dh₀ du₀ dv₀ from-west₀ i₀ i-end handed dh du dv from-west i =
-    let s = stateOf p h b u v in
+    let s = stateOf p h b u v [] in
     RowWriting (p .w) (p .n) (λ i j. negℤ (D s i j)) 0 j dh₀ i dh
     × RowWriting (p .w) (p .n) (tendencyU s q) 0 j du₀ i du
     × RowWriting (p .w) (p .n) (tendencyV s q) 0 j dv₀ i dv
@@ -30,7 +31,7 @@ abbrev μ-loop : tie.MeasureT-loop
 μ-loop p h b u v q j handed₀ dh₀ du₀ dv₀ from-west₀ i₀ i-end handed dh du dv from-west i = p .w - i
 
 abbrev state : tie.Start Inv-loop μ-loop → State
-state c = let a = c .args in stateOf (a .p) (a .h .now) (a .b .now) (a .u .now) (a .v .now)
+state c = let a = c .args in stateOf (a .p) (a .h .now) (a .b .now) (a .u .now) (a .v .now) []
 
 -- ---- the row begins
 

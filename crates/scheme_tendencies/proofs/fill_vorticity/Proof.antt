@@ -15,7 +15,7 @@ use Rattle.scheme_tendencies.proofs.fill_vorticity.Statement.{statement
 use Rattle.scheme_tendencies.proofs.fill_vorticity.Tie as tie
 
 abbrev at-cell : Parameters → (h u v : List ℤ) → ℕ → ℕ → ℤ
-at-cell p h u v = vorticityAt (stateOf p h [] u v)
+at-cell p h u v = vorticityAt (stateOf p h [] u v [])
 
 abbrev Inv-loop2 : tie.InvT-loop2
 Inv-loop2 p h u v d₀ j i₀ j-end i-end d i = RowWriting (p .w) (p .n) (at-cell p h u v) 0 j d₀ i d

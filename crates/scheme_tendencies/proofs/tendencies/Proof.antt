@@ -15,37 +15,37 @@ use Rattle.scheme_tendencies.proofs.tendencies.Statement.{statement}
 use Rattle.scheme_tendencies.proofs.tendencies.Tie as tie
 
 abbrev state : tie.Start → State
-state c = let a = c .args in stateOf (a .p) (a .h .now) (a .b .now) (a .u .now) (a .v .now)
+state c = let a = c .args in stateOf (a .p) (a .h .now) (a .b .now) (a .u .now) (a .v .now) (a .barriers .now)
 
 -- what the tests have found, once all are made
 tested : (c : tie.After-then-rooms)
-    → let b = c .before .before .before in let a = b .args in
+    → let b = c .before .before .before .before in let a = b .args in
     c .then-rooms .result ≡ answerOf (tendenciesTest (state b) (a .q .now) (length (a .dh .now)) (length (a .du .now)) (length (a .dv .now)))
 unfolding tendenciesTest
 tested c =
     let t = c .before in
     let m = t .before in
-    let a = m .before .args in
-    let s = state (m .before) in
+    let a = m .before .before .args in
+    let s = state (m .before .before) in
     let g = start Accepted (stateTests s (taken s Vorticity (a .q .now) ∷ []) [] []) (t .test-vorticity .ensures) in
     counted (λ k. roomTests k (length (a .dh .now) ∷ length (a .du .now) ∷ length (a .dv .now) ∷ [])) g (λ h. m .cells-of .ensures .0 (passed g h .0)) (c .then-rooms .ensures) .is
 
 accepted : (c : tie.After-enum-told)
-    → let b = c .before .before .before .before .before in let a = b .args in
+    → let b = c .before .before .before .before .before .before in let a = b .args in
     Accepted ≡ answerOf (tendenciesTest (state b) (a .q .now) (length (a .dh .now)) (length (a .du .now)) (length (a .dv .now)))
 accepted c = sym (c .enum-told .given .1) ∙ tested (c .before .before)
 
 fill-tendencies-requires : tie.Need-fill-tendencies-requires
 fill-tendencies-requires c κs =
     let e = c .before .before .before in
-    let b = e .before .before .before .before .before in
+    let b = e .before .before .before .before .before .before in
     let a = b .args in
     tendencies-passed (state b) (a .q .now) (a .dh .now) (a .du .now) (a .dv .now) (accepted e)
 
 refused : tie.Need-returns
 refused c =
     let t = c .before .before in
-    let b = t .before .before .before in
+    let b = t .before .before .before .before in
     let a = b .args in
     let s = state b in
     fill-refused _ (cells s) (hTendencies s into a .dh .now ∷ uTendencies s (a .q .now) into a .du .now ∷ vTendencies s (a .q .now) into a .dv .now ∷ []) _ (c .enum-told2 .given .1) (tested t)
@@ -54,7 +54,7 @@ done : tie.Need-returns-2
 done c =
     let f = c .before .before .before in
     let e = f .before .before .before .before in
-    let b = e .before .before .before .before .before in
+    let b = e .before .before .before .before .before .before in
     let a = b .args in
     let s = state b in
     let l = f .fill-tendencies .ensures in

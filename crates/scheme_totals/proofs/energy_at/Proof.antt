@@ -18,7 +18,7 @@ use Rattle.scheme_totals.proofs.energy_at.Statement.{statement}
 use Rattle.scheme_totals.proofs.energy_at.Tie as tie
 
 abbrev state : tie.Start → State
-state c = let a = c .args in stateOf (a .p) (a .h .now) (a .b .now) (a .u .now) (a .v .now)
+state c = let a = c .args in stateOf (a .p) (a .h .now) (a .b .now) (a .u .now) (a .v .now) []
 
 below : (c : tie.After-around) → let p = c .before .args .p in Below (p .w * p .n) (c .around .result)
 below c =

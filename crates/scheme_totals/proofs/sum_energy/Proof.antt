@@ -1,6 +1,6 @@
 -- `scheme_totals::sum_energy` meets its contract: row by row, column by column. Assumes nothing.
 use mathlib.Core.Path.{_≡_, sym, ap, _∙_}
-use mathlib.Core.List.{List}
+use mathlib.Core.List.{List, []}
 use Prim.Native.Nat.{ℕ, _+_, _-_, _*_, _≤_, zero-le}
 use native.Mathlib.Nat.{le-antisymm}
 use native.Mathlib.Omega.{arith}
@@ -18,7 +18,7 @@ use Rattle.scheme_totals.proofs.sum_energy.Statement.{statement}
 use Rattle.scheme_totals.proofs.sum_energy.Tie as tie
 
 abbrev energy : Parameters → (h b u v : List ℤ) → ℕ → ℕ → ℤ
-energy p h b u v = energyAt (stateOf p h b u v)
+energy p h b u v = energyAt (stateOf p h b u v [])
 
 abbrev Inv-loop2 : tie.InvT-loop2
 Inv-loop2 p h b u v sum₀ j i₀ j-end i-end sum i = (i ≤ p .w) × (toZ w64 sum ≡ sumBefore (p .w) (energy p h b u v) j i)

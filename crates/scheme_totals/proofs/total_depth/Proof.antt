@@ -18,14 +18,14 @@ use Rattle.scheme_totals.proofs.total_depth.Statement.{statement}
 use Rattle.scheme_totals.proofs.total_depth.Tie as tie
 
 abbrev state : tie.Start → State
-state c = let a = c .args in stateOf (a .p) (a .h .now) (a .b .now) (a .u .now) (a .v .now)
+state c = let a = c .args in stateOf (a .p) (a .h .now) (a .b .now) (a .u .now) (a .v .now) (a .barriers .now)
 
-passed : (c : tie.After-enum-told) → Accepted ≡ answerOf (firstFound (totalTests (state (c .before .before .before))))
+passed : (c : tie.After-enum-told) → Accepted ≡ answerOf (firstFound (totalTests (state (c .before .before .before .before))))
 passed c = sym (c .enum-told .given .1) ∙ c .before .before .test-state .ensures
 
 sum-depths-requires : tie.Need-sum-depths-requires
 sum-depths-requires c κs =
-    let s = c .before .before .before in
+    let s = c .before .before .before .before in
     let h = s .args .h .now in
     let l = total-passed (state s) (passed c) in
     let e = sym (l .depths .long) in
@@ -34,14 +34,14 @@ sum-depths-requires c κs =
 returns : tie.Need-returns
 unfolding totalDepth
 returns c =
-    let e = total-told (state (c .before .before .before .before)) (passed (c .before)) (held-is w64 (c .sum-depths .ok) (c .sum-depths .ensures)) in
+    let e = total-told (state (c .before .before .before .before .before)) (passed (c .before)) (held-is w64 (c .sum-depths .ok) (c .sum-depths .ensures)) in
     record { answers = e; tells = ap toldTotal e }
 
 returns-2 : tie.Need-returns-2
 returns-2 c =
     let k = c .before in
     let t = k .before .before in
-    let s = state (t .before) in
+    let s = state (t .before .before) in
     let e = total-refused s (totalDepth s) (sym (k .refusal .given .1) ∙ t .test-state .ensures) in
     record { answers = e; tells = ap toldTotal e }
 

@@ -19,7 +19,7 @@ use Rattle.step_pass.proofs.fill_edges.Statement.{statement}
 use Rattle.step_pass.proofs.fill_edges.Tie as tie
 
 abbrev given : Parameters → (h u v : List ℤ) → State
-given p h u v = stateOf p h [] u v
+given p h u v = stateOf p h [] u v []
 
 abbrev Inv-loop2 : tie.InvT-loop2
 Inv-loop2 p h u v work₀ m j i₀ j-end i-end work i =

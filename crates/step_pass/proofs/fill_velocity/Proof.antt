@@ -1,7 +1,7 @@
 -- `step_pass::fill_velocity` meets its contract: j rows are stored, and the shares that the row before gives to row j are at hand. The loop
 -- writes only banks 4 and 5, so each velocity is made of what the work space held at first. Assumes nothing.
 use mathlib.Core.Path.{_≡_, refl, sym, subst}
-use mathlib.Core.List.{List}
+use mathlib.Core.List.{List, []}
 use Prim.Native.Nat.{ℕ, _+_, _-_, _*_, _≤_, zero-le}
 use native.Mathlib.Omega.{arith}
 use lib.IntN.{ℤ}
@@ -20,10 +20,10 @@ use Rattle.step_pass.proofs.fill_velocity.Tie as tie
 
 abbrev Inv-loop : tie.InvT-loop
 Inv-loop p h b u v work₀ handed₀ m j₀ j-end work handed j =
-    let s = stateOf p h b u v in
+    let s = stateOf p h b u v [] in
     let m = p .w * p .n in
     let q = part (6 * m) m work₀ in
-    let base = baseIn p b work₀ in
+    let base = baseIn p b [] work₀ in
     (j ≤ p .n)
     × Writing 0 (field (p .w) (p .n) (newU s base q)) (part (4 * m) m work₀) (j * p .w) (part (4 * m) m work)
     × Writing 0 (field (p .w) (p .n) (newV s base q)) (part (5 * m) m work₀) (j * p .w) (part (5 * m) m work)
@@ -38,7 +38,7 @@ abbrev Start : Type 0
 Start = tie.Start Inv-loop μ-loop
 
 abbrev state : Start → State
-state c = let a = c .args in stateOf (a .p) (a .h .now) (a .b .now) (a .u .now) (a .v .now)
+state c = let a = c .args in stateOf (a .p) (a .h .now) (a .b .now) (a .u .now) (a .v .now) []
 
 abbrev cells : Start → ℕ
 cells c = c .args .p .w * c .args .p .n
@@ -79,14 +79,14 @@ velocity-row-requires c κs =
 -- what goes by the base and the potential vorticity as the row begins goes by those at first
 module _ (c : Turn) (P : State → List ℤ → Type 0) where
   at-first : let s = begin c in let d = c .before .loop .work in let d₀ = s .args .work .now in let m = cells s in
-      P (baseIn (s .args .p) (s .args .b .now) d) (part (6 * m) m d) → P (baseIn (s .args .p) (s .args .b .now) d₀) (part (6 * m) m d₀)
+      P (baseIn (s .args .p) (s .args .b .now) [] d) (part (6 * m) m d) → P (baseIn (s .args .p) (s .args .b .now) [] d₀) (part (6 * m) m d₀)
   at-first x =
       let s = begin c in
       let d = c .before .loop .work in
       let m = cells s in
       let e = c .before .loop .inv .5 in
       subst (λ b. P b (part (6 * m) m (s .args .work .now))) (base-kept (state s) e (s .pre .long))
-      (subst (P (baseIn (s .args .p) (s .args .b .now) d)) (vorticity-kept (state s) e (s .pre .long)) x)
+      (subst (P (baseIn (s .args .p) (s .args .b .now) [] d)) (vorticity-kept (state s) e (s .pre .long)) x)
 
 loop-again : tie.Need-loop-again Inv-loop μ-loop
 loop-again c =

@@ -1,7 +1,7 @@
 -- `step_pass::velocity_row` meets its contract: i cells of the row are stored in banks 4 and 5, the share of the cell to the west is at
 -- hand, and the shares for the row to the north are put in place of those that came from the south. Assumes nothing.
 use mathlib.Core.Path.{_≡_, refl, sym, ap, ap₂, subst, _∙_}
-use mathlib.Core.List.{List}
+use mathlib.Core.List.{List, []}
 use Prim.Native.Nat.{ℕ, _+_, _-_, _*_, _≤_, _<_}
 use native.Mathlib.Omega.{arith}
 use lib.IntN.{ℤ, pos, _+ℤ_, _*ℤ_}
@@ -30,10 +30,10 @@ use Rattle.step_pass.proofs.velocity_row.Tie as tie
 
 abbrev Inv-loop : tie.InvT-loop
 Inv-loop p h b u v j handed₀ work₀ m from-west₀ i₀ i-end handed work from-west i =
-    let s = stateOf p h b u v in
+    let s = stateOf p h b u v [] in
     let m = p .w * p .n in
     let q = part (6 * m) m work₀ in
-    let base = baseIn p b work₀ in
+    let base = baseIn p b [] work₀ in
     RowWriting (p .w) (p .n) (newU s base q) 0 j (part (4 * m) m work₀) i (part (4 * m) m work)
     × RowWriting (p .w) (p .n) (newV s base q) 0 j (part (5 * m) m work₀) i (part (5 * m) m work)
     × Handing s q j handed₀ i handed
@@ -50,7 +50,7 @@ abbrev Turn : Type 0
 Turn = tie.In-loop Inv-loop μ-loop
 
 abbrev state : Start → State
-state c = let a = c .args in stateOf (a .p) (a .h .now) (a .b .now) (a .u .now) (a .v .now)
+state c = let a = c .args in stateOf (a .p) (a .h .now) (a .b .now) (a .u .now) (a .v .now) []
 
 abbrev cells : Start → ℕ
 cells c = c .args .p .w * c .args .p .n
@@ -165,10 +165,10 @@ v-is c =
     exact w64 (var 0) (abs-as e (tendencyV-size (ready s) (turn c .loop-test .taken) (s .pre .1)) ◂ ∎) tt ∙ e
 
 ratio-is : (c : Start) → held w64 (c .args .p .r) ≡ c .args .p .r
-ratio-is c = exact w64 (var 0) (ratio-size (c .pre .0 .state .ratio) ◂ ∎) tt
+ratio-is c = exact w64 (var 0) (ratio-size (c .pre .0 .ratio) ◂ ∎) tt
 
 ratio-within : (c : Start) → Within ratioLimits (held w64 (c .args .p .r))
-ratio-within c = subst (Within ratioLimits) (sym (ratio-is c)) (c .pre .0 .state .ratio)
+ratio-within c = subst (Within ratioLimits) (sym (ratio-is c)) (c .pre .0 .ratio)
 
 moved-velocity-requires : tie.Need-moved-velocity-requires Inv-loop μ-loop
 moved-velocity-requires c κs =
@@ -200,7 +200,7 @@ abbrev worked : tie.After-moved-velocity2 Inv-loop μ-loop → tie.After-tendenc
 worked c = first c .before .before .before .before .before .before .before
 
 new-u-is : (c : tie.After-moved-velocity2 Inv-loop μ-loop)
-    → let s = begin (turn (worked c)) in held w64 (first c .moved-velocity .result) ≡ newU (state s) (baseIn (s .args .p) (s .args .b .now) (s .args .work .now)) (vorticity s) (turn (worked c) .before .loop .i) (s .args .j)
+    → let s = begin (turn (worked c)) in held w64 (first c .moved-velocity .result) ≡ newU (state s) (baseIn (s .args .p) (s .args .b .now) [] (s .args .work .now)) (vorticity s) (turn (worked c) .before .loop .i) (s .args .j)
 unfolding newU
 new-u-is c =
     let m = first c in
@@ -208,7 +208,7 @@ new-u-is c =
     held-is w64 (m .moved-velocity .ok) (m .moved-velocity .ensures ∙ moved-by (old-u (turn t)) (u-is t) (ratio-is (begin (turn t))))
 
 new-v-is : (c : tie.After-moved-velocity2 Inv-loop μ-loop)
-    → let s = begin (turn (worked c)) in held w64 (c .moved-velocity2 .result) ≡ newV (state s) (baseIn (s .args .p) (s .args .b .now) (s .args .work .now)) (vorticity s) (turn (worked c) .before .loop .i) (s .args .j)
+    → let s = begin (turn (worked c)) in held w64 (c .moved-velocity2 .result) ≡ newV (state s) (baseIn (s .args .p) (s .args .b .now) [] (s .args .work .now)) (vorticity s) (turn (worked c) .before .loop .i) (s .args .j)
 unfolding newV
 new-v-is c =
     let t = worked c in

@@ -13,17 +13,17 @@ clears c = sym (c .before .leaves-all .ensures) ∙ not-true _ (c .if1 .taken)
 
 returns : tie.Need-returns
 unfolding workLeft
-returns c h b u v =
+returns c h b u v barriers =
     let k = c .before in
     let t = k .before .before in
     let a = t .before .before .args in
-    k .clear-used .ensures ∙ sym (ap (λ x. cond x (a .work .now) (cleared (stateOf (a .p) h b u v) (a .work .now))) (clears t))
+    k .clear-used .ensures ∙ sym (ap (λ x. cond x (a .work .now) (cleared (stateOf (a .p) h b u v barriers) (a .work .now))) (clears t))
 
 returns-2 : tie.Need-returns-2
 unfolding workLeft
-returns-2 c h b u v =
+returns-2 c h b u v barriers =
     let a = c .before .before .args in
-    sym (ap (λ x. cond x (a .work .now) (cleared (stateOf (a .p) h b u v) (a .work .now))) (sym (c .before .leaves-all .ensures) ∙ not-false _ (c .if1 .left)))
+    sym (ap (λ x. cond x (a .work .now) (cleared (stateOf (a .p) h b u v barriers) (a .work .now))) (sym (c .before .leaves-all .ensures) ∙ not-false _ (c .if1 .left)))
 
 pub clear-after-spec : {M : Type 1} → statement M
 clear-after-spec =

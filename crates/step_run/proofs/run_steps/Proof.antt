@@ -13,19 +13,22 @@ use Rattle.step_run.proofs.run_steps.Statement.{statement}
 use Rattle.step_run.proofs.run_steps.Tie as tie
 
 abbrev Inv-loop : tie.InvT-loop
-Inv-loop p h₀ b u₀ v₀ inflow steps work₀ done₀ h u v work done =
-    let s = stateOf p h b u v in
-    StepReady s inflow work × Running (stateOf p h₀ b u₀ v₀) inflow steps done s × Rest (p .w * p .n) work₀ work
+Inv-loop p h₀ b u₀ v₀ barriers inflow steps work₀ done₀ h u v work done =
+    let s = stateOf p h b u v barriers in
+    StepReady s inflow work × Running (stateOf p h₀ b u₀ v₀ barriers) inflow steps done s × Rest (p .w * p .n) work₀ work
 
 abbrev μ-loop : tie.MeasureT-loop
-μ-loop p h₀ b u₀ v₀ inflow steps work₀ done₀ h u v work done = steps - done
+μ-loop p h₀ b u₀ v₀ barriers inflow steps work₀ done₀ h u v work done = steps - done
 
 abbrev Turn : Type 0
 Turn = tie.In-loop Inv-loop μ-loop
 
+abbrev begin : Turn → tie.Start Inv-loop μ-loop
+begin c = c .before .before .before
+
 -- the state before a step
 abbrev state : Turn → State
-state c = let a = c .before .before .args in let l = c .before .loop in stateOf (a .p) (l .h) (a .b .now) (l .u) (l .v)
+state c = let a = begin c .args in let l = c .before .loop in stateOf (a .p) (l .h) (a .b .now) (l .u) (l .v) (a .barriers .now)
 
 abbrev turn : tie.After-two-pass Inv-loop μ-loop → Turn
 turn c = c .before .before .before .before .before
@@ -33,25 +36,25 @@ turn c = c .before .before .before .before .before
 -- the state after it
 abbrev after : tie.After-two-pass Inv-loop μ-loop → State
 after c =
-    let a = turn c .before .before .args in
+    let a = begin (turn c) .args in
     let l = c .two-pass .last .1 in
-    stateOf (a .p) (l .0) (a .b .now) (l .1 .1 .0) (l .1 .1 .1 .0)
+    stateOf (a .p) (l .0) (a .b .now) (l .1 .1 .0) (l .1 .1 .1 .0) (a .barriers .now)
 
 -- a field at hand is as long as the one that was lent
 module _ (c : tie.After-two-pass Inv-loop μ-loop) where
-  h-long : let a = turn c .before .before .args in length (c .two-pass .last .1 .0) ≡ length (a .h .now)
-  h-long = c .two-pass .kept .1 .0 ∙ turn c .before .loop .inv .0 .state .depths .long ∙ sym (turn c .before .before .pre .state .depths .long)
+  h-long : let a = begin (turn c) .args in length (c .two-pass .last .1 .0) ≡ length (a .h .now)
+  h-long = c .two-pass .kept .1 .0 ∙ turn c .before .loop .inv .0 .state .depths .long ∙ sym (begin (turn c) .pre .state .depths .long)
 
-  u-long : let a = turn c .before .before .args in length (c .two-pass .last .1 .1 .1 .0) ≡ length (a .u .now)
-  u-long = c .two-pass .kept .1 .1 .1 .0 ∙ turn c .before .loop .inv .0 .state .us .long ∙ sym (turn c .before .before .pre .state .us .long)
+  u-long : let a = begin (turn c) .args in length (c .two-pass .last .1 .1 .1 .0) ≡ length (a .u .now)
+  u-long = c .two-pass .kept .1 .1 .1 .0 ∙ turn c .before .loop .inv .0 .state .us .long ∙ sym (begin (turn c) .pre .state .us .long)
 
-  v-long : let a = turn c .before .before .args in length (c .two-pass .last .1 .1 .1 .1 .0) ≡ length (a .v .now)
-  v-long = c .two-pass .kept .1 .1 .1 .1 .0 ∙ turn c .before .loop .inv .0 .state .vs .long ∙ sym (turn c .before .before .pre .state .vs .long)
+  v-long : let a = begin (turn c) .args in length (c .two-pass .last .1 .1 .1 .1 .0) ≡ length (a .v .now)
+  v-long = c .two-pass .kept .1 .1 .1 .1 .0 ∙ turn c .before .loop .inv .0 .state .vs .long ∙ sym (begin (turn c) .pre .state .vs .long)
 
-  work-long : let a = turn c .before .before .args in length (c .two-pass .last .1 .1 .1 .1 .1 .1 .0) ≡ length (a .work .now)
+  work-long : let a = begin (turn c) .args in length (c .two-pass .last .1 .1 .1 .1 .1 .1 .1 .0) ≡ length (a .work .now)
   work-long = c .two-pass .ensures .1 .long ∙ turn c .before .loop .inv .2 .long
 
-  rest : let a = turn c .before .before .args in Rest (a .p .w * a .p .n) (a .work .now) (c .two-pass .last .1 .1 .1 .1 .1 .1 .0)
+  rest : let a = begin (turn c) .args in Rest (a .p .w * a .p .n) (a .work .now) (c .two-pass .last .1 .1 .1 .1 .1 .1 .1 .0)
   rest = rest-then (turn c .before .loop .inv .2) (c .two-pass .ensures .1)
 
 abbrev stopped : tie.After-known-told Inv-loop μ-loop → tie.After-two-pass Inv-loop μ-loop
@@ -61,7 +64,7 @@ returns : tie.Need-returns Inv-loop μ-loop
 returns c =
     let t = stopped c in
     let i = turn t in
-    let inflow = i .before .before .args .inflow .now in
+    let inflow = begin i .args .inflow .now in
     let o = twoPass (state i) inflow in
     let z = came-stuck o _ _ _ (subst (λ a. Stepped (state i) o a (after t)) (c .before .pass .given .1) (t .two-pass .ensures .0)) in
     let ran = running-stuck (i .before .loop .inv .1) (i .loop-test .taken) (z .0) in
@@ -74,7 +77,7 @@ loop-again : tie.Need-loop-again Inv-loop μ-loop
 loop-again c =
     let t = moves c in
     let i = turn t in
-    let inflow = i .before .before .args .inflow .now in
+    let inflow = begin i .args .inflow .now in
     let o = twoPass (state i) inflow in
     let inv = i .before .loop .inv in
     let e = came-moved o (subst (λ a. Stepped (state i) o a (after t)) (c .enum-told .given .1) (t .two-pass .ensures .0)) in
@@ -92,7 +95,7 @@ run-steps-spec =
     (tie.spec
     Inv-loop
     μ-loop
-    (λ c. (c .pre, running-none, record { long = refl; behind = refl }))
+    (λ c. (c .before .pre, running-none, record { long = refl; behind = refl }))
     (λ c κs. c .before .before .before .before .before .loop .inv .0)
     (λ c. search needs)
     (λ c. search needs)
@@ -101,11 +104,11 @@ run-steps-spec =
     (λ c. v-long (stopped c))
     (λ c. work-long (stopped c))
     returns
-    (λ c. let i = turn (moves c) in record { fits = omega (arith, i .loop-test .taken, i .before .before .fits .steps .fits) })
+    (λ c. let i = turn (moves c) in record { fits = omega (arith, i .loop-test .taken, begin i .fits .steps .fits) })
     (λ c. omega (arith, turn (moves c) .loop-test .taken))
     loop-again
-    (λ c. c .before .loop .inv .0 .state .depths .long ∙ sym (c .before .before .pre .state .depths .long))
-    (λ c. c .before .loop .inv .0 .state .us .long ∙ sym (c .before .before .pre .state .us .long))
-    (λ c. c .before .loop .inv .0 .state .vs .long ∙ sym (c .before .before .pre .state .vs .long))
+    (λ c. c .before .loop .inv .0 .state .depths .long ∙ sym (c .before .before .before .pre .state .depths .long))
+    (λ c. c .before .loop .inv .0 .state .us .long ∙ sym (c .before .before .before .pre .state .us .long))
+    (λ c. c .before .loop .inv .0 .state .vs .long ∙ sym (c .before .before .before .pre .state .vs .long))
     (λ c. c .before .loop .inv .2 .long)
     returns-2)

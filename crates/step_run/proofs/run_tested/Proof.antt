@@ -13,15 +13,15 @@ use Rattle.step_run.proofs.run_tested.Statement.{statement}
 use Rattle.step_run.proofs.run_tested.Tie as tie
 
 abbrev state : tie.Start → State
-state c = let a = c .args in stateOf (a .p) (a .h .now) (a .b .now) (a .u .now) (a .v .now)
+state c = let a = c .args in stateOf (a .p) (a .h .now) (a .b .now) (a .u .now) (a .v .now) (a .barriers .now)
 
 -- ---- the tests have passed
 
-passed : (c : tie.After-enum-told) → let s = c .before .before in Accepted ≡ answerOf (runTest (state s) (s .args .inflow .now) (s .args .steps) (length (s .args .work .now)))
-passed c = sym (c .enum-told .given .1) ∙ c .before .before .pre
+passed : (c : tie.After-enum-told) → let s = c .before .before .before in Accepted ≡ answerOf (runTest (state s) (s .args .inflow .now) (s .args .steps) (length (s .args .work .now)))
+passed c = sym (c .enum-told .given .1) ∙ c .before .before .before .pre
 
-ready : (c : tie.After-enum-told) → let s = c .before .before in StepReady (state s) (s .args .inflow .now) (s .args .work .now)
-ready c = let s = c .before .before in run-passed (state s) (s .args .inflow .now) (s .args .steps) (s .args .work .now) (passed c)
+ready : (c : tie.After-enum-told) → let s = c .before .before .before in StepReady (state s) (s .args .inflow .now) (s .args .work .now)
+ready c = let s = c .before .before .before in run-passed (state s) (s .args .inflow .now) (s .args .steps) (s .args .work .now) (passed c)
 
 abbrev accepted : tie.After-run-steps → tie.After-enum-told
 accepted c = c .before .before .before .before .before
@@ -40,7 +40,7 @@ returns c =
     let k = c .before in
     let t = ran (k .before) in
     let e = accepted t in
-    let s = e .before .before in
+    let s = e .before .before .before in
     let a = s .args in
     let r = t .run-steps .ensures in
     run-done (state s) (a .inflow .now) (a .steps) (a .work .now) (passed e) (r .0) (r .1) (r .2) (k .clear-used .ensures)
@@ -50,16 +50,16 @@ returns c =
 clear-after-requires : tie.Need-clear-after-requires
 clear-after-requires c κs =
     let r = c .before .before in
-    let s = r .before .before in
+    let s = r .before .before .before in
     run-room (state s) (s .args .inflow .now) (s .args .steps) (s .args .work .now) (sym (r .tested .given .1) ∙ s .pre)
 
 returns-2 : tie.Need-returns-2
 returns-2 c =
     let k = c .before in
     let r = k .before .before .before in
-    let s = r .before .before in
+    let s = r .before .before .before in
     let a = s .args in
-    run-refused (state s) (a .inflow .now) (a .steps) (a .work .now) (sym (r .tested .given .1) ∙ s .pre) (k .clear-after .ensures (a .h .now) (a .b .now) (a .u .now) (a .v .now))
+    run-refused (state s) (a .inflow .now) (a .steps) (a .work .now) (sym (r .tested .given .1) ∙ s .pre) (k .clear-after .ensures (a .h .now) (a .b .now) (a .u .now) (a .v .now) (a .barriers .now))
 
 pub run-tested-spec : {M : Type 1} → statement M
 run-tested-spec =

@@ -29,7 +29,7 @@ bank c a h = length-part a (c .args .p .w * c .args .p .n) (c .args .work .now) 
 
 returns : tie.Need-returns
 unfolding leaves
-returns c b =
+returns c b barriers =
     let v = c .before in
     let y = v .before in
     let u = y .before in

@@ -16,7 +16,7 @@ use Rattle.step_two_pass.proofs.two_pass.Statement.{statement}
 use Rattle.step_two_pass.proofs.two_pass.Tie as tie
 
 abbrev state : tie.Start → State
-state c = let a = c .args in stateOf (a .p) (a .h .now) (a .b .now) (a .u .now) (a .v .now)
+state c = let a = c .args in stateOf (a .p) (a .h .now) (a .b .now) (a .u .now) (a .v .now) (a .barriers .now)
 
 abbrev cells : tie.Start → ℕ
 cells c = c .args .p .w * c .args .p .n
@@ -26,17 +26,17 @@ few c = let s = c .pre .state in cells-most (s .columns) (s .rows)
 
 keep-base-requires : tie.Need-keep-base-requires
 keep-base-requires c κs =
-    let s = c .before .before .before .before .before in
+    let s = c .before .before .before .before .before .before in
     let l = s .pre .state in
     (l .depths .long, l .us .long, l .vs .long, few s, s .pre .long)
 
 -- ---- the base is in the work space
 
 abbrev begin : tie.After-keep-base → tie.Start
-begin c = c .before .before .before .before .before .before
+begin c = c .before .before .before .before .before .before .before
 
-base-is : (c : tie.After-keep-base) → let a = begin c .args in baseIn (a .p) (a .b .now) (c .keep-base .last .1 .1 .1 .1 .0) ≡ state (begin c)
-base-is c = let a = begin c .args in let e = c .keep-base .ensures in kept-base (a .p) (a .b .now) _ _ _ _ (e .0) (e .1) (e .2)
+base-is : (c : tie.After-keep-base) → let a = begin c .args in baseIn (a .p) (a .b .now) (a .barriers .now) (c .keep-base .last .1 .1 .1 .1 .0) ≡ state (begin c)
+base-is c = let a = begin c .args in let e = c .keep-base .ensures in kept-base (a .p) (a .b .now) (a .barriers .now) _ _ _ _ (e .0) (e .1) (e .2)
 
 ready : (c : tie.After-keep-base) → StepReady (state (begin c)) (begin c .args .inflow .now) (c .keep-base .last .1 .1 .1 .1 .0)
 ready c = ready-after (begin c .pre) (c .keep-base .ensures .3 .long)
@@ -54,10 +54,10 @@ first c = pass (state c) (state c) (c .args .inflow .now)
 
 -- the work space after it
 abbrev space : tie.After-pass → List ℤ
-space c = c .pass .last .1 .1 .1 .1 .1 .1 .0
+space c = c .pass .last .1 .1 .1 .1 .1 .1 .1 .0
 
-base-still : (c : tie.After-pass) → let s = begin (kept c) in baseIn (s .args .p) (s .args .b .now) (space c) ≡ state s
-base-still c = let k = kept c in let a = begin k .args in base-after (a .p) (a .b .now) (c .pass .ensures .1) (ready k .long) ∙ base-is k
+base-still : (c : tie.After-pass) → let s = begin (kept c) in baseIn (s .args .p) (s .args .b .now) (s .args .barriers .now) (space c) ≡ state s
+base-still c = let k = kept c in let a = begin k .args in base-after (a .p) (a .b .now) (a .barriers .now) (c .pass .ensures .1) (ready k .long) ∙ base-is k
 
 ready-again : (c : tie.After-pass) → let s = begin (kept c) in StepReady (state s) (s .args .inflow .now) (space c)
 ready-again c = ready-after (ready (kept c)) (c .pass .ensures .1 .long)
@@ -72,7 +72,7 @@ scanned : (c : tie.After-first-outside) → let s = begin (kept (passed c)) in c
 scanned c =
     let k = passed c in
     let s = begin (kept k) in
-    c .first-outside .ensures (s .args .b .now) ∙ ap (λ r. boundsBy (leaves r)) (k .pass .ensures .0 ∙ ap (λ x. pass x (state s) (s .args .inflow .now)) (base-is (kept k)))
+    c .first-outside .ensures (s .args .b .now) (s .args .barriers .now) ∙ ap (λ r. boundsBy (leaves r)) (k .pass .ensures .0 ∙ ap (λ x. pass x (state s) (s .args .inflow .now)) (base-is (kept k)))
 
 take-state-requires : tie.Need-take-state-requires
 take-state-requires c κs =
@@ -93,12 +93,12 @@ clean : (c : tie.After-take-state) → Kept ≡ boundsBy (leaves (first (begin (
 clean c = let e = chosen c in sym (e .enum-told .given .1) ∙ scanned (e .before .before)
 
 lent-is : (c : tie.After-take-state)
-    → let s = begin (kept (done c)) in let l = c .take-state .last .1 .1 .1 in stateOf (s .args .p) (l .0) (s .args .b .now) (l .1 .0) (l .1 .1 .0) ≡ first s
+    → let s = begin (kept (done c)) in let l = c .take-state .last .1 .1 .1 in stateOf (s .args .p) (l .0) (s .args .b .now) (l .1 .0) (l .1 .1 .0) (s .args .barriers .now) ≡ first s
 lent-is c =
     let k = done c in
     let s = begin (kept k) in
     let a = s .args in
-    taken-result (a .p) (a .b .now) _ _ _ _ (c .take-state .ensures) ∙ k .pass .ensures .0 ∙ ap (λ x. pass x (state s) (a .inflow .now)) (base-is (kept k))
+    taken-result (a .p) (a .b .now) (a .barriers .now) _ _ _ _ (c .take-state .ensures) ∙ k .pass .ensures .0 ∙ ap (λ x. pass x (state s) (a .inflow .now)) (base-is (kept k))
 
 second-pass-requires : tie.Need-second-pass-requires
 second-pass-requires c κs =
@@ -129,7 +129,7 @@ pub two-pass-spec : {M : Type 1} → statement M
 two-pass-spec =
     tie.close
     (tie.spec
-    (λ c. omega (arith, few (c .before)))
+    (λ c. omega (arith, few (c .before .before)))
     keep-base-requires
     pass-requires
     (λ c κs. let k = c .before .before in let l = begin (kept k) .pre .state in (l .columns, l .rows, ready-again k .long))

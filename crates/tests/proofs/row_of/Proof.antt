@@ -3,7 +3,7 @@ use mathlib.Core.Path.{_≡_, ap₂}
 use Prim.Native.Nat.{ℕ}
 use lib.IntN.{ℤ}
 use borrow.Author.Needs.{needs}
-use Rattle.model.specs.Numbers.{_to_, depthLimits, bottomLimits, velocityLimits, vorticityLimits, inflowLimits}
+use Rattle.model.specs.Numbers.{_to_, depthLimits, bottomLimits, velocityLimits, vorticityLimits, inflowLimits, barrierLimits}
 use Rattle.integers.specs.Ranges.{between}
 use Rattle.tests.specs.declared.FieldRow.{FieldRow}
 use Rattle.tests.proofs.row_of.Statement.{statement}
@@ -14,10 +14,12 @@ told : {r : FieldRow} {k : ℕ} {a b : ℤ} → (r .number ≡ k) × (r .limits 
 told e = (e .0, ap₂ _to_ (e .1) (e .2))
 
 pub row-of-spec : {M : Type 1} → statement M
-unfolding depthLimits bottomLimits velocityLimits vorticityLimits inflowLimits
+unfolding depthLimits bottomLimits velocityLimits vorticityLimits inflowLimits barrierLimits
 row-of-spec =
     tie.close
     (tie.spec
+    (λ c. search needs)
+    (λ c κs. search needs)
     (λ c. search needs)
     (λ c κs. search needs)
     (λ c. search needs)
@@ -35,4 +37,5 @@ row-of-spec =
     (λ c. rw (c .before .enum-told3 .given .1) (told (c .row3 .ensures)))
     (λ c. rw (c .before .enum-told4 .given .1) (told (c .row4 .ensures)))
     (λ c. rw (c .before .enum-told5 .given .1) (told (c .row5 .ensures)))
-    (λ c. rw (c .before .enum-told6 .given .1) (told (c .row6 .ensures))))
+    (λ c. rw (c .before .enum-told6 .given .1) (told (c .row6 .ensures)))
+    (λ c. rw (c .before .enum-told7 .given .1) (told (c .row7 .ensures))))

@@ -8,16 +8,16 @@ use Rattle.tests.specs.Links.{Chain, start, more, counted, passed, ownLe
 use Rattle.tests.proofs.test_outline.Statement.{statement}
 use Rattle.tests.proofs.test_outline.Tie as tie
 
-abbrev state : tie.Start → State
-state c = let a = c .args in stateOf (a .p) (a .h .now) (a .b .now) (a .u .now) (a .v .now)
+abbrev state : tie.After-shared-slice-known → State
+state c = let a = c .before .args in stateOf (a .p) (a .h .now) (a .b .now) (a .u .now) (a .v .now) (a .barriers .now)
 
 -- the chain so far
-lengths : (c : tie.After-then-lengths) → let b = c .before .before .before in Chain Accepted (c .then-lengths .result) (gridTest (b .args .p) ∷ lengthTests (fieldsOf (state b)))
+lengths : (c : tie.After-then-lengths) → let b = c .before .before .before in Chain Accepted (c .then-lengths .result) (gridTest (b .before .args .p) ∷ lengthTests (fieldsOf (state b)))
 lengths c =
     let m = c .before .before in
-    let a = m .before .args in
+    let a = m .before .before .args in
     let g = start Accepted (gridTest (a .p) ∷ []) (c .before .then-grid .ensures) in
-    counted (ownLengths (a .h .now) (a .b .now) (a .u .now) (a .v .now)) g (λ h. m .cells-of .ensures .0 (passed g h .0)) (c .then-lengths .ensures)
+    counted (ownLengths (a .h .now) (a .b .now) (a .u .now) (a .v .now) (a .barriers .now)) g (λ h. m .cells-of .ensures .0 (passed g h .0)) (c .then-lengths .ensures)
 
 pub test-outline-spec : {M : Type 1} → statement M
 test-outline-spec =
@@ -27,4 +27,4 @@ test-outline-spec =
     (λ c κs. search needs)
     (λ c κs. search needs)
     (λ c κs. search needs)
-    (λ c. more (constantsTest (c .before .before .before .before .args .p) ∷ []) (lengths (c .before)) (c .then-constants .ensures) .is))
+    (λ c. more (constantsTest (c .before .before .before .before .before .args .p) ∷ []) (lengths (c .before)) (c .then-constants .ensures) .is))

@@ -9,8 +9,8 @@ use Rattle.tests.specs.Links.{Chain, start, more, outlineTests, fields-l
 use Rattle.tests.proofs.test_state.Statement.{statement}
 use Rattle.tests.proofs.test_state.Tie as tie
 
-abbrev state : tie.Start → State
-state c = let a = c .args in stateOf (a .p) (a .h .now) (a .b .now) (a .u .now) (a .v .now)
+abbrev state : tie.After-shared-slice-known → State
+state c = let a = c .before .args in stateOf (a .p) (a .h .now) (a .b .now) (a .u .now) (a .v .now) (a .barriers .now)
 
 -- the chain so far
 outline : (c : tie.After-test-outline) → Chain Accepted (c .test-outline .result) (outlineTests (state (c .before)))
@@ -25,5 +25,5 @@ test-state-spec =
     (tie.spec
     (λ c κs. search needs)
     (λ c κs h. fields-long-after (state (c .before)) (outline c) h)
-    (λ c κs h. let l = fields-long-after (state (c .before .before)) (values c) h in (l .u, l .v))
+    (λ c κs h. let l = fields-long-after (state (c .before .before)) (values c) h in (l .u, l .v, l .barriers))
     (λ c. let s = state (c .before .before .before) in more (edgeTests s) (values (c .before)) (c .then-edges .ensures (s .h) (s .b)) .is))

@@ -27,7 +27,7 @@ then-within-spec =
     (tie.spec
     (λ c. search needs)
     (λ c. search needs)
-    (λ c. search needs)
+    (λ c. rw (c .enum-told2 .given .1))
     (λ c κs. search needs)
     (λ c κs. search needs)
     returns-2)

@@ -1,2 +1,0 @@
--- the room of the four destinations
-pub mod ReadRooms
