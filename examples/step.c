@@ -13,12 +13,16 @@
 
 #include "basin.h"
 
-/* A state of up to two cells, the inflow of each, and work space. */
+/*
+ * A state of up to two cells, the inflow of each, and work space. What is not
+ * given below is 0: no barriers, no inflow.
+ */
 struct state {
     size_t w, n;
     uint8_t kind;
     int64_t g, c, r;
     int64_t h[2], b[2], u[2], v[2];
+    uint8_t barriers[2];
     int64_t inflow[2];
     int64_t work[16];
 };
@@ -51,7 +55,7 @@ static void print_total_depth(const char *name, const struct state *s)
     uint64_t answer[8];
     if (basin_total_depth(s->w, s->n, s->kind, s->g, s->c, s->r,
                           s->h, cells, s->b, cells, s->u, cells, s->v, cells,
-                          &total, answer) == 0)
+                          s->barriers, cells, &total, answer) == 0)
         printf("%s: total depth %" PRId64 "\n", name, total);
 }
 
@@ -62,8 +66,8 @@ static void print_step(const char *name, struct state *s, size_t work_len)
     uint64_t number = basin_step(s->w, s->n, s->kind, s->g, s->c, s->r,
                                  s->h, cells, s->b, cells,
                                  s->u, cells, s->v, cells,
-                                 s->inflow, cells, s->work, work_len,
-                                 answer);
+                                 s->barriers, cells, s->inflow, cells,
+                                 s->work, work_len, answer);
     if (number == 0) {
         print_state(name, s);
         return;
@@ -80,8 +84,8 @@ static void print_run(const char *name, struct state *s, uint64_t steps)
     uint64_t number = basin_run(s->w, s->n, s->kind, s->g, s->c, s->r,
                                 s->h, cells, s->b, cells,
                                 s->u, cells, s->v, cells,
-                                s->inflow, cells, steps, s->work, 8 * cells,
-                                answer);
+                                s->barriers, cells, s->inflow, cells, steps,
+                                s->work, 8 * cells, answer);
     printf("%s:", name);
     size_t done = number == 0 ? 1 : print_refusal(answer);
     /* The steps done are told last, but not with 1 to 5. */
@@ -106,6 +110,16 @@ int main(void)
     print_step("example 3", &example_3, 8);
     struct state example_5 = example_4;
     print_step("example 5", &example_5, 16);
+
+    /* A barrier closes the west edge of the second cell, where u stays 0. */
+    struct state jetty = example_4;
+    jetty.barriers[1] = 1;
+    print_step("jetty", &jetty, 16);
+    print_total_depth("jetty", &jetty);
+    jetty.u[1] = 5;
+    print_step("jetty, a current through it", &jetty, 16);
+    jetty.barriers[1] = 4;
+    print_step("jetty, a byte above 3", &jetty, 16);
 
     struct state example_9 = example_2;
     print_step("example 9, work space of 7", &example_9, 7);

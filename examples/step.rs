@@ -26,7 +26,8 @@ const TWO_CELLS: Parameters = Parameters {
     ..ONE_CELL
 };
 
-/// A state over a level bottom, what comes in with each step, and work space.
+/// A state over a level bottom, without barriers at first, what comes in with each
+/// step, and work space.
 #[derive(Clone)]
 struct Dock {
     p: Parameters,
@@ -34,6 +35,7 @@ struct Dock {
     b: Vec<i64>,
     u: Vec<i64>,
     v: Vec<i64>,
+    barriers: Vec<u8>,
     inflow: Vec<i64>,
     work: Vec<i64>,
 }
@@ -46,6 +48,7 @@ impl Dock {
             b: vec![0; h.len()],
             u: u.to_vec(),
             v: v.to_vec(),
+            barriers: vec![0; h.len()],
             inflow: vec![0; h.len()],
             work: vec![0; p.work_len()],
         }
@@ -53,8 +56,8 @@ impl Dock {
 
     fn step(&mut self, name: &str) {
         let (h, u, v) = (&mut self.h, &mut self.u, &mut self.v);
-        let (p, b, inflow, work) = (&self.p, &self.b, &self.inflow, &mut self.work);
-        match step(p, h, b, u, v, inflow, work) {
+        let (p, b, barriers) = (&self.p, &self.b, &self.barriers);
+        match step(p, h, b, u, v, barriers, &self.inflow, &mut self.work) {
             Ok(()) => self.print(name),
             Err(refusal) => println!("{name}: {}", told(refusal)),
         }
@@ -62,8 +65,9 @@ impl Dock {
 
     fn run(&mut self, name: &str, steps: u64) {
         let (h, u, v) = (&mut self.h, &mut self.u, &mut self.v);
-        let (p, b, inflow, work) = (&self.p, &self.b, &self.inflow, &mut self.work);
-        match run(p, h, b, u, v, inflow, steps, work) {
+        let (p, b, barriers) = (&self.p, &self.b, &self.barriers);
+        let (inflow, work) = (&self.inflow, &mut self.work);
+        match run(p, h, b, u, v, barriers, inflow, steps, work) {
             Ok(ran) => match ran.stopped {
                 None => println!("{name}: done {}", ran.steps),
                 Some(refusal) => println!("{name}: {} done {}", told(refusal), ran.steps),
@@ -73,7 +77,8 @@ impl Dock {
     }
 
     fn total_depth(&self, name: &str) -> Result<(), Refusal> {
-        let total = total_depth(&self.p, &self.h, &self.b, &self.u, &self.v)?;
+        let (h, b, u, v) = (&self.h, &self.b, &self.u, &self.v);
+        let total = total_depth(&self.p, h, b, u, v, &self.barriers)?;
         println!("{name}: total depth {total}");
         Ok(())
     }
@@ -92,6 +97,10 @@ fn told(refusal: Refusal) -> String {
         Refusal::OutOfBounds { pass, field, cell } => {
             format!("refused 6 pass {pass} field {} cell {cell}", field.number())
         }
+        Refusal::Value { field, cell } | Refusal::ClosedEdge { field, cell } => {
+            let (number, field) = (refusal.number(), field.number());
+            format!("refused {number} field {field} cell {cell}")
+        }
         // The others that are met here tell their number alone.
         _ => format!("refused {}", refusal.number()),
     }
@@ -104,6 +113,16 @@ fn main() -> Result<(), Refusal> {
     // Examples 3 and 5 are examples 2 and 4 stepped.
     example_2.clone().step("example 3");
     example_4.clone().step("example 5");
+
+    // A barrier closes the west edge of the second cell, where u stays 0.
+    let mut jetty = example_4.clone();
+    jetty.barriers[1] = 1;
+    jetty.step("jetty");
+    jetty.total_depth("jetty")?;
+    jetty.u[1] = 5;
+    jetty.step("jetty, a current through it");
+    jetty.barriers[1] = 4;
+    jetty.step("jetty, a byte above 3");
 
     let mut example_9 = example_2;
     example_9.work = vec![0; 7];

@@ -1,8 +1,8 @@
 /*
  * Works out the potential vorticity and the tendencies of four states of
- * document 01 with the proved core, and prints them cell by cell, or the
- * number of the refusal and with 4 and 5 the field and the cell. From the
- * repository, after `rt staticlib basin`:
+ * document 01, and of one with a barrier, with the proved core. It prints them
+ * cell by cell, or the number of the refusal and with 4 and 5 the field and the
+ * cell. From the repository, after `rt staticlib basin`:
  *
  *   gcc -std=c99 -Wall -Wextra -Werror -Iinclude examples/tendencies.c \
  *       target/staticlib/libbasin.a -o target/tendencies
@@ -13,12 +13,13 @@
 
 #include "basin.h"
 
-/* A state of up to two cells. */
+/* A state of up to two cells, without barriers where none are given. */
 struct state {
     size_t w, n;
     uint8_t kind;
     int64_t g, c, r;
     int64_t h[2], b[2], u[2], v[2];
+    uint8_t barriers[2];
 };
 
 static void print_tendencies(const char *name, const struct state *s)
@@ -30,11 +31,13 @@ static void print_tendencies(const char *name, const struct state *s)
                                                 s->g, s->c, s->r,
                                                 s->h, cells, s->b, cells,
                                                 s->u, cells, s->v, cells,
+                                                s->barriers, cells,
                                                 q, 2, answer);
     if (number == 0)
         number = basin_tendencies(s->w, s->n, s->kind, s->g, s->c, s->r,
                                   s->h, cells, s->b, cells,
-                                  s->u, cells, s->v, cells, q, cells,
+                                  s->u, cells, s->v, cells,
+                                  s->barriers, cells, q, cells,
                                   dh, 2, du, 2, dv, 2, answer);
     if (number != 0) {
         printf("%s: refused %" PRIu64, name, number);
@@ -64,10 +67,14 @@ int main(void)
     /* Example 7 is example 2, a millimetre too shallow. */
     struct state example_7 = example_2;
     example_7.h[0] = 999;
+    /* Example 4 with a barrier, which closes the edge of u[1]. */
+    struct state jetty = example_4;
+    jetty.barriers[1] = 1;
 
     print_tendencies("example 2", &example_2);
     print_tendencies("example 4", &example_4);
     print_tendencies("example 6", &example_6);
     print_tendencies("example 7", &example_7);
+    print_tendencies("jetty", &jetty);
     return 0;
 }

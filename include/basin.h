@@ -1,8 +1,9 @@
 /*
- * The proved basin core (document 01, and request U1 of document 02), for C and
- * C++ on x86-64. Link target/staticlib/libbasin.a, which `rt staticlib basin`
- * writes: the step of a state and runs of it, totals, potential vorticity and
- * tendencies, the record of a state (writer, reader, comparison), and rounding.
+ * The proved basin core (document 01, and requests U1 and U2 of document 02),
+ * for C and C++ on x86-64. Link target/staticlib/libbasin.a, which `rt
+ * staticlib basin` writes: the step of a state and runs of it, totals,
+ * potential vorticity and tendencies, the record of a state (writer, reader,
+ * comparison), and rounding.
  *
  * Every function takes any numbers and any lengths, and always returns. A
  * field or a record is lent as a pointer and the number of its elements. A
@@ -15,12 +16,19 @@
  * - what a function writes (every pointer that is not to const) overlaps
  *   nothing else lent to it. What is only read may overlap.
  *
- * A state is w columns by n rows, the kind of its boundary, the constants g,
- * c and r, and the fields h, b, u and v, which have a number for each cell.
- * kind is a byte, as in a record: a larger number is cut to its lowest byte by
- * the caller's own compiler, before the call, so that 256 is taken as kind 0.
- * Column i of row j is cell j*w + i. The edges u(0,j) are closed for kind 2,
- * the edges v(i,0) for kinds 1 and 2; kind 0 closes none.
+ * A state is w columns by n rows, the kind of its boundary, the constants g, c
+ * and r, the fields h, b, u and v, which have a number for each cell, and the
+ * barriers, which have a byte for each. kind is a byte, as in a record: a
+ * larger number is cut to its lowest byte by the caller's own compiler, before
+ * the call, so that 256 is taken as kind 0. Column i of row j is cell j*w + i.
+ * The edges u(0,j) are closed for kind 2, the edges v(i,0) for kinds 1 and 2;
+ * kind 0 closes none.
+ *
+ * Barriers (02: piers). They close edges inside the grid. A cell's byte is 0
+ * for none, 1 for its west edge, the one of u, 2 for its south edge, the one of
+ * v, or 3 for both. An edge that a barrier closes is as one that the boundary
+ * closes: the velocity there must be 0 and stays 0. It may be closed by both.
+ * Without barriers, lend w*n zeros.
  *
  * Answers. A call on a state or a record returns the number of its refusal, 0
  * for none. Every call sets all eight numbers of answer: answer[0] is the number
@@ -39,14 +47,15 @@
  * moments the later one has the greater second, or in one second the greater
  * millisecond.
  *
- * Record. A row of eight fields, each a tag of one byte, the length of its
- * value in two, and the value; numbers are big-endian, negative ones in two's
+ * Record. A row of nine fields, each a tag of one byte, the length of its value
+ * in two, and the value; numbers are big-endian, negative ones in two's
  * complement. Tag 1 holds w, n and kind, a byte each; 2 holds g, c and r, four
  * bytes each; 3 the seconds of the timestamp, eight bytes without a sign; 4 and
  * 5 hold h and b, four bytes a cell; 6 and 7 hold u and v, two bytes a cell; 8
- * the milliseconds, two bytes without a sign. Each tag occurs once. That is
- * 49 + 12*w*n bytes. A record that is read may lack tag 8: its milliseconds are
- * 0 then.
+ * the milliseconds, two bytes without a sign; 9 the barriers, a byte a cell.
+ * Each tag occurs once. That is 52 + 13*w*n bytes. A record that is read may
+ * lack tag 8: its milliseconds are 0 then. It may lack tag 9: its barriers are
+ * all 0 then. (A tag 9 with no bytes is there, and has too few.)
  *
  * Refusals. The causes are tested in this order and the first is told; but 9 is
  * tested straight after 3, and a record that is read is tested in the order 7,
@@ -56,13 +65,13 @@
  *   0       none                                              (see the calls)
  *   1       w or n not 1 to 64; kind not 0, 1 or 2;
  *           steps above 10,000
- *   2       a field to be read or stepped does not have
- *           w*n numbers (in a record, the bytes of these);
- *           work_len below 8*w*n
+ *   2       a field to be read or stepped, or the barriers,
+ *           does not have w*n numbers (in a record, the
+ *           bytes of these); work_len below 8*w*n
  *   3       g not 1 to 10,000; c not -10,000 to 10,000;
  *           r not 1,000 to 1,000,000
- *   4       a number outside its bounds, by field, lowest     field, cell
- *           cell first
+ *   4       a number outside its bounds, by field: h, b, u,   field, cell
+ *           v, barriers, then q or inflow; lowest cell first
  *   5       a velocity other than 0 on a closed edge, u       field, cell
  *           before v, lowest cell first
  *   6       a pass of the step, 1 or 2, leaves the bounds     pass, field, cell
@@ -72,16 +81,17 @@
  *           value past the end, tag 1, 2, 3 or 8 of a wrong   the record where
  *           length; then a tag of 1 to 7 that is missing      one is missing
  *   8       a field to be filled has fewer than w*n places;
- *           record_len below 49 + 12*w*n, to be written
+ *           record_len below 52 + 13*w*n, to be written
  *   9       milliseconds above 999 (write, read, compare)
  *
  *   field   bounds
- *   0       h       depth, 1,000 to 100,000 mm
- *   1       b       bottom height, 0 to 100,000 mm
- *   2       u       velocity at west edges, -5,000 to 5,000 mm/s
- *   3       v       velocity at south edges, -5,000 to 5,000 mm/s
- *   4       q       potential vorticity, -2,000,000 to 2,000,000
- *   5       inflow  -1,000 to 1,000 mm a step
+ *   0       h         depth, 1,000 to 100,000 mm
+ *   1       b         bottom height, 0 to 100,000 mm
+ *   2       u         velocity at west edges, -5,000 to 5,000 mm/s
+ *   3       v         velocity at south edges, -5,000 to 5,000 mm/s
+ *   4       q         potential vorticity, -2,000,000 to 2,000,000
+ *   5       inflow    -1,000 to 1,000 mm a step
+ *   6       barriers  0 to 3
  */
 #ifndef BASIN_H
 #define BASIN_H
@@ -98,7 +108,7 @@ extern "C" {
  * basin_version() returns that of the library. A caller that finds two numbers
  * has a header and a library that do not belong together.
  */
-#define BASIN_VERSION 400
+#define BASIN_VERSION 500
 uint64_t basin_version(void);
 
 /*
@@ -111,8 +121,9 @@ uint64_t basin_rnd(int64_t a, int64_t b, int64_t *rounded);
 
 /*
  * Potential vorticity, times spacing times 65,536, at the southwest corners of
- * the cells. Tests 1 to 5, then 8 of q. Where none refuses, the first w*n
- * numbers of q are the result and the rest of q is untouched.
+ * the cells. Barriers do not change it. Tests 1 to 5, then 8 of q. Where none
+ * refuses, the first w*n numbers of q are the result and the rest of q is
+ * untouched.
  */
 uint64_t basin_potential_vorticity(size_t w, size_t n, uint8_t kind,
                                    int64_t g, int64_t c, int64_t r,
@@ -120,6 +131,7 @@ uint64_t basin_potential_vorticity(size_t w, size_t n, uint8_t kind,
                                    const int64_t *b, size_t b_len,
                                    const int64_t *u, size_t u_len,
                                    const int64_t *v, size_t v_len,
+                                   const uint8_t *barriers, size_t barriers_len,
                                    int64_t *q, size_t q_len,
                                    uint64_t answer[8]);
 
@@ -137,6 +149,7 @@ uint64_t basin_tendencies(size_t w, size_t n, uint8_t kind,
                           const int64_t *b, size_t b_len,
                           const int64_t *u, size_t u_len,
                           const int64_t *v, size_t v_len,
+                          const uint8_t *barriers, size_t barriers_len,
                           const int64_t *q, size_t q_len,
                           int64_t *dh, size_t dh_len,
                           int64_t *du, size_t du_len,
@@ -153,6 +166,7 @@ uint64_t basin_step(size_t w, size_t n, uint8_t kind,
                     const int64_t *b, size_t b_len,
                     int64_t *u, size_t u_len,
                     int64_t *v, size_t v_len,
+                    const uint8_t *barriers, size_t barriers_len,
                     const int64_t *inflow, size_t inflow_len,
                     int64_t *work, size_t work_len,
                     uint64_t answer[8]);
@@ -170,6 +184,7 @@ uint64_t basin_run(size_t w, size_t n, uint8_t kind,
                    const int64_t *b, size_t b_len,
                    int64_t *u, size_t u_len,
                    int64_t *v, size_t v_len,
+                   const uint8_t *barriers, size_t barriers_len,
                    const int64_t *inflow, size_t inflow_len,
                    uint64_t steps,
                    int64_t *work, size_t work_len,
@@ -186,6 +201,7 @@ uint64_t basin_total_depth(size_t w, size_t n, uint8_t kind,
                            const int64_t *b, size_t b_len,
                            const int64_t *u, size_t u_len,
                            const int64_t *v, size_t v_len,
+                           const uint8_t *barriers, size_t barriers_len,
                            int64_t *total,
                            uint64_t answer[8]);
 
@@ -196,12 +212,13 @@ uint64_t basin_total_energy(size_t w, size_t n, uint8_t kind,
                             const int64_t *b, size_t b_len,
                             const int64_t *u, size_t u_len,
                             const int64_t *v, size_t v_len,
+                            const uint8_t *barriers, size_t barriers_len,
                             int64_t *total,
                             uint64_t answer[8]);
 
 /*
  * Writes the record of a state, its tags rising. Tests 1, 2, 3, 9, 4, 5, then 8
- * of record. Where none refuses, the first 49 + 12*w*n bytes of record are the
+ * of record. Where none refuses, the first 52 + 13*w*n bytes of record are the
  * result and the rest of record is untouched; the answer is 0, number of
  * bytes.
  */
@@ -211,25 +228,27 @@ uint64_t basin_write(size_t w, size_t n, uint8_t kind,
                      const int64_t *b, size_t b_len,
                      const int64_t *u, size_t u_len,
                      const int64_t *v, size_t v_len,
+                     const uint8_t *barriers, size_t barriers_len,
                      uint64_t seconds, uint64_t milliseconds,
                      uint8_t *record, size_t record_len,
                      uint64_t answer[8]);
 
 /*
- * Reads a record, its tags in any order. Tests 7, 1, 2, then 8 of h, b, u and
- * v, then 3, 9, 4, 5. Where none refuses, the first w*n numbers of each of the
- * four are the state's and the rest of each is untouched; constants are g, c
- * and r; the answer is 0, w, n, kind, seconds, milliseconds. A refused call
- * leaves constants untouched.
+ * Reads a record, its tags in any order. Tests 7, 1, 2, then 8 of h, b, u, v
+ * and barriers, then 3, 9, 4, 5. Where none refuses, the first w*n numbers of
+ * each of the five are the state's, barriers of 0 where the record has none,
+ * and the rest of each is untouched; constants are g, c and r; the answer is 0,
+ * w, n, kind, seconds, milliseconds. A refused call leaves constants untouched.
  *
  * A record that was read and is written again has its fields by rising tag, and
- * tag 8 of zeros where it had none.
+ * tags 8 and 9 of zeros where it had none.
  */
 uint64_t basin_read(const uint8_t *record, size_t record_len,
                     int64_t *h, size_t h_len,
                     int64_t *b, size_t b_len,
                     int64_t *u, size_t u_len,
                     int64_t *v, size_t v_len,
+                    uint8_t *barriers, size_t barriers_len,
                     int64_t constants[3],
                     uint64_t answer[8]);
 
@@ -238,8 +257,8 @@ uint64_t basin_read(const uint8_t *record, size_t record_len,
  * first wholly, then the second. Where none is refused, the answer is 0 and one
  * of these:
  *
- *   0  same: the same w, n, kind, constants and fields, and timestamp, to the
- *      millisecond
+ *   0  same: the same w, n, kind, constants, fields, barriers and timestamp, to
+ *      the millisecond
  *   1  the first is newer: it has the later timestamp
  *   2  the second is newer
  *   3  conflict: the timestamp is the same, and something else differs

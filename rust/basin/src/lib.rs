@@ -1,5 +1,5 @@
-//! The proved basin core (document 01, and request U1 of document 02), called
-//! from safe Rust.
+//! The proved basin core (document 01, and requests U1 and U2 of document 02),
+//! called from safe Rust.
 //!
 //! The library behind these calls is `libbasin.a`, which `rt staticlib basin`
 //! writes once every function is proved to meet its contract; the calls here
@@ -11,6 +11,11 @@
 //! tendencies ([`potential_vorticity`], [`tendencies`]), the record of a state
 //! ([`write()`], [`read`], [`compare`]) and the rounding of the scheme ([`rnd`]).
 //!
+//! Barriers (02: piers) close edges inside the grid. Every call on a state is lent
+//! them straight after v, a byte for each cell: 1 closes its west edge, 2 its south
+//! edge, 3 both, 0 none. A closed edge is then as at the boundary: its velocity must
+//! be 0, and stays 0.
+//!
 //! The archive is looked for in the repository's `target/staticlib`, or in
 //! the folder that the environment variable `BASIN_LIB_DIR` names when this
 //! package is built.
@@ -20,79 +25,94 @@
 //! use basin::{total_energy, write, Comparison, Field, Parameters, Ran, Read, Refusal, Refused};
 //! use basin::Timestamp;
 //!
-//! // One cell, 2,000 mm deep, that wraps both ways.
+//! // One cell, 2,000 mm deep, that wraps both ways, without barriers.
 //! let p = Parameters { w: 1, n: 1, kind: 0, g: 9810, c: 10, r: 1000 };
 //! let (mut h, b, mut u, mut v) = ([2000], [0], [100], [-50]);
-//! assert_eq!(total_depth(&p, &h, &b, &u, &v), Ok(2000));
-//! assert_eq!(total_energy(&p, &h, &b, &u, &v), Ok(78_530_000_000));
+//! let open = [0];
+//! assert_eq!(total_depth(&p, &h, &b, &u, &v, &open), Ok(2000));
+//! assert_eq!(total_energy(&p, &h, &b, &u, &v, &open), Ok(78_530_000_000));
 //!
 //! let mut q = [0];
-//! assert_eq!(potential_vorticity(&p, &h, &b, &u, &v, &mut q), Ok(()));
+//! assert_eq!(potential_vorticity(&p, &h, &b, &u, &v, &open, &mut q), Ok(()));
 //! assert_eq!(q, [328]);
 //!
 //! let (mut dh, mut du, mut dv) = ([0], [0], [0]);
-//! let done = tendencies(&p, &h, &b, &u, &v, &q, &mut dh, &mut du, &mut dv);
+//! let done = tendencies(&p, &h, &b, &u, &v, &open, &q, &mut dh, &mut du, &mut dv);
 //! assert_eq!(done, Ok(()));
 //! assert_eq!((dh, du, dv), ([0], [-1_574_400_000], [-3_148_800_000]));
 //!
 //! // Too shallow by a millimetre.
-//! let refusal = total_depth(&p, &[999], &b, &u, &v).unwrap_err();
+//! let refusal = total_depth(&p, &[999], &b, &u, &v, &open).unwrap_err();
 //! assert_eq!(refusal, Refusal::Value { field: Field::Depth, cell: 0 });
 //! assert_eq!(refusal.number(), 4);
 //! assert_eq!(refusal.to_string(), "refusal 4: depth h outside its bounds, cell 0");
+//!
+//! // A barrier of 1 closes the west edge, which u goes through, and one of 2 the
+//! // south edge, which v goes through. More than 3 is none.
+//! let refusal = |barrier| total_depth(&p, &h, &b, &u, &v, &[barrier]).unwrap_err();
+//! assert_eq!(refusal(1), Refusal::ClosedEdge { field: Field::VelocityU, cell: 0 });
+//! assert_eq!(refusal(2), Refusal::ClosedEdge { field: Field::VelocityV, cell: 0 });
+//! assert_eq!(refusal(4), Refusal::Value { field: Field::Barriers, cell: 0 });
+//! assert_eq!(refusal(4).to_string(), "refusal 4: barrier outside its bounds, cell 0");
+//! assert_eq!(total_depth(&p, &h, &b, &[0], &v, &[1]), Ok(2000));
 //!
 //! // The record of this state, as of a minute past 2000-01-01 00:00, and one a
 //! // quarter of a second later.
 //! let time = Timestamp { seconds: 60, milliseconds: 0 };
 //! let mut record = vec![0; p.record_len()];
-//! assert_eq!(write(&p, &h, &b, &u, &v, time, &mut record), Ok(61));
+//! assert_eq!(write(&p, &h, &b, &u, &v, &open, time, &mut record), Ok(65));
 //! let later_time = Timestamp { milliseconds: 250, ..time };
 //! let mut later = record.clone();
-//! assert_eq!(write(&p, &h, &b, &u, &v, later_time, &mut later), Ok(61));
+//! assert_eq!(write(&p, &h, &b, &u, &v, &open, later_time, &mut later), Ok(65));
 //! assert_eq!(compare(&record, &record), Ok(Comparison::Same));
 //! assert_eq!(compare(&record, &later), Ok(Comparison::SecondNewer));
 //!
 //! // A second has no more than 999 whole milliseconds.
 //! let no_time = Timestamp { milliseconds: 1000, ..time };
-//! let refused = write(&p, &h, &b, &u, &v, no_time, &mut later);
+//! let refused = write(&p, &h, &b, &u, &v, &open, no_time, &mut later);
 //! assert_eq!(refused, Err(Refusal::Milliseconds));
 //!
 //! // Read into fields with room for two cells, of which the first is filled.
 //! let [mut h2, mut b2, mut u2, mut v2] = [[7; 2]; 4];
-//! let done = read(&later, &mut h2, &mut b2, &mut u2, &mut v2);
+//! let mut barriers = [7; 2];
+//! let done = read(&later, &mut h2, &mut b2, &mut u2, &mut v2, &mut barriers);
 //! assert_eq!(done, Ok(Read { parameters: p, timestamp: later_time }));
 //! assert_eq!((h2, b2, u2, v2), ([2000, 7], [0, 7], [100, 7], [-50, 7]));
+//! assert_eq!(barriers, [0, 7]);
 //!
-//! // The last field begins at byte 56. Its value is cut off.
-//! let damaged = Refusal::Record { offset: 56 };
-//! assert_eq!(read(&later[..60], &mut h2, &mut b2, &mut u2, &mut v2), Err(damaged));
-//! let refused = compare(&record, &later[..60]).unwrap_err();
+//! // The last field but one, the milliseconds, begins at byte 56, and the last
+//! // one, the barriers, at byte 61. Its value is cut off.
+//! let damaged = Refusal::Record { offset: 61 };
+//! let refused = read(&later[..64], &mut h2, &mut b2, &mut u2, &mut v2, &mut barriers);
+//! assert_eq!(refused, Err(damaged));
+//! let refused = compare(&record, &later[..64]).unwrap_err();
 //! assert_eq!(refused, Refused { record: 2, refusal: damaged });
-//! assert_eq!(refused.to_string(), "record 2: refusal 7: a damaged record, at byte 56");
+//! assert_eq!(refused.to_string(), "record 2: refusal 7: a damaged record, at byte 61");
 //!
-//! // A record may lack that field: its milliseconds are 0 then.
+//! // A record may lack these two: barriers and milliseconds are 0 then.
+//! assert_eq!(compare(&later, &later[..61]), Ok(Comparison::Same));
 //! assert_eq!(compare(&record, &later[..56]), Ok(Comparison::Same));
 //!
 //! // A step needs 8 numbers of work space per cell, which it leaves 0.
 //! let mut work = vec![7; p.work_len()];
-//! let done = step(&p, &mut h, &b, &mut u, &mut v, &[0], &mut work);
+//! let done = step(&p, &mut h, &b, &mut u, &mut v, &open, &[0], &mut work);
 //! assert_eq!(done, Ok(()));
 //! assert_eq!((h, u, v), ([2000], [99], [-51]));
 //! assert_eq!(work, [0; 8]);
-//! let short = step(&p, &mut h, &b, &mut u, &mut v, &[0], &mut work[1..]);
+//! let short = step(&p, &mut h, &b, &mut u, &mut v, &open, &[0], &mut work[1..]);
 //! assert_eq!(short, Err(Refusal::Lengths));
 //!
 //! // 10 mm come in with each step.
-//! let mut run = |steps| run(&p, &mut h, &b, &mut u, &mut v, &[10], steps, &mut work);
+//! let mut run = |steps| run(&p, &mut h, &b, &mut u, &mut v, &open, &[10], steps, &mut work);
 //! assert_eq!(run(0), Ok(Ran { steps: 0, stopped: None }));
 //! assert_eq!(run(100), Ok(Ran { steps: 100, stopped: None }));
 //! assert_eq!(run(10_001), Err(Refusal::Grid));
-//! assert_eq!(total_depth(&p, &h, &b, &u, &v), Ok(3000));
+//! assert_eq!(total_depth(&p, &h, &b, &u, &v, &open), Ok(3000));
 //!
 //! // As deep as it may be, it can take no more: the run stops where it is.
 //! let mut h = [100_000];
 //! let full = Refusal::OutOfBounds { pass: 1, field: Field::Depth, cell: 0 };
-//! let stopped = basin::run(&p, &mut h, &b, &mut u, &mut v, &[10], 100, &mut work);
+//! let stopped = basin::run(&p, &mut h, &b, &mut u, &mut v, &open, &[10], 100, &mut work);
 //! assert_eq!(stopped, Ok(Ran { steps: 0, stopped: Some(full) }));
 //! assert_eq!(
 //!     full.to_string(),
@@ -139,11 +159,11 @@ impl Parameters {
     }
 
     /// How many bytes the record that [`write()`] makes of such a state has:
-    /// 49 + 12·w·n. Where that is more than a `usize` holds, the grid is one that
+    /// 52 + 13·w·n. Where that is more than a `usize` holds, the grid is one that
     /// every call refuses.
     pub fn record_len(&self) -> usize {
-        let fields = self.w.saturating_mul(self.n).saturating_mul(12);
-        fields.saturating_add(49)
+        let fields = self.w.saturating_mul(self.n).saturating_mul(13);
+        fields.saturating_add(52)
     }
 }
 
@@ -169,7 +189,7 @@ pub struct Ran {
     pub stopped: Option<Refusal>,
 }
 
-/// What a record holds beside the four fields.
+/// What a record holds beside the fields and the barriers.
 #[derive(Clone, Copy, Debug, PartialEq, Eq, Hash)]
 pub struct Read {
     /// The scalars of the state.
@@ -179,7 +199,7 @@ pub struct Read {
 }
 
 /// What two records are to each other. Two states are the same where their
-/// parameters and fields are.
+/// parameters, fields and barriers are.
 #[derive(Clone, Copy, Debug, PartialEq, Eq, Hash)]
 pub enum Comparison {
     /// The same state under the same timestamp, to the millisecond.
@@ -209,7 +229,7 @@ impl Comparison {
 /// place, and after a refusal they are left as they were.
 ///
 /// The tests go by number: 1 to 5 of the state and the inflow, whose numbers
-/// come after those of v in 4, with a work space shorter than
+/// come after the barriers in 4, with a work space shorter than
 /// [`Parameters::work_len`] under 2; then 6, a pass that leaves a bound. After
 /// 1 and 2 the work space is left as it was. Otherwise, refused or not, its
 /// first `work_len` numbers are 0 after the call, and the rest are left.
@@ -219,10 +239,11 @@ pub fn step(
     b: &[i64],
     u: &mut [i64],
     v: &mut [i64],
+    barriers: &[u8],
     inflow: &[i64],
     work: &mut [i64],
 ) -> Result<(), Refusal> {
-    answered(|answer| raw::step(p, h, b, u, v, inflow, work, answer))
+    answered(|answer| raw::step(p, h, b, u, v, barriers, inflow, work, answer))
 }
 
 /// Takes up to `steps` steps with the same inflow, and stops before one that
@@ -237,11 +258,12 @@ pub fn run(
     b: &[i64],
     u: &mut [i64],
     v: &mut [i64],
+    barriers: &[u8],
     inflow: &[i64],
     steps: u64,
     work: &mut [i64],
 ) -> Result<Ran, Refusal> {
-    let answer = told(|answer| raw::run(p, h, b, u, v, inflow, steps, work, answer));
+    let answer = told(|answer| raw::run(p, h, b, u, v, barriers, inflow, steps, work, answer));
     match accepted(&answer) {
         Ok(()) => Ok(Ran {
             steps: answer[1],
@@ -264,9 +286,10 @@ pub fn total_depth(
     b: &[i64],
     u: &[i64],
     v: &[i64],
+    barriers: &[u8],
 ) -> Result<i64, Refusal> {
     let mut total = 0;
-    answered(|answer| raw::total_depth(p, h, b, u, v, &mut total, answer))?;
+    answered(|answer| raw::total_depth(p, h, b, u, v, barriers, &mut total, answer))?;
     Ok(total)
 }
 
@@ -277,16 +300,17 @@ pub fn total_energy(
     b: &[i64],
     u: &[i64],
     v: &[i64],
+    barriers: &[u8],
 ) -> Result<i64, Refusal> {
     let mut total = 0;
-    answered(|answer| raw::total_energy(p, h, b, u, v, &mut total, answer))?;
+    answered(|answer| raw::total_energy(p, h, b, u, v, barriers, &mut total, answer))?;
     Ok(total)
 }
 
 /// Fills the first w·n places of `q` with the potential vorticity of a state,
 /// times spacing times 65,536: each cell's place has that of its southwest
 /// corner. The places past them are left as they were, and after a refusal all
-/// places are.
+/// places are. Barriers are tested, but do not change it.
 ///
 /// The tests go by number: 1 to 5 of the state, then 8, `q` shorter than w·n.
 pub fn potential_vorticity(
@@ -295,31 +319,34 @@ pub fn potential_vorticity(
     b: &[i64],
     u: &[i64],
     v: &[i64],
+    barriers: &[u8],
     q: &mut [i64],
 ) -> Result<(), Refusal> {
-    answered(|answer| raw::potential_vorticity(p, h, b, u, v, q, answer))
+    answered(|answer| raw::potential_vorticity(p, h, b, u, v, barriers, q, answer))
 }
 
 /// Fills the first w·n places of `dh`, `du` and `dv` with the tendencies of a
 /// state and a potential vorticity `q`, which may be any within its bounds:
 /// 01's -D, the rate of h times 2 spacings, and Tu and Tv, the rates of u and v
-/// times spacing times 3,145,728. Tu and Tv are 0 on closed edges. The places
-/// past them are left as they were, and after a refusal all places are.
+/// times spacing times 3,145,728. Tu and Tv are 0 on edges that the boundary or a
+/// barrier closes. The places past them are left as they were, and after a refusal
+/// all places are.
 ///
 /// The tests go by number: 1 to 5 of the state and `q`, whose numbers come
-/// after those of v in 4; then 8, one of `dh`, `du` and `dv` shorter than w·n.
+/// after the barriers in 4; then 8, one of `dh`, `du` and `dv` shorter than w·n.
 pub fn tendencies(
     p: &Parameters,
     h: &[i64],
     b: &[i64],
     u: &[i64],
     v: &[i64],
+    barriers: &[u8],
     q: &[i64],
     dh: &mut [i64],
     du: &mut [i64],
     dv: &mut [i64],
 ) -> Result<(), Refusal> {
-    answered(|answer| raw::tendencies(p, h, b, u, v, q, dh, du, dv, answer))
+    answered(|answer| raw::tendencies(p, h, b, u, v, barriers, q, dh, du, dv, answer))
 }
 
 /// Writes the record of a state into the first [`Parameters::record_len`] bytes
@@ -334,23 +361,22 @@ pub fn write(
     b: &[i64],
     u: &[i64],
     v: &[i64],
+    barriers: &[u8],
     timestamp: Timestamp,
     record: &mut [u8],
 ) -> Result<usize, Refusal> {
-    let Timestamp {
-        seconds,
-        milliseconds,
-    } = timestamp;
-    let answer = told(|answer| raw::write(p, h, b, u, v, seconds, milliseconds, record, answer));
+    let (seconds, ms) = (timestamp.seconds, timestamp.milliseconds);
+    let answer = told(|answer| raw::write(p, h, b, u, v, barriers, seconds, ms, record, answer));
     accepted(&answer)?;
     Ok(answer[1] as usize)
 }
 
 /// Reads a record, its tags in any order, into the first w·n places of `h`,
-/// `b`, `u` and `v`. The places past them are left as they were, and after a
-/// refusal all places are. A record may lack tag 8: its milliseconds are 0 then.
+/// `b`, `u`, `v` and `barriers`. The places past them are left as they were, and
+/// after a refusal all places are. A record may lack tag 8: its milliseconds are 0
+/// then. It may lack tag 9: zeros are filled into `barriers` then.
 ///
-/// The tests go in the order 7, a damaged record; 1; 2; 8, one of the four
+/// The tests go in the order 7, a damaged record; 1; 2; 8, one of the five
 /// shorter than w·n; 3; 9, milliseconds above 999; 4, 5. So what is read passes
 /// the tests of state and timestamp in every call.
 pub fn read(
@@ -359,9 +385,10 @@ pub fn read(
     b: &mut [i64],
     u: &mut [i64],
     v: &mut [i64],
+    barriers: &mut [u8],
 ) -> Result<Read, Refusal> {
     let mut constants = [0; 3];
-    let answer = told(|answer| raw::read(record, h, b, u, v, &mut constants, answer));
+    let answer = told(|answer| raw::read(record, h, b, u, v, barriers, &mut constants, answer));
     accepted(&answer)?;
     let [_, w, n, kind, seconds, milliseconds, ..] = answer;
     let [g, c, r] = constants;
@@ -384,7 +411,8 @@ pub fn read(
 }
 
 /// Compares two records by [`Timestamp`], and where that is the same by state. The
-/// order of their tags does not count, nor whether milliseconds of 0 are left out.
+/// order of their tags does not count, nor whether milliseconds of 0 are left out,
+/// or barriers that are all 0.
 ///
 /// The first is tested wholly before the second, each in the order 7, 1, 2, 3,
 /// 9, 4, 5.

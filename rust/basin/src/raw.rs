@@ -93,7 +93,7 @@ functions! {
     /// The number of the refusal, 0 where `q` is filled; `answer` begins with the
     /// number and the values told with it; its other places are 0.
     fn potential_vorticity(
-        p: &Parameters, h: &[i64], b: &[i64], u: &[i64], v: &[i64],
+        p: &Parameters, h: &[i64], b: &[i64], u: &[i64], v: &[i64], barriers: &[u8],
         q: &mut [i64],
         answer: &mut [u64; 8],
     );
@@ -101,7 +101,7 @@ functions! {
     /// The number of the refusal, 0 where `dh`, `du` and `dv` are filled; `answer`
     /// as above.
     fn tendencies(
-        p: &Parameters, h: &[i64], b: &[i64], u: &[i64], v: &[i64],
+        p: &Parameters, h: &[i64], b: &[i64], u: &[i64], v: &[i64], barriers: &[u8],
         q: &[i64],
         dh: &mut [i64], du: &mut [i64], dv: &mut [i64],
         answer: &mut [u64; 8],
@@ -111,6 +111,7 @@ functions! {
     /// as above.
     fn step(
         p: &Parameters, h: &mut [i64], b: &[i64], u: &mut [i64], v: &mut [i64],
+        barriers: &[u8],
         inflow: &[i64],
         work: &mut [i64],
         answer: &mut [u64; 8],
@@ -119,6 +120,7 @@ functions! {
     /// The same of up to `steps` steps; the steps done are told last.
     fn run(
         p: &Parameters, h: &mut [i64], b: &[i64], u: &mut [i64], v: &mut [i64],
+        barriers: &[u8],
         inflow: &[i64],
         steps: u64,
         work: &mut [i64],
@@ -127,14 +129,14 @@ functions! {
 
     /// The number of the refusal, 0 where `total` is total depth; `answer` as above.
     fn total_depth(
-        p: &Parameters, h: &[i64], b: &[i64], u: &[i64], v: &[i64],
+        p: &Parameters, h: &[i64], b: &[i64], u: &[i64], v: &[i64], barriers: &[u8],
         total: &mut i64,
         answer: &mut [u64; 8],
     );
 
     /// The same of four times total energy.
     fn total_energy(
-        p: &Parameters, h: &[i64], b: &[i64], u: &[i64], v: &[i64],
+        p: &Parameters, h: &[i64], b: &[i64], u: &[i64], v: &[i64], barriers: &[u8],
         total: &mut i64,
         answer: &mut [u64; 8],
     );
@@ -142,18 +144,19 @@ functions! {
     /// The number of the refusal, 0 where the first places of `record` have the
     /// record; `answer` as above, with the number of its bytes after a 0.
     fn write(
-        p: &Parameters, h: &[i64], b: &[i64], u: &[i64], v: &[i64],
+        p: &Parameters, h: &[i64], b: &[i64], u: &[i64], v: &[i64], barriers: &[u8],
         seconds: u64, milliseconds: u64,
         record: &mut [u8],
         answer: &mut [u64; 8],
     );
 
-    /// The number of the refusal, 0 where `h`, `b`, `u` and `v` are filled and
-    /// `constants` are G, c and R; `answer` as above, with w, n, kind, seconds and
-    /// milliseconds after a 0.
+    /// The number of the refusal, 0 where `h`, `b`, `u`, `v` and `barriers` are
+    /// filled and `constants` are G, c and R; `answer` as above, with w, n, kind,
+    /// seconds and milliseconds after a 0.
     fn read(
         record: &[u8],
         h: &mut [i64], b: &mut [i64], u: &mut [i64], v: &mut [i64],
+        barriers: &mut [u8],
         constants: &mut [i64; 3],
         answer: &mut [u64; 8],
     );

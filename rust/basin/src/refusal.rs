@@ -28,22 +28,22 @@ impl Told for u8 {
 // ---- fields
 
 /// A line is a field's number, its name in Rust, its name in words, and 01's
-/// letter for it.
+/// letter for it where 01 has the field.
 macro_rules! fields {
     (
         $(#[$attribute:meta])*
         pub enum $Field:ident {
-            $($number:literal: $field:ident = $name:literal $letter:literal,)*
+            $($number:literal: $field:ident = $name:literal $($letter:literal)?,)*
         }
     ) => {
         $(#[$attribute])*
         #[derive(Clone, Copy, Debug, PartialEq, Eq, PartialOrd, Ord, Hash)]
         pub enum $Field {
-            $(#[doc = concat!($number, ": ", $name, " ", $letter)] $field = $number,)*
+            $(#[doc = concat!($number, ": ", $name $(, " ", $letter)?)] $field = $number,)*
         }
 
         impl $Field {
-            /// The field's place in the order h, b, u, v, q, s.
+            /// The number by which the library tells the field.
             pub fn number(self) -> u8 {
                 self as u8
             }
@@ -62,7 +62,7 @@ macro_rules! fields {
         impl fmt::Display for $Field {
             fn fmt(&self, to: &mut fmt::Formatter) -> fmt::Result {
                 to.write_str(match self {
-                    $($Field::$field => concat!($name, " ", $letter),)*
+                    $($Field::$field => concat!($name $(, " ", $letter)?),)*
                 })
             }
         }
@@ -70,7 +70,7 @@ macro_rules! fields {
 }
 
 fields! {
-    /// A field of numbers, one per cell, that a refusal can name.
+    /// A field, of a number or a byte per cell, that a refusal can name.
     pub enum Field {
         0: Depth = "depth" "h",
         1: Bottom = "bottom height" "b",
@@ -78,6 +78,7 @@ fields! {
         3: VelocityV = "velocity" "v",
         4: Vorticity = "potential vorticity" "q",
         5: Inflow = "inflow" "s", // 01: river entry
+        6: Barriers = "barrier", // 02: piers; tested straight after v all the same
     }
 }
 
@@ -172,7 +173,7 @@ refusals! {
         3: Constants = "G, c or R outside its bounds",
         /// a value outside its bounds.
         4: Value { field: Field, cell: usize } = "{field} outside its bounds, cell {cell}",
-        /// a velocity on a closed edge.
+        /// a velocity on an edge that the boundary or a barrier closes.
         5: ClosedEdge { field: Field, cell: usize } = "{field} on a closed edge, cell {cell}",
         /// a pass of the step, 1 or 2, leaves the bounds of h, u or v.
         6: OutOfBounds { pass: u8, field: Field, cell: usize }
@@ -256,11 +257,11 @@ mod tests {
 
     #[test]
     fn every_line_of_the_tables_goes_there_and_back() {
-        for number in 0..6 {
-            let field = Field::from_told(number).expect("one of six");
+        for number in 0..7 {
+            let field = Field::from_told(number).expect("one of seven");
             assert_eq!(u64::from(field.number()), number);
         }
-        assert_eq!(Field::from_told(6), None);
+        assert_eq!(Field::from_told(7), None);
         for number in 1..=9 {
             // Good for a pass, for a field and for a cell.
             let refusal = Refusal::from_told(number, &[2; 7]).unwrap_err();
@@ -284,7 +285,7 @@ mod tests {
         assert_eq!(known(10, [0; 3]), None);
         assert_eq!(known(u64::MAX, [0; 3]), None);
         // No such field, and no such pass.
-        assert_eq!(known(4, [6, 0, 0]), None);
+        assert_eq!(known(4, [7, 0, 0]), None);
         assert_eq!(known(6, [0, 0, 0]), None);
         assert_eq!(known(6, [3, 0, 0]), None);
         assert_eq!(Refusal::known(7, [].into_iter()), None);

@@ -5,6 +5,7 @@
 mod cases;
 
 mod balance;
+mod barriers;
 mod comparison;
 mod empty;
 mod limits;

@@ -31,6 +31,8 @@ struct Seen {
     refused: [usize; 5],
     /// Where less came in than was asked for.
     lists_with_less_done: usize,
+    /// With barriers.
+    barred: usize,
 }
 
 impl Seen {
@@ -62,6 +64,7 @@ impl Seen {
             self.refused[2],
             self.refused[4],
             self.lists_with_less_done,
+            self.barred,
         ];
         assert!(counts.iter().all(|&times| times > 100), "{self:?}");
     }
@@ -92,6 +95,7 @@ fn balance(first: &Case, list: &[Entry], seen: &mut Seen, at: &str) {
     assert_eq!(after, before + due, "{at}: {first:?} {list:?}");
     assert_eq!(case.state(), state, "{at}: {first:?} {list:?}");
 
+    seen.barred += usize::from(case.barriers.iter().any(|&barrier| barrier != 0));
     seen.empty_lists += usize::from(list.is_empty());
     seen.rises += usize::from(after > before);
     seen.falls += usize::from(after < before);
@@ -146,13 +150,19 @@ fn a_refused_state_stays_refused() {
         let size = small_size(&mut random);
         let cells = size.0 * size.1;
         let mut case = Case::gentle(&mut random, size, 2);
-        match random.below(5) {
+        match random.below(8) {
             0 => case.p.kind = 3,
             1 => case.fields[V].push(0),
-            2 => case.p.r = 999,
-            3 => case.fields[H][random.below(cells)] = 999,
+            2 => case.barriers.push(0),
+            3 => case.p.r = 999,
+            4 => case.fields[H][random.below(cells)] = 999,
+            5 => case.barriers[random.below(cells)] = 4,
             // The west edge of cell 0 is closed.
-            _ => case.fields[U][0] = 1,
+            6 => case.fields[U][0] = 1,
+            _ => {
+                let cell = random.below(cells);
+                (case.fields[V][cell], case.barriers[cell]) = (1, 2);
+            }
         }
         let at = format!("seed {seed}");
         let before = compare(&case, Call::TotalDepth, &at).told;

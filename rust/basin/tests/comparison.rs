@@ -9,9 +9,10 @@
 //! where the call was made at random the seed and the number of the case too.
 
 use crate::cases::calls::{answered, call_raw, compare, expect, independent, Written, UNANSWERED};
+use crate::cases::causes;
 use crate::cases::common::{first_told, record_size, Random, NUMBERS, TESTED};
-use crate::cases::{add, any_numbers, random_case, Call, Case};
-use crate::cases::{BOUNDS, CALLS, FAULTS, FILLING, H, TOTALS, U, V};
+use crate::cases::{add, any_numbers, next_outside, random_case, Call, Case};
+use crate::cases::{BARRIERS, BOUNDS, CALLS, FAULTS, FILLING, H, TOTALS, U, V};
 
 // ---- random calls
 
@@ -28,15 +29,17 @@ struct Coverage {
     /// Accepted: one cell; one column; one row; 64 by 64.
     size: [usize; 4],
     /// Accepted with a number at the lower bound, and at the upper, by field.
-    at_bound: [[usize; 2]; 6],
+    at_bound: [[usize; 2]; 7],
     /// Refusal 4 of a number one below the lower bound, and one above the
     /// upper, by field.
-    one_past: [[usize; 2]; 6],
+    one_past: [[usize; 2]; 7],
     /// Refusal 4 at cell 0, and at the last of several, by field.
-    value_cell: [[usize; 2]; 6],
-    /// Refusal 5 at cell 0, and at the last of several closed edges, of u and
-    /// of v.
-    edge_cell: [[usize; 2]; 2],
+    value_cell: [[usize; 2]; 7],
+    /// Refusal 5 at cell 0, at the last of several closed edges, and where a
+    /// barrier closes an edge, of u and of v.
+    edge_cell: [[usize; 3]; 2],
+    /// Accepted with barriers, by call.
+    barred: [usize; CALLS.len()],
     /// By call and destination: accepted with it just long enough, and longer;
     /// refusal 8 where it alone is short, by one place, and empty.
     destination: [[[usize; 4]; 3]; CALLS.len()],
@@ -58,10 +61,10 @@ impl Coverage {
                 self.kind[call as usize][case.p.kind as usize] += 1;
                 let sizes = [(w, n) == (1, 1), w == 1, n == 1, (w, n) == (64, 64)];
                 add(&mut self.size, sizes);
+                self.barred[call as usize] += usize::from(case.barriers.iter().any(|&z| z != 0));
                 for &field in call.fields() {
                     let (low, high) = BOUNDS[field];
-                    let numbers = &case.fields[field];
-                    let bounds = [numbers.contains(&low), numbers.contains(&high)];
+                    let bounds = [low, high].map(|bound| case.has(field, bound));
                     add(&mut self.at_bound[field], bounds);
                 }
                 self.count_destinations(case, call, true);
@@ -69,18 +72,18 @@ impl Coverage {
             [8] => self.count_destinations(case, call, false),
             [4, field, cell] => {
                 let (field, cell) = (field as usize, cell as usize);
-                let (low, high) = BOUNDS[field];
-                let number = case.fields[field][cell];
-                let past = [number == low - 1, number == high + 1];
+                let number = case.number(field, cell);
+                let past = next_outside(field).map(|past| number == past);
                 add(&mut self.one_past[field], past);
                 let ends = [cell == 0, cell > 0 && cell == w * n - 1];
                 add(&mut self.value_cell[field], ends);
             }
             [5, field, cell] => {
-                let cell = cell as usize;
-                let last = [(n - 1) * w, w - 1][field as usize - U];
-                let ends = [cell == 0, cell > 0 && cell == last];
-                add(&mut self.edge_cell[field as usize - U], ends);
+                let (field, cell) = (field as usize, cell as usize);
+                let last = case.closed(field).last() == Some(&cell);
+                let barred = case.barriers[cell] != 0;
+                let places = [cell == 0, cell > 0 && last, barred];
+                add(&mut self.edge_cell[field - U], places);
             }
             _ => {}
         }
@@ -143,9 +146,10 @@ impl Coverage {
         often(self.kind.as_flattened(), 2_000, "accepted, by kind");
         often(&self.size, 200, "accepted, by size");
         often(self.at_bound.as_flattened(), 500, "at a bound");
-        often(self.one_past.as_flattened(), 200, "one past a bound");
-        often(self.value_cell.as_flattened(), 200, "ends of a field");
-        often(self.edge_cell.as_flattened(), 200, "ends of a wall");
+        often(self.one_past.as_flattened(), 150, "one past a bound");
+        often(self.value_cell.as_flattened(), 150, "ends of a field");
+        often(self.edge_cell.as_flattened(), 200, "closed edges");
+        often(&self.barred, 2_000, "accepted with barriers");
         for number in 1..=5 {
             // After 4 and 5 there may be another of the same number.
             let first = if number < 4 { number + 1 } else { number };
@@ -232,7 +236,8 @@ fn the_worked_examples_are_told_as_01_says() {
 
 #[test]
 fn every_bound_of_a_field_is_exact_at_every_cell() {
-    for (field, (low, high)) in BOUNDS.into_iter().enumerate() {
+    // Every byte of a barrier is in barriers.rs.
+    for (field, (low, high)) in BOUNDS.into_iter().enumerate().take(BARRIERS) {
         for cell in 0..6 {
             let numbers = [
                 (low - 1, false),
@@ -324,10 +329,10 @@ fn run_lengths_and_work_spaces_are_tested_where_they_are_taken() {
 
 #[test]
 fn every_length_of_a_field_but_one_is_refused() {
-    for (field, (low, _)) in BOUNDS.into_iter().enumerate() {
+    for field in 0..BOUNDS.len() {
         for length in 0..=13 {
             let mut case = Case::basin();
-            case.fields[field].resize(length, low);
+            case.resize(field, length);
             for call in CALLS {
                 let wrong = call.fields().contains(&field) && length != 6;
                 expect(&case, call, &[if wrong { 2 } else { 0 }], "a length");
@@ -361,10 +366,10 @@ fn a_destination_of_fewer_places_is_refused() {
 #[test]
 fn a_record_of_fewer_bytes_is_refused() {
     // 3 by 2 cells.
-    for length in (0..=130).chain([1_000, 70_000]) {
+    for length in (0..=140).chain([1_000, 70_000]) {
         let mut case = Case::basin();
         case.record = length;
-        let told = if length < 121 { 8 } else { 0 };
+        let told = if length < 130 { 8 } else { 0 };
         for call in CALLS {
             let told = if call == Call::Write { told } else { 0 };
             expect(&case, call, &[told], "a record");
@@ -398,6 +403,7 @@ fn closed_edges_are_those_of_01() {
         for kind in 0..=2 {
             // With velocities of 0 a state is good for any kind.
             let mut still = Case::good_of_size(&mut random, (w, n));
+            still.barriers.fill(0);
             still.p.kind = kind;
             still.fields[U].fill(0);
             still.fields[V].fill(0);
@@ -441,9 +447,8 @@ fn every_size_is_accepted_in_every_kind_and_tested_to_its_last_cell() {
                 }
                 let call = random.pick(&CALLS);
                 let field = random.pick(call.fields());
-                let (low, high) = BOUNDS[field];
                 let mut bad = case.clone();
-                bad.fields[field][w * n - 1] = random.pick(&[low - 1, high + 1]);
+                bad.put(field, w * n - 1, random.pick(&next_outside(field)));
                 let told = [4, field as u64, (w * n - 1) as u64];
                 expect(&bad, call, &told, "a last cell");
                 let call = random.pick(&FILLING);
@@ -486,6 +491,7 @@ fn huge_sides_are_refused_whatever_their_product() {
                     let mut case = Case::basin();
                     (case.p.w, case.p.n) = (w, n);
                     case.fields = [(); 6].map(|()| vec![number; length]);
+                    case.barriers = vec![number as u8; length];
                     case.work = 8 * length;
                     case.destinations = [length; 3];
                     case.record = record_size(length);
@@ -502,97 +508,62 @@ fn huge_sides_are_refused_whatever_their_product() {
 
 // ---- the order of the causes
 
-/// A cause of refusal that can be put into the closed basin of 3 by 2 cells.
+/// A cause of refusal that can be put into the closed basin of 3 by 2 cells, or
+/// into what is lent beside it.
 #[derive(Clone, Copy, Debug, PartialEq)]
 enum Cause {
-    Columns(usize),
-    Rows(usize),
-    Kind,
+    State(causes::Cause),
     Steps,
     Work,
-    /// A field of so many numbers.
-    Length(usize, usize),
-    Gravity(i64),
-    Coriolis(i64),
-    Ratio(i64),
-    /// A number outside, in this field at this cell.
-    Value(usize, usize, i64),
-    /// A velocity on a closed edge, in this field at this cell.
-    Edge(usize, usize),
     /// A destination of so many places.
     Destination(usize, usize),
     /// A record of so many bytes.
     Record(usize),
-    Milliseconds(u64),
 }
 
 impl Cause {
     fn all() -> Vec<Self> {
-        let mut causes = vec![Cause::Kind, Cause::Steps, Cause::Work];
-        for side in [0, 65] {
-            causes.extend([Cause::Columns(side), Cause::Rows(side)]);
-        }
-        for field in 0..6 {
-            causes.extend([5, 7].map(|length| Cause::Length(field, length)));
-        }
-        causes.extend([0, 10_001].map(Cause::Gravity));
-        causes.extend([-10_001, 10_001].map(Cause::Coriolis));
-        causes.extend([999, 1_000_001].map(Cause::Ratio));
-        for (field, (low, high)) in BOUNDS.into_iter().enumerate() {
-            for cell in [0, 2, 5] {
-                causes.extend([low - 1, high + 1].map(|x| Cause::Value(field, cell, x)));
-            }
-        }
-        causes.extend([0, 3].map(|cell| Cause::Edge(U, cell)));
-        causes.extend([0, 1, 2].map(|cell| Cause::Edge(V, cell)));
+        let fields: Vec<_> = (0..BOUNDS.len()).collect();
+        let mut causes = vec![Cause::Steps, Cause::Work];
+        causes.extend(causes::Cause::of(&fields).into_iter().map(Cause::State));
+        let late = [1_000, 65_536, u64::MAX].map(causes::Cause::Milliseconds);
+        causes.extend(late.map(Cause::State));
         for which in 0..3 {
             causes.extend([0, 5].map(|length| Cause::Destination(which, length)));
         }
-        causes.extend([0, 116, 120].map(Cause::Record));
-        causes.extend([1_000, 65_536, u64::MAX].map(Cause::Milliseconds));
+        // Without tags 8 and 9, without 9, and a byte less.
+        causes.extend([0, 116, 121, 129].map(Cause::Record));
         causes
     }
 
     fn put(self, case: &mut Case) {
-        let mut put = |field: usize, cell: usize, x| {
-            // A shortened field may not have the cell.
-            if let Some(place) = case.fields[field].get_mut(cell) {
-                *place = x;
-            }
-        };
         match self {
-            Cause::Columns(w) => case.p.w = w,
-            Cause::Rows(n) => case.p.n = n,
-            Cause::Kind => case.p.kind = 3,
+            Cause::State(cause) => cause.put(case),
             Cause::Steps => case.steps = 10_001,
             Cause::Work => case.work = 47,
-            Cause::Length(field, length) => case.fields[field].resize(length, BOUNDS[field].0),
-            Cause::Gravity(g) => case.p.g = g,
-            Cause::Coriolis(c) => case.p.c = c,
-            Cause::Ratio(r) => case.p.r = r,
-            Cause::Value(field, cell, x) => put(field, cell, x),
-            Cause::Edge(field, cell) => put(field, cell, 1),
             Cause::Destination(which, length) => case.destinations[which] = length,
             Cause::Record(length) => case.record = length,
-            Cause::Milliseconds(above) => case.timestamp.milliseconds = above,
         }
     }
 
     /// What a call tells that this alone stops; nothing where the call does
     /// not look at it.
     fn told(self, call: Call) -> Option<Vec<u64>> {
-        let taken = |field| call.fields().contains(field);
         let (looked_at, told) = match self {
-            Cause::Columns(_) | Cause::Rows(_) | Cause::Kind => (true, vec![1]),
+            Cause::State(cause) => {
+                let looked_at = match cause {
+                    causes::Cause::Length(field, _) | causes::Cause::Value(field, ..) => {
+                        call.fields().contains(&field)
+                    }
+                    causes::Cause::Milliseconds(_) => call == Call::Write,
+                    _ => true,
+                };
+                (looked_at, cause.told())
+            }
             Cause::Steps => (call.has_run_length(), vec![1]),
-            Cause::Length(field, _) => (taken(&field), vec![2]),
             Cause::Work => (call.has_work_space(), vec![2]),
-            Cause::Gravity(_) | Cause::Coriolis(_) | Cause::Ratio(_) => (true, vec![3]),
-            Cause::Value(field, cell, _) => (taken(&field), vec![4, field as u64, cell as u64]),
-            Cause::Edge(field, cell) => (taken(&field), vec![5, field as u64, cell as u64]),
             Cause::Destination(which, _) => (which < call.destinations(), vec![8]),
             Cause::Record(_) => (call == Call::Write, vec![8]),
-            Cause::Milliseconds(_) => (call == Call::Write, vec![9]),
         };
         looked_at.then_some(told)
     }
@@ -683,12 +654,14 @@ fn fields_that_are_read_may_be_the_same() {
     for (lent, number) in alike.into_iter().zip([0, 4, 0]) {
         let mut case = Case::basin();
         case.fields = lent.map(Vec::from);
+        let barriers = [0; 6];
         for call in CALLS {
             let expected = independent(&case, call);
             assert_eq!(expected.told[0], number, "{call:?}");
             let mut answer = UNANSWERED;
             let mut written = Written::before(&case, call);
-            let told = call_raw(&case, call, lent, written.slices(), &mut answer);
+            let read = (lent, &barriers[..]);
+            let told = call_raw(&case, call, read, written.slices(), &mut answer);
             assert_eq!(told, number, "{call:?}");
             assert_eq!(answer, answered(&expected.told), "{call:?}");
             assert_eq!(written, expected.written, "{call:?}");

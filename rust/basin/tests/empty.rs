@@ -7,14 +7,15 @@
 //!
 //! What is told and left is compared as everywhere ([`cases`]).
 
-use crate::cases::calls::{answered, array, call_raw, expect, independent, Written, UNANSWERED};
+use crate::cases::calls::{answered, array, call_raw, expect, independent, read_of};
+use crate::cases::calls::{Written, UNANSWERED};
 use crate::cases::changes::Changed;
 use crate::cases::common::{record_of, Random, NUMBERS};
 use crate::cases::memory::{Guarded, Plain};
 use crate::cases::records::{self, basin, expect_pair, expect_read};
 use crate::cases::records::{hex, of_record, Lent, TIMESTAMP};
 use crate::cases::rounding::{self, random_quotient};
-use crate::cases::{any_numbers, random_case, Call, Case, CALLS};
+use crate::cases::{any_numbers, random_case, Call, Case, BOUNDS, CALLS};
 use basin::raw;
 
 // ---- empty lists
@@ -22,9 +23,9 @@ use basin::raw;
 #[test]
 fn each_list_by_itself() {
     for call in CALLS {
-        for field in 0..6 {
+        for field in 0..BOUNDS.len() {
             let mut case = Case::basin();
-            case.fields[field].clear();
+            case.resize(field, 0);
             let taken = call.fields().contains(&field);
             expect(&case, call, &[if taken { 2 } else { 0 }], "an empty field");
         }
@@ -49,7 +50,7 @@ fn each_list_by_itself() {
 fn nothing(w: usize, n: usize) -> Case {
     let mut case = Case::basin();
     (case.p.w, case.p.n) = (w, n);
-    case.fields.iter_mut().for_each(Vec::clear);
+    case.resize_all(0);
     (case.work, case.destinations, case.record) = (0, [0; 3], 0);
     case
 }
@@ -76,7 +77,7 @@ fn records_and_what_they_are_read_into() {
     expect_read(&[], Lent::enough(0), &[7, 0], "nothing");
     expect_read(&[], Lent::enough(6), &[7, 0], "no record");
     expect_read(&good, Lent::enough(0), &[8], "no room at all");
-    for which in 0..4 {
+    for which in 0..5 {
         let mut lent = Lent::enough(6);
         lent.fields[which] = 0;
         expect_read(&good, lent, &[8], "no room for a field");
@@ -93,6 +94,7 @@ fn records_and_what_they_are_read_into() {
 /// between two such pages.
 struct Pages {
     fields: [Guarded; 6],
+    barriers: Guarded,
     destinations: [Guarded; 3],
     total: Guarded,
     stepped: [Guarded; 3],
@@ -124,6 +126,7 @@ impl Pages {
         let room = || Guarded::new(1 << 20);
         Pages {
             fields: [(); 6].map(|()| room()),
+            barriers: room(),
             destinations: [(); 3].map(|()| room()),
             total: room(),
             stepped: [(); 3].map(|()| room()),
@@ -140,6 +143,7 @@ impl Pages {
         let at_end = self.at_end;
         let before = Written::before(case, call);
         let fields = lend_all(&mut self.fields, &case.fields, at_end);
+        let barriers = &*self.barriers.lend(&case.barriers, at_end);
         let mut lent = Written {
             destinations: lend_all(&mut self.destinations, &before.destinations, at_end),
             total: self.total.lend(&before.total, at_end),
@@ -149,13 +153,13 @@ impl Pages {
         };
         let answer = array(self.answer.lend(&case.answer, at_end));
         let read = fields.each_ref().map(|field| &**field);
-        let number = call_raw(case, call, read, lent.slices(), answer);
+        let number = call_raw(case, call, (read, barriers), lent.slices(), answer);
 
         let expected = independent(case, call);
         assert_eq!(number, expected.told[0], "{at}: {call:?} {case:?}");
         assert_eq!(*answer, answered(&expected.told), "{at}: {call:?} {case:?}");
         assert_eq!(lent.copied(), expected.written, "{at}: {call:?} {case:?}");
-        assert_eq!(read, case.fields.each_ref().map(Vec::as_slice), "{at}");
+        assert_eq!((read, barriers), read_of(case), "{at}");
         number
     }
 
@@ -163,16 +167,18 @@ impl Pages {
         let before = records::Outcome::before(lent);
         let rooms = self.fields.first_chunk_mut().expect("four of six");
         let [h, b, u, v] = lend_all(rooms, &before.fields, self.at_end);
+        let barriers = self.barriers.lend(&before.barriers, self.at_end);
         let constants = array(self.constants.lend(&lent.constants, self.at_end));
         let answer = array(self.answer.lend(&lent.answer, self.at_end));
         let lent_record = self.records[0].lend(record, self.at_end);
-        let number = raw::read(lent_record, h, b, u, v, constants, answer);
+        let number = raw::read(lent_record, h, b, u, v, barriers, constants, answer);
 
         let expected = records::independent(record, lent);
         assert_eq!(number, expected.told[0], "{at}: {}", hex(record));
         assert_eq!(*answer, answered(&expected.told), "{at}: {}", hex(record));
         let fields = [h, b, u, v].map(|field| field.to_vec());
         assert_eq!(fields, expected.fields, "{at}: {}", hex(record));
+        assert_eq!(barriers, expected.barriers, "{at}: {}", hex(record));
         assert_eq!(*constants, expected.constants, "{at}: {}", hex(record));
         assert_eq!(lent_record, record, "{at}");
         number
@@ -237,7 +243,7 @@ fn lists_that_start_or_end_beside_such_a_page() {
             } = Changed::random(&mut random);
             let mut lent = Lent::any(&mut random, cells);
             if random.once_in(8) {
-                lent.fields[random.below(4)] = random.below(cells + 1);
+                lent.fields[random.below(5)] = random.below(cells + 1);
             }
             met[1][pages.read(&record, lent, &at) as usize] += 1;
             for (first, second) in [(&record, &good), (&good, &record)] {

@@ -9,19 +9,20 @@
 //! whose product is the length of the fields, are in comparison.rs too.)
 
 use crate::cases::calls::{answered, array, call_raw, compare, expect, independent, parameters};
-use crate::cases::calls::{timestamp, Written, FENCE, FENCE_BYTE, UNANSWERED, UNTOUCHED};
+use crate::cases::calls::{read_of, timestamp, Written};
+use crate::cases::calls::{FENCE, FENCE_BYTE, UNANSWERED, UNTOUCHED};
 use crate::cases::common::{moment, record_field, record_fields, record_of, record_size};
 use crate::cases::memory::{Mapping, Plain};
 use crate::cases::records::{self, basin, expect_pair, expect_state, independent_pair};
 use crate::cases::records::{of_record, written, Lent, TIMESTAMP};
-use crate::cases::{Call, Case, CALLS, H, S, U, V};
+use crate::cases::{Call, Case, BARRIERS, CALLS, H, S, U, V};
 use basin::{raw, Refusal};
 
 // ---- numbers
 
 #[test]
 fn sides_whose_products_wrap() {
-    // w·n, 8·w·n or 12·w·n is small, in 64 bits or in 32.
+    // w·n, 8·w·n or 13·w·n is small, in 64 bits or in 32.
     let sides: [(usize, usize); 14] = [
         (1 << 32, 1 << 32),
         (1 << 32, 1 << 29),
@@ -35,7 +36,7 @@ fn sides_whose_products_wrap() {
         (3, (1 << 32) + 2),
         (usize::MAX, usize::MAX),
         (usize::MAX, 1),
-        (usize::MAX / 12 + 1, 1),
+        (usize::MAX / 13 + 1, 1),
         (usize::MAX - 2, usize::MAX - 1),
     ];
     for (w, n) in sides {
@@ -45,13 +46,11 @@ fn sides_whose_products_wrap() {
         for length in [cells.min(4_096), 6] {
             let mut case = Case::basin();
             (case.p.w, case.p.n) = (w, n);
-            case.fields
-                .iter_mut()
-                .for_each(|field| field.resize(length, 0));
+            case.resize_all(length);
             case.destinations = [length; 3];
             for work in [cells.wrapping_mul(8), 48, 0, usize::MAX] {
                 case.work = work;
-                case.record = cells.wrapping_mul(12).wrapping_add(49).min(70_000);
+                case.record = cells.wrapping_mul(13).wrapping_add(52).min(70_000);
                 for call in CALLS {
                     expect(&case, call, &[1], "sides");
                 }
@@ -182,7 +181,9 @@ enum List {
 
 impl List {
     fn of(call: Call) -> Vec<Self> {
-        let fields = call.fields().iter().map(|&field| List::Field(field));
+        // Barriers are bytes, and have a test of their own.
+        let numbers = call.fields().iter().filter(|&&field| field != BARRIERS);
+        let fields = numbers.map(|&field| List::Field(field));
         let destinations = (0..call.destinations()).map(List::Destination);
         let work = call.is_stepping().then_some(List::Work);
         fields.chain(destinations).chain(work).collect()
@@ -206,7 +207,7 @@ fn call_with(
     written: &mut Written,
     answer: &mut [u64; 8],
 ) -> u64 {
-    let mut fields = case.fields.each_ref().map(Vec::as_slice);
+    let (mut fields, barriers) = read_of(case);
     let mut lent = written.slices();
     match list {
         List::Field(k) => match [H, U, V].into_iter().position(|stepped| stepped == k) {
@@ -216,7 +217,7 @@ fn call_with(
         List::Destination(k) => lent.destinations[k] = long,
         List::Work => lent.work = long,
     }
-    call_raw(case, call, fields, lent, answer)
+    call_raw(case, call, (fields, barriers), lent, answer)
 }
 
 /// Lends a long list for this one, and looks at all lists after the call.
@@ -266,12 +267,33 @@ fn each_list_of_numbers_of_each_call() {
 }
 
 #[test]
+fn barriers_of_each_call() {
+    let mut mapping = Mapping::long();
+    let all: &mut [u8] = mapping.list();
+    let case = Case::basin();
+    let (fields, barriers) = read_of(&case);
+    for call in CALLS {
+        let before = Written::before(&case, call);
+        for length in lengths(6, all.len()) {
+            let at = format!("{call:?}, {length} barriers");
+            let long = Long::new(&mut all[..length], barriers, FENCE_BYTE);
+            let mut written = before.clone();
+            let mut answer = UNANSWERED;
+            let read = (fields, &*long.list);
+            let number = call_raw(&case, call, read, written.slices(), &mut answer);
+            assert_eq!((number, answer), (2, answered(&[2])), "{at}");
+            assert_eq!(written, before, "{at}");
+            long.assert_left(barriers, &at);
+        }
+    }
+}
+
+#[test]
 fn records_that_are_long_places_to_write_to() {
     let mut mapping = Mapping::long();
     let case = Case::basin();
     let expected = independent(&case, Call::Write);
     let before = Written::before(&case, Call::Write);
-    let fields = case.fields.each_ref().map(Vec::as_slice);
     let all: &mut [u8] = mapping.list();
     for length in lengths(record_size(6), all.len()) {
         let long = Long::new(&mut all[..length], &before.record, FENCE_BYTE);
@@ -279,7 +301,7 @@ fn records_that_are_long_places_to_write_to() {
         let mut lent = written.slices();
         lent.record = long.list;
         let mut answer = UNANSWERED;
-        call_raw(&case, Call::Write, fields, lent, &mut answer);
+        call_raw(&case, Call::Write, read_of(&case), lent, &mut answer);
         assert_eq!(answer, answered(&[0, record_size(6) as u64]));
         long.assert_left(&expected.written.record, "a long record");
     }
@@ -291,7 +313,6 @@ fn records_that_are_long_places_to_write_to() {
 fn what_is_told_at_the_start_of_long_memory() {
     let (mut answers, mut numbers) = (Mapping::long(), Mapping::long());
     let case = Case::basin();
-    let fields = case.fields.each_ref().map(Vec::as_slice);
     for call in CALLS {
         let expected = independent(&case, call);
         let mut written = Written::before(&case, call);
@@ -299,7 +320,8 @@ fn what_is_told_at_the_start_of_long_memory() {
         let total = Long::new(numbers.list(), &written.total, FENCE);
         let mut lent = written.slices();
         lent.total = &mut total.list[..total.part];
-        call_raw(&case, call, fields, lent, array(&mut answer.list[..8]));
+        let read = read_of(&case);
+        call_raw(&case, call, read, lent, array(&mut answer.list[..8]));
         answer.assert_left(&answered(&expected.told), "an answer");
         total.assert_left(&expected.written.total, "a total");
         // The one in its place was not lent.
@@ -310,18 +332,21 @@ fn what_is_told_at_the_start_of_long_memory() {
     let (record, lent) = (record_of(&basin(), TIMESTAMP), Lent::enough(6));
     let answer = Long::new(answers.list(), &UNANSWERED, UNTOUCHED);
     let constants = Long::new(numbers.list(), &lent.constants, FENCE);
-    let [mut h, mut b, mut u, mut v] = records::Outcome::before(lent).fields;
+    let mut filled = records::Outcome::before(lent);
+    let [h, b, u, v] = &mut filled.fields;
     raw::read(
         &record,
-        &mut h,
-        &mut b,
-        &mut u,
-        &mut v,
+        h,
+        b,
+        u,
+        v,
+        &mut filled.barriers,
         array(&mut constants.list[..3]),
         array(&mut answer.list[..8]),
     );
     let expected = records::independent(&record, lent);
-    assert_eq!([h, b, u, v], expected.fields);
+    assert_eq!(filled.fields, expected.fields);
+    assert_eq!(filled.barriers, expected.barriers);
     constants.assert_left(&expected.constants, "constants");
     answer.assert_left(&answered(&expected.told), "what is read");
 
@@ -339,48 +364,65 @@ fn records_are_read_into_long_lists() {
     let all: &mut [i64] = mapping.list();
     let (record, lent) = (record_of(&basin(), TIMESTAMP), Lent::enough(6));
     let expected = records::independent(&record, lent);
+    let read = |[h, b, u, v]: [&mut [i64]; 4], barriers: &mut [u8], at: &str| {
+        let (mut constants, mut answer) = (lent.constants, lent.answer);
+        raw::read(&record, h, b, u, v, barriers, &mut constants, &mut answer);
+        assert_eq!(answer, answered(&expected.told), "{at}");
+        assert_eq!(constants, expected.constants, "{at}");
+    };
     for which in 0..4 {
-        let mut short = records::Outcome::before(lent).fields;
-        let start = short[which].clone();
+        let mut short = records::Outcome::before(lent);
+        let start = short.fields[which].clone();
         for length in lengths(start.len(), all.len()) {
             let at = format!("field {which} of {length}");
             let long = Long::new(&mut all[..length], &start, FENCE);
-            let mut fields = short.each_mut().map(Vec::as_mut_slice);
+            let mut fields = short.fields.each_mut().map(Vec::as_mut_slice);
             fields[which] = long.list;
-            let [h, b, u, v] = fields;
-            let (mut constants, mut answer) = (lent.constants, lent.answer);
-            raw::read(&record, h, b, u, v, &mut constants, &mut answer);
-            assert_eq!(answer, answered(&expected.told), "{at}");
-            assert_eq!(constants, expected.constants, "{at}");
+            read(fields, &mut short.barriers, &at);
             long.assert_left(&expected.fields[which], &at);
         }
-        short[which].clone_from(&expected.fields[which]);
-        assert_eq!(short, expected.fields, "{which}");
+        short.fields[which].clone_from(&expected.fields[which]);
+        assert_eq!(short.fields, expected.fields, "{which}");
+        assert_eq!(short.barriers, expected.barriers, "{which}");
+    }
+    let all: &mut [u8] = mapping.list();
+    let mut short = records::Outcome::before(lent);
+    for length in lengths(6, all.len()) {
+        let at = format!("{length} barriers");
+        let long = Long::new(&mut all[..length], &short.barriers, FENCE_BYTE);
+        let fields = short.fields.each_mut().map(Vec::as_mut_slice);
+        read(fields, long.list, &at);
+        assert_eq!(short.fields, expected.fields, "{at}");
+        long.assert_left(&expected.barriers, &at);
     }
 }
 
 /// Starts of records, and the offset that is told where zeros follow for long.
 fn damaged_by_zeros() -> Vec<(Vec<u8>, u64)> {
     let fields = record_fields(&basin(), TIMESTAMP);
-    let (good, old) = (fields.concat(), fields[..7].concat());
-    let longest: Vec<_> = (4..8).map(|tag| record_field(tag, &[1; 0xFFFF])).collect();
+    let [good, seven, eight] = [9, 7, 8].map(|count| fields[..count].concat());
+    let longest = [4, 5, 6, 7, 9].map(|tag| record_field(tag, &[1; 0xFFFF]));
     let longest = [fields[..3].concat(), longest.concat()].concat();
     let mut starts = vec![
         // No tag is 0.
         (vec![], 0),
-        (good.clone(), 121),
-        (longest, 44 + 4 * 0xFFFF),
+        (good.clone(), 130),
+        (longest, 47 + 5 * 0xFFFF),
         (fields[..6].concat(), 101),
         // Two bytes of a tag's length, and all of them, are zeros.
         (vec![1], 0),
         (vec![4], 3),
         // One tag once more, and one that is none.
-        ([good.clone(), vec![7, 0, 12]].concat(), 121),
-        ([good.clone(), vec![8, 0, 2]].concat(), 121),
-        ([good.clone(), vec![9]].concat(), 121),
+        ([good.clone(), vec![7, 0, 12]].concat(), 130),
+        ([good.clone(), vec![8, 0, 2]].concat(), 130),
+        ([good.clone(), vec![9]].concat(), 130),
+        ([good.clone(), vec![10]].concat(), 130),
         // Tag 8 of no bytes, and of two, which the zeros are.
-        ([old.clone(), vec![8]].concat(), 116),
-        ([old, vec![8, 0, 2]].concat(), 121),
+        ([seven.clone(), vec![8]].concat(), 116),
+        ([seven, vec![8, 0, 2]].concat(), 121),
+        // Tag 9 of no bytes, which is damage behind it, and of six zeros.
+        ([eight.clone(), vec![9]].concat(), 124),
+        ([eight, vec![9, 0, 6]].concat(), 130),
     ];
     // The last value goes on into the zeros, which are enough for it.
     starts.push((good[..110].to_vec(), 116));
@@ -420,11 +462,11 @@ fn refused_at(record: &[u8], offset: u64, at: &str) {
     let told = [7, offset];
     let before = records::Outcome::before(Lent::enough(6));
     let mut left = before.clone();
-    let [h, b, u, v] = &mut left.fields;
-    let expected = reference::read(record, h, b, u, v);
+    let ([h, b, u, v], z) = (&mut left.fields, &mut left.barriers);
+    let expected = reference::read(record, h, b, u, v, z);
     assert_eq!(expected.told(), told.map(i128::from), "{at}");
     let mut answer = UNANSWERED;
-    raw::read(record, h, b, u, v, &mut left.constants, &mut answer);
+    raw::read(record, h, b, u, v, z, &mut left.constants, &mut answer);
     assert_eq!(answer, answered(&told), "{at}");
     assert_eq!(left, before, "{at}");
 }
@@ -441,15 +483,15 @@ fn eighths(mapping: &mut Mapping) -> [&mut [i64]; 8] {
 
 #[test]
 fn destinations_and_work_space_are_long_at_once() {
-    let mut mapping = Mapping::long();
+    let (mut mapping, mut bytes) = (Mapping::long(), Mapping::long());
     let [dh, du, dv, work, h, b, u, v] = eighths(&mut mapping);
     let case = Case::basin();
     let p = &parameters(&case);
-    let [h0, b0, u0, v0, q, s] = &case.fields;
+    let ([h0, b0, u0, v0, q, s], z) = (&case.fields, &case.barriers);
     for list in [&mut *dh, du, dv] {
         Long::new(list, &[FENCE; 6], FENCE);
     }
-    let done = basin::tendencies(p, h0, b0, u0, v0, q, dh, du, dv);
+    let done = basin::tendencies(p, h0, b0, u0, v0, z, q, dh, du, dv);
     assert_eq!(done, Ok(()));
     let expected = independent(&case, Call::Tendencies).written.destinations;
     for (list, start) in [dh, du, dv].into_iter().zip(&expected) {
@@ -459,13 +501,14 @@ fn destinations_and_work_space_are_long_at_once() {
 
     let long = Long::new(work, &[FENCE; 48], FENCE);
     let [mut h1, mut u1, mut v1] = [h0, u0, v0].map(Vec::clone);
-    let done = basin::run(p, &mut h1, b0, &mut u1, &mut v1, s, 3, long.list);
+    let done = basin::run(p, &mut h1, b0, &mut u1, &mut v1, z, s, 3, long.list);
     assert_eq!(done.map(|ran| ran.steps), Ok(3));
     assert_eq!([h1, u1, v1], independent(&case, Call::Run).written.stepped);
     long.assert_left(&[0; 48], "a long work space");
 
     let record = record_of(&case.state(), moment(5, 250));
-    let read = basin::read(&record, h, b, u, v);
+    let barriers = Long::new(bytes.list(), &[FENCE_BYTE; 6], FENCE_BYTE);
+    let read = basin::read(&record, h, b, u, v, barriers.list);
     assert_eq!(
         read.map(|read| (read.parameters, read.timestamp)),
         Ok((*p, timestamp(moment(5, 250))))
@@ -474,30 +517,31 @@ fn destinations_and_work_space_are_long_at_once() {
         assert_eq!(list[..6], field[..]);
         assert_eq!(list[6], 0);
     }
+    barriers.assert_left(z, "long barriers");
 }
 
 #[test]
 fn all_fields_are_long_at_once() {
-    let mut mapping = Mapping::long();
+    let (mut mapping, mut bytes) = (Mapping::long(), Mapping::long());
     let [h, u, v, work, q, ..] = eighths(&mut mapping);
     let lengths = Refusal::Lengths;
     let p = &parameters(&Case::basin());
     // What is only read may be the same list.
     let long = &*q;
-    let refused = basin::step(p, h, long, u, v, long, work);
+    let z: &[u8] = bytes.list();
+    let refused = basin::step(p, h, long, u, v, z, long, work);
     assert_eq!(refused, Err(lengths));
-    assert_eq!(
-        basin::run(p, h, long, u, v, long, 10_000, work),
-        Err(lengths)
-    );
-    assert_eq!(basin::total_depth(p, long, long, long, long), Err(lengths));
-    assert_eq!(basin::total_energy(p, long, long, long, long), Err(lengths));
-    let refused = basin::potential_vorticity(p, long, long, long, long, h);
+    let refused = basin::run(p, h, long, u, v, z, long, 10_000, work);
     assert_eq!(refused, Err(lengths));
-    let refused = basin::tendencies(p, long, long, long, long, long, h, u, v);
+    for total in [basin::total_depth, basin::total_energy] {
+        assert_eq!(total(p, long, long, long, long, z), Err(lengths));
+    }
+    let refused = basin::potential_vorticity(p, long, long, long, long, z, h);
     assert_eq!(refused, Err(lengths));
-    let (time, mut record) = (timestamp(0.into()), [0; 121]);
-    let refused = basin::write(p, long, long, long, long, time, &mut record);
+    let refused = basin::tendencies(p, long, long, long, long, z, long, h, u, v);
+    assert_eq!(refused, Err(lengths));
+    let (time, mut record) = (timestamp(0.into()), [0; 130]);
+    let refused = basin::write(p, long, long, long, long, z, time, &mut record);
     assert_eq!(refused, Err(lengths));
     // Of sides whose product is that length, test 1 comes first.
     let wide = &basin::Parameters {
@@ -505,12 +549,8 @@ fn all_fields_are_long_at_once() {
         n: 1,
         ..*p
     };
-    assert_eq!(
-        basin::total_depth(wide, long, long, long, long),
-        Err(Refusal::Grid)
-    );
-    assert_eq!(
-        basin::step(wide, h, long, u, v, long, work),
-        Err(Refusal::Grid)
-    );
+    let refused = basin::total_depth(wide, long, long, long, long, z);
+    assert_eq!(refused, Err(Refusal::Grid));
+    let refused = basin::step(wide, h, long, u, v, z, long, work);
+    assert_eq!(refused, Err(Refusal::Grid));
 }

@@ -6,7 +6,7 @@
 
 use crate::cases::calls::expect;
 use crate::cases::common::{milliseconds_field, moment, record_field, record_fields, record_of};
-use crate::cases::common::{record_without_8, two_cells, TIME_NUMBERS};
+use crate::cases::common::{record_of_01, two_cells, TIME_NUMBERS};
 use crate::cases::records::{answer_for, expect_pair, expect_read, expect_refused, expect_state};
 use crate::cases::records::{of_record, written, Lent};
 use crate::cases::{Call, Case, CALLS, H};
@@ -21,9 +21,9 @@ fn cell(h: i64) -> State {
     }
 }
 
-/// Worked example 10's record, which has no tag 8.
+/// Worked example 10's record, which has neither tag 8 nor tag 9.
 fn dock() -> Vec<u8> {
-    record_without_8(&cell(2_000), 0)
+    record_of_01(&cell(2_000), 0)
 }
 
 fn with_tag_8(record: &[u8], milliseconds: u64) -> Vec<u8> {
@@ -33,9 +33,9 @@ fn with_tag_8(record: &[u8], milliseconds: u64) -> Vec<u8> {
 #[test]
 fn worked_numbers_of_a_write() {
     let record = written(&cell(2_000), moment(5, 999), "worked");
-    assert_eq!(record.len(), 61);
-    assert_eq!(record[..56], record_without_8(&cell(2_000), 5));
-    assert_eq!(record[56..], [8, 0, 2, 3, 0xE7]);
+    assert_eq!(record.len(), 65);
+    assert_eq!(record[..56], record_of_01(&cell(2_000), 5));
+    assert_eq!(record[56..61], [8, 0, 2, 3, 0xE7]);
     for milliseconds in [1_000, 65_536] {
         let mut case = Case::example_2();
         case.fields[H] = vec![999];
@@ -47,7 +47,7 @@ fn worked_numbers_of_a_write() {
 
 #[test]
 fn worked_numbers_of_a_read() {
-    let late = with_tag_8(&record_without_8(&cell(999), 0), 1_000);
+    let late = with_tag_8(&record_of_01(&cell(999), 0), 1_000);
     expect_read(&late, Lent::enough(1), &[9], "worked");
     let mut short = Lent::enough(1);
     short.fields[3] = 0;
@@ -80,7 +80,7 @@ fn worked_numbers_of_damage() {
 #[test]
 fn worked_numbers_of_a_comparison() {
     let at = |h, seconds, milliseconds| record_of(&cell(h), moment(seconds, milliseconds));
-    let old = record_without_8(&cell(2_000), 5);
+    let old = record_of_01(&cell(2_000), 5);
     expect_pair(&at(2_001, 5, 250), &at(2_000, 5, 249), &[0, 1], "worked");
     expect_pair(&at(2_000, 4, 999), &old, &[0, 2], "worked");
     expect_pair(&old, &at(2_000, 5, 0), &[0, 0], "worked");
@@ -94,12 +94,12 @@ fn every_value_of_tag_8_is_read_or_refused() {
     let state = Case::example_2().state();
     let good = record_of(&state, moment(5, 500));
     let mut fields = record_fields(&state, 5);
-    fields.pop();
+    fields.remove(7);
     let (mut accepted, mut refused) = (0, 0);
     for milliseconds in 0..=0xFFFF {
         // Each place takes its turn.
         let mut fields = fields.clone();
-        fields.insert(milliseconds as usize % 8, milliseconds_field(milliseconds));
+        fields.insert(milliseconds as usize % 9, milliseconds_field(milliseconds));
         let (record, time) = (fields.concat(), moment(5, milliseconds));
         if milliseconds <= 999 {
             expect_state(&record, Lent::enough(1), (&state, time), "a value");
@@ -145,7 +145,7 @@ fn seconds_and_milliseconds_of_64_bits_are_written_and_read_back_or_refused() {
 fn records_at(state: &State, time: Timestamp) -> Vec<Vec<u8>> {
     let mut records = vec![record_of(state, time)];
     if time.milliseconds == 0 {
-        records.push(record_without_8(state, time.seconds));
+        records.push(record_of_01(state, time.seconds));
     }
     records
 }

@@ -53,12 +53,12 @@ fn a_total_that_returns_0_is_given() {
     for (mut totals, mut answers) in Tight::both().into_iter().zip(Tight::both()) {
         let mut total_of = |case: &Case, call: Call| {
             let p = &parameters(case);
-            let [h, b, u, v, ..] = &case.fields;
+            let ([h, b, u, v, ..], z) = (&case.fields, &case.barriers);
             let [total] = totals.lend([case.total]);
             let answer = answers.lend(case.answer);
             let number = match call {
-                Call::TotalDepth => raw::total_depth(p, h, b, u, v, total, answer),
-                _ => raw::total_energy(p, h, b, u, v, total, answer),
+                Call::TotalDepth => raw::total_depth(p, h, b, u, v, z, total, answer),
+                _ => raw::total_energy(p, h, b, u, v, z, total, answer),
             };
             (number, *total, *answer)
         };
@@ -97,10 +97,11 @@ fn a_run_that_returns_0_says_how_far_it_came() {
     for mut answers in Tight::both() {
         let mut run = |case: &Case| {
             let [mut h, b, mut u, mut v, _, s] = case.fields.clone();
+            let (z, steps) = (&case.barriers, case.steps);
             let mut work = vec![7; case.lent_work()];
             let (p, answer) = (&parameters(case), answers.lend(case.answer));
             let number = raw::run(
-                p, &mut h, &b, &mut u, &mut v, &s, case.steps, &mut work, answer,
+                p, &mut h, &b, &mut u, &mut v, z, &s, steps, &mut work, answer,
             );
             (number, *answer, [h, u, v])
         };
@@ -146,30 +147,37 @@ fn a_record_that_is_read_gives_its_constants() {
     let mut met = [0; 2];
     for (mut numbers, mut answers) in Tight::both().into_iter().zip(Tight::both()) {
         let mut read = |record: &[u8], lent: Lent| {
-            let [mut h, mut b, mut u, mut v] = records::Outcome::before(lent).fields;
+            let mut filled = records::Outcome::before(lent);
+            let ([h, b, u, v], z) = (&mut filled.fields, &mut filled.barriers);
             let constants = numbers.lend(lent.constants);
             let answer = answers.lend(lent.answer);
-            let number = raw::read(record, &mut h, &mut b, &mut u, &mut v, constants, answer);
-            (number, *constants, *answer, [h, b, u, v])
+            let number = raw::read(record, h, b, u, v, z, constants, answer);
+            (
+                number,
+                *constants,
+                *answer,
+                (filled.fields, filled.barriers),
+            )
         };
         let example = record_of(&Case::example_2().state(), TIMESTAMP);
         let given = read(&example, Lent::enough(1));
         let (seconds, milliseconds) = (TIMESTAMP.seconds, TIMESTAMP.milliseconds);
         let answer = [0, 1, 1, 0, seconds, milliseconds, 0, 0];
         let fields = [2_000, 0, 100, -50].map(|number| vec![number]);
-        assert_eq!(given, (0, [9_810, 10, 1_000], answer, fields));
+        let filled = (fields, vec![0]);
+        assert_eq!(given, (0, [9_810, 10, 1_000], answer, filled));
 
         for number in 0..5_000 {
             let Changed { cells, record, .. } = Changed::random(&mut random);
             let lent = Lent::any(&mut random, cells);
             let expected = records::independent(&record, lent);
-            let (returned, constants, answer, fields) = read(&record, lent);
+            let (returned, constants, answer, filled) = read(&record, lent);
             let at = || format!("case {number}: {}", records::hex(&record));
             assert_eq!(returned, expected.told[0], "{}", at());
             assert_eq!(answer, answered(&expected.told), "{}", at());
             // After a refusal, the numbers that were lent.
             assert_eq!(constants, expected.constants, "{}", at());
-            assert_eq!(fields, expected.fields, "{}", at());
+            assert_eq!(filled, (expected.fields, expected.barriers), "{}", at());
             add(&mut met, [returned != 0, returned == 0]);
         }
     }

@@ -15,9 +15,9 @@ use std::time::Duration;
 use std::{env, fs, thread};
 
 use crate::cases::changes::Changed;
-use crate::cases::common::{at_rest, moment, random_state, random_timestamp, record_of};
-use crate::cases::common::{record_of_length, record_without_8, Random, NUMBERS, SPREADS};
-use crate::cases::records::{hex, shuffled};
+use crate::cases::common::{at_rest, moment, random_state, random_timestamp, shuffled};
+use crate::cases::common::{record_of, record_of_01, record_of_length, Random, NUMBERS, SPREADS};
+use crate::cases::records::hex;
 use crate::cases::{add, Case};
 use reference::{step_program, State};
 
@@ -115,13 +115,13 @@ const EXAMPLE_10: &str = "total 2000\n0 0 2000 99 -51\n";
 
 #[test]
 fn worked_example_10() {
-    let record = record_without_8(&Case::example_2().state(), 0);
+    let record = record_of_01(&Case::example_2().state(), 0);
     let input = "010003010100 02000C000026520000000A000003E8 0300080000000000000000 \
                  040004000007D0 05000400000000 0600020064 070002FFCE";
     assert_eq!(hex(&record), input.replace(' ', ""));
     expect(&record, EXAMPLE_10, "example 10");
 
-    // From a file, as the README has it, with tag 8.
+    // From a file, as the README has it, with tags 8 and 9.
     let record = record_of(&Case::example_2().state(), 0);
     let path = in_repository("examples/one_cell.rec");
     assert_eq!(fs::read(&path).expect("the file"), record);
@@ -172,13 +172,17 @@ fn every_refusal_is_printed() {
     refused(1, |s| s.parameters.n = 65);
     refused(1, |s| s.parameters.kind = 3);
     refused(2, |s| s.b.push(0));
+    refused(2, |s| s.barriers.clear());
     refused(2, |s| s.parameters.w = 4);
     refused(3, |s| s.parameters.g = 0);
     refused(3, |s| s.parameters.r = 1_000_001);
     refused(4, |s| s.h[5] = 999);
     refused(4, |s| s.v[5] = 5_001);
+    refused(4, |s| s.barriers[5] = 4);
     refused(5, |s| s.u[3] = 1);
     refused(5, |s| s.v[2] = -1);
+    refused(5, |s| s.barriers[4] = 1);
+    refused(5, |s| s.barriers[3] = 2);
     refused(6, |s| (s.b[4], s.parameters.r) = (100_000, 1_000));
     refused(8, |s| *s = at_rest(33, 32));
     let good = record_of(&Case::basin().state(), 1);

@@ -9,15 +9,15 @@
 //! them ([`cases::records`], [`cases::calls`]). One that fails prints the record
 //! in hex, and where it was made at random the seed and the number of the case.
 
-use crate::cases::calls::UNANSWERED;
+use crate::cases::calls::{timestamp, UNANSWERED};
 use crate::cases::changes::Changed;
 use crate::cases::common::{any_state, random_state, within_limits, Random, NUMBERS, SPREADS};
 use crate::cases::common::{every_order, moment, random_timestamp, record_fields, record_of};
-use crate::cases::common::{record_without_8, two_cells};
+use crate::cases::common::{record_of_01, shuffle, shuffled, some_fields, two_cells};
 use crate::cases::records::{answer_for, basin, TIMESTAMP};
 use crate::cases::records::{compare_pair, compare_read, expect_pair, expect_read, expect_state};
-use crate::cases::records::{field, hex, of_record, shuffled, written, Lent};
-use crate::cases::{add, any_numbers, Case, BOUNDS, U, V};
+use crate::cases::records::{field, hex, of_record, written, Lent};
+use crate::cases::{add, any_numbers, Case, BARRIERS, BOUNDS, U, V};
 use reference::{Parameters, State, Timestamp};
 
 // ---- good records
@@ -28,12 +28,12 @@ fn example_10_one_cell() {
                   040004000007D0 05000400000000 0600020064 070002FFCE";
     let record = record.replace(' ', "");
     let state = Case::example_2().state();
-    // 01's record has no tag 8, which the writer adds.
-    let old = record_without_8(&state, 0);
+    // 01's record has neither tag 8 nor tag 9, which the writer adds.
+    let old = record_of_01(&state, 0);
     assert_eq!(hex(&old), record);
     expect_state(&old, Lent::enough(1), (&state, 0), "example 10");
     let written = written(&state, 0, "example 10");
-    assert_eq!(hex(&written), record + "0800020000");
+    assert_eq!(hex(&written), record + "0800020000" + "09000100");
     expect_pair(&old, &written, &[0, 0], "example 10");
     expect_state(&written, Lent::enough(1), (&state, 0), "example 10");
     expect_pair(&written, &written, &[0, 0], "example 10");
@@ -45,7 +45,7 @@ fn example_10_one_cell() {
         c: 10,
         r: 1_000,
     };
-    assert_eq!(p.record_len(), 61);
+    assert_eq!(p.record_len(), 65);
 }
 
 #[test]
@@ -61,8 +61,8 @@ fn lengths_of_records_and_work_spaces_do_not_overflow() {
         };
         [p.record_len(), p.work_len()]
     };
-    assert_eq!(lengths(64, 64), [49_201, 32_768]);
-    assert_eq!(lengths(0, 7), [49, 0]);
+    assert_eq!(lengths(64, 64), [53_300, 32_768]);
+    assert_eq!(lengths(0, 7), [52, 0]);
     for (w, n) in [(1 << 32, 1 << 32), (usize::MAX, 1), (1, usize::MAX / 8)] {
         assert_eq!(lengths(w, n)[0], usize::MAX, "{w} {n}");
     }
@@ -98,11 +98,58 @@ fn seven_tags_in_every_order_of_small_grids() {
     }
 }
 
+/// One cell with a barrier on its west edge.
+fn barred_cell() -> State {
+    State {
+        u: vec![0],
+        barriers: vec![1],
+        ..Case::example_2().state()
+    }
+}
+
 #[test]
 fn eight_tags_in_every_order() {
-    let state = Case::example_2().state();
-    let mut fields = record_fields(&state, TIMESTAMP);
-    assert_eq!(every_order_reads(&state, TIMESTAMP, &mut fields), 40_320);
+    let (open, barred) = (Case::example_2().state(), barred_cell());
+    let whole = moment(TIMESTAMP.seconds, 0);
+    for (lacking, state, time) in [(8, open, TIMESTAMP), (7, barred, whole)] {
+        let mut fields = record_fields(&state, time);
+        fields.remove(lacking);
+        assert_eq!(every_order_reads(&state, time, &mut fields), 40_320);
+    }
+}
+
+/// By the library alone, for the time that so many take.
+#[test]
+fn nine_tags_in_every_order() {
+    let state = barred_cell();
+    let rising = written(&state, TIMESTAMP, "an order");
+    let p = basin::Parameters {
+        w: 1,
+        n: 1,
+        kind: 0,
+        g: 9_810,
+        c: 10,
+        r: 1_000,
+    };
+    let told = basin::Read {
+        parameters: p,
+        timestamp: timestamp(TIMESTAMP),
+    };
+    let mut orders = 0;
+    every_order(&mut record_fields(&state, TIMESTAMP), 0, &mut |fields| {
+        let record = fields.concat();
+        let [mut h, mut b, mut u, mut v] = [[7]; 4];
+        let mut barriers = [7];
+        let read = basin::read(&record, &mut h, &mut b, &mut u, &mut v, &mut barriers);
+        assert_eq!(read, Ok(told), "{}", hex(&record));
+        let filled = (h, b, u, v, barriers);
+        let expected = ([2_000], [0], [0], [-50], [1]);
+        assert_eq!(filled, expected, "{}", hex(&record));
+        let same = basin::compare(&rising, &record);
+        assert_eq!(same, Ok(basin::Comparison::Same), "{}", hex(&record));
+        orders += 1;
+    });
+    assert_eq!(orders, 362_880);
 }
 
 #[test]
@@ -128,7 +175,7 @@ fn records_of_every_size_are_written_and_read_to_the_last_cell() {
 
             // A place too few for the last cell, in one field.
             let mut short = lent;
-            short.fields[random.below(4)] = w * n - 1;
+            short.fields[random.below(5)] = w * n - 1;
             expect_read(&record, short, &[8], "a last place");
             // Its number outside, and velocities on the last closed edges.
             let refused = |random: &mut Random, (which, cell), number: i64, told: u64| {
@@ -143,6 +190,11 @@ fn records_of_every_size_are_written_and_read_to_the_last_cell() {
             let (low, high) = BOUNDS[which];
             let past = random.pick(&[low - 1, high + 1]);
             refused(&mut random, (which, w * n - 1), past, 4);
+            let mut barred = state.clone();
+            barred.barriers[w * n - 1] = random.pick(&[4, 255]);
+            let barred = shuffled(&mut random, &barred, timestamp);
+            let told = [4, BARRIERS as u64, (w * n - 1) as u64];
+            expect_read(&barred, lent, &told, "a last barrier");
             if kind == 2 {
                 refused(&mut random, (U, (n - 1) * w), -1, 5);
             }
@@ -164,32 +216,41 @@ fn records_of_every_size_are_written_and_read_to_the_last_cell() {
 fn what_was_written_reads_back_and_what_was_read_writes_back() {
     let seed = 63;
     let mut random = Random::new(seed);
-    // By kind; with tags that rise; without tag 8; with every constant at a bound.
-    let (mut kinds, mut rising_tags, mut old, mut at_bounds) = ([0; 3], 0, 0, 0);
+    // By kind; with tags that rise; without tag 8 or 9; with barriers; with every
+    // constant at a bound.
+    let (mut kinds, mut rising_tags, mut old) = ([0; 3], 0, 0);
+    let (mut barred, mut at_bounds) = (0, 0);
     for number in 0..12_000 {
         let at = format!("seed {seed}, case {number}");
         let state = any_state(&mut random);
         let timestamp = random_timestamp(&mut random);
         let rising = written(&state, timestamp, &at);
-        let record = shuffled(&mut random, &state, timestamp);
+        let mut fields = some_fields(&mut random, &state, timestamp);
+        if random.once_in(4) {
+            rising_tags += 1;
+        } else {
+            shuffle(&mut random, &mut fields);
+        }
+        let record = fields.concat();
         let lent = Lent::any(&mut random, state.h.len());
         for record in [&rising, &record] {
             let outcome = compare_read(record, lent, &at);
             let read = outcome.state().expect("it was written so");
             assert_eq!(read, (state.clone(), timestamp), "{at}: {}", hex(record));
-            // From another order the tags rise again, and tag 8 is there.
+            // From another order the tags rise again, and tags 8 and 9 are there.
             assert_eq!(written(&read.0, read.1, &at), rising, "{at}");
         }
         kinds[usize::from(state.parameters.kind)] += 1;
-        rising_tags += usize::from(rising.starts_with(&record));
         old += usize::from(record.len() < rising.len());
+        barred += usize::from(state.barriers.iter().any(|&barrier| barrier != 0));
         let Parameters { g, c, r, .. } = state.parameters;
         let ends = [1, 10_000].contains(&g) && c.abs() == 10_000;
         at_bounds += usize::from(ends && [1_000, 1_000_000].contains(&r));
     }
-    println!("{kinds:?} {rising_tags} {old} {at_bounds}");
+    println!("{kinds:?} {rising_tags} {old} {barred} {at_bounds}");
     assert!(kinds.iter().all(|&k| k > 3_000), "{kinds:?}");
-    assert!(at_bounds > 2_000 && rising_tags > 0 && old > 2_000);
+    let often = [rising_tags, old, barred, at_bounds];
+    assert!(often.iter().all(|&k| k > 2_000), "{often:?}");
 }
 
 #[test]
@@ -226,9 +287,12 @@ fn constants_and_answers_are_set_or_kept_whatever_stood_there() {
         good.clone(),
         with(|s| s.parameters.kind = 3),
         with(|s| s.b.push(0)),
+        with(|s| s.barriers.clear()),
         with(|s| s.parameters.c = 10_001),
         with(|s| s.u[1] = 5_001),
+        with(|s| s.barriers[1] = 4),
         with(|s| s.parameters.kind = 2),
+        with(|s| s.barriers[1] = 3),
         good[..60].to_vec(),
         record_of(&two_cells(), moment(5, 1_000)),
     ];
@@ -320,6 +384,14 @@ fn neighbours() -> Vec<State> {
             }
         }
     }
+    // Barriers where nothing flows.
+    for (cell, barrier) in (0..6).flat_map(|cell| [1, 2, 3].map(|barrier| (cell, barrier))) {
+        let mut state = basin();
+        state.barriers[cell] = barrier;
+        if within_limits(&state) {
+            neighbours.push(state);
+        }
+    }
     neighbours
 }
 
@@ -377,22 +449,26 @@ fn the_first_record_is_tested_wholly_before_the_second() {
         };
         let whole = good(time);
         let late = moment(time, 1_000);
-        let records: [(Vec<u8>, &[u64]); 15] = [
+        let records: [(Vec<u8>, &[u64]); 19] = [
             (vec![], &[7, 0]),
             (whole[..1].to_vec(), &[7, 0]),
             (whole[..115].to_vec(), &[7, 101]),
             (whole[..120].to_vec(), &[7, 116]),
-            ([&whole[..], &[1]].concat(), &[7, 121]),
+            (whole[..129].to_vec(), &[7, 121]),
+            ([&whole[..], &[1]].concat(), &[7, 130]),
             (whole[..101].to_vec(), &[7, 101]),
             (record_of(&basin(), late), &[9]),
             (with(|s| s.parameters.n = 65), &[1]),
             (with(|s| s.u.push(0)), &[2]),
+            (with(|s| s.barriers.clear()), &[2]),
             (with(|s| s.parameters.r = 999), &[3]),
             (with(|s| s.parameters.g = 10_001), &[3]),
             (with(|s| s.v[5] = -5_001), &[4, 3, 5]),
             (with(|s| s.h[3] = 999), &[4, 0, 3]),
+            (with(|s| s.barriers[3] = 4), &[4, 6, 3]),
             (with(|s| s.u[3] = 1), &[5, 2, 3]),
             (with(|s| s.v[2] = -1), &[5, 3, 2]),
+            (with(|s| s.barriers[4] = 2), &[5, 3, 4]),
         ];
         records.map(|(record, told)| (record, told.to_vec()))
     };
@@ -412,7 +488,7 @@ fn the_first_record_is_tested_wholly_before_the_second() {
             }
         }
     }
-    assert_eq!(pairs, 9 * 15 * 15);
+    assert_eq!(pairs, 9 * 19 * 19);
 }
 
 #[test]
@@ -425,11 +501,12 @@ fn random_pairs_are_compared_alike_and_the_other_way_round() {
         let first = any_state(&mut random);
         let mut second = first.clone();
         if random.once_in(2) {
-            // One number moved, where it may be.
-            let which = random.below(4);
-            let numbers = field(&mut second, which);
-            let cell = random.below(numbers.len());
-            numbers[cell] += random.pick(&[-1, 1, 256, -256, 2_048]);
+            // One number moved, or a barrier, where it may be.
+            let (which, cell) = (random.below(5), random.below(second.h.len()));
+            match which {
+                4 => second.barriers[cell] ^= random.pick(&[1, 2, 3]),
+                _ => field(&mut second, which)[cell] += random.pick(&[-1, 1, 256, -256, 2_048]),
+            }
             if !within_limits(&second) {
                 second = first.clone();
             }
@@ -468,7 +545,7 @@ struct Coverage {
     /// 7 at the front, within, and at the record's length.
     damage: [usize; 3],
     /// 4 and 5 by field.
-    fields: [[usize; 4]; 2],
+    fields: [[usize; 7]; 2],
     /// Comparisons by answer, and by refused record, then number.
     answers: [usize; 4],
     refused: [[usize; NUMBERS]; 2],
@@ -510,8 +587,10 @@ impl Coverage {
             often(&self.read[number..=number], 2_000, "reads");
         }
         often(&self.damage, 2_000, "damage");
-        often(&self.fields[0], 500, "a 4 by field");
-        often(&self.fields[1][U..], 500, "a 5 by field");
+        let [values, edges] = self.fields;
+        often(&values[..=V], 500, "a 4 by field");
+        often(&values[BARRIERS..], 500, "a 4 of the barriers");
+        often(&edges[U..=V], 500, "a 5 by field");
         often(&self.answers, 500, "answers");
         for number in [1, 2, 3, 4, 5, 7, 9] {
             for refused in self.refused {
@@ -539,7 +618,7 @@ fn records_changed_at_random_are_answered_alike() {
             } = Changed::random(&mut random);
             let mut lent = Lent::any(&mut random, cells);
             if random.once_in(12) {
-                lent.fields[random.below(4)] = random.below(cells + 1);
+                lent.fields[random.below(5)] = random.below(cells + 1);
             }
 
             let at = format!("seed {seed}, case {number}");

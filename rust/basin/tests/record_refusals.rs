@@ -9,26 +9,40 @@
 //! As in record.rs, all that is told and all that is lent is compared.
 
 use crate::cases::calls::UNANSWERED;
-use crate::cases::common::{first_told, record_field, record_fields, record_of, two_cells};
-use crate::cases::common::{Random, NUMBERS, TESTED_IN_READ};
-use crate::cases::records::{basin, TAG_8, TIMESTAMP};
+use crate::cases::causes;
+use crate::cases::common::{first_told, record_field, record_fields, record_of, shuffle, shuffled};
+use crate::cases::common::{two_cells, two_cells_and_a_barrier, Random, NUMBERS, TESTED_IN_READ};
+use crate::cases::records::{basin, TIMESTAMP};
 use crate::cases::records::{
     compare_pair, compare_read, expect_read, expect_refused, expect_state,
 };
-use crate::cases::records::{field, hex, of_record, shuffle, shuffled, told_for, Lent};
-use crate::cases::{BOUNDS, U, V};
+use crate::cases::records::{field, hex, of_record, told_for, Lent};
+use crate::cases::{Case, BARRIERS, BOUNDS, U, V};
 use reference::{Parameters, State, Timestamp};
 
 // ---- damage
 
-/// The fields of the two cells' record, rising, falling, in a third order, and in
-/// a fourth without tag 8.
+/// The fields of a record of two cells and a barrier, rising, falling, in a third
+/// order without tag 9, and in a fourth without tag 8.
 fn four_orders() -> [Vec<Vec<u8>>; 4] {
-    let rising = record_fields(&two_cells(), TIMESTAMP);
+    let rising = record_fields(&two_cells_and_a_barrier(), TIMESTAMP);
     let falling = rising.iter().rev().cloned().collect();
     let third = [3, 6, 0, 4, 7, 2, 5, 1].map(|k: usize| rising[k].clone());
-    let fourth = [2, 0, 5, 6, 1, 3, 4].map(|k: usize| rising[k].clone());
+    let fourth = [2, 0, 5, 8, 6, 1, 3, 4].map(|k: usize| rising[k].clone());
     [rising, falling, third.to_vec(), fourth.to_vec()]
+}
+
+/// What these fields say of the state, which has that tag 9 or no barriers, and of
+/// the time.
+fn said_by(fields: &[Vec<u8>], state: &State) -> (State, Timestamp) {
+    let (mut state, mut time) = (state.clone(), TIMESTAMP);
+    if fields.iter().all(|field| field[0] != 8) {
+        time.milliseconds = 0;
+    }
+    if fields.iter().all(|field| field[0] != 9) {
+        state.barriers.fill(0);
+    }
+    (state, time)
 }
 
 /// The length of a value that has but one.
@@ -44,10 +58,12 @@ fn fixed_length(tag: u8) -> Option<usize> {
 
 #[test]
 fn a_record_cut_off_anywhere_is_refused() {
-    // Cut off within a field, and between two; and before a tag 8 that is last.
+    // Cut off within a field, and between two; and before a tag 8 or 9 that is
+    // last, or both.
     let mut cuts = [0; 3];
-    let larger = record_fields(&basin(), TIMESTAMP);
-    for fields in four_orders().into_iter().chain([larger]) {
+    let orders = four_orders().map(|fields| (fields, two_cells_and_a_barrier()));
+    let larger = (record_fields(&basin(), TIMESTAMP), basin());
+    for (fields, state) in orders.into_iter().chain([larger]) {
         // Each field is the last of some record.
         for turn in 0..fields.len() {
             let mut fields = fields.clone();
@@ -64,11 +80,13 @@ fn a_record_cut_off_anywhere_is_refused() {
             starts.push(start);
             for length in 0..record.len() {
                 // Where a tag is missing, the length is told.
-                let offset = starts.iter().filter(|&&start| start <= length).max();
-                let offset = *offset.expect("0 is one");
-                if record[length] == 8 && length + TAG_8 == record.len() {
-                    let told = compare_read(&record[..length], Lent::enough(6), "no tag 8").told;
-                    assert_eq!(told[4..], [TIMESTAMP.seconds, 0], "{}", hex(&record));
+                let count = starts.iter().filter(|&&start| start <= length).count() - 1;
+                let offset = starts[count];
+                let (left, lost) = fields.split_at(count);
+                if offset == length && lost.iter().all(|field| field[0] >= 8) {
+                    let (state, time) = said_by(left, &state);
+                    let lent = Lent::enough(6);
+                    expect_state(&record[..length], lent, (&state, time), "no tag");
                     cuts[2] += 1;
                     continue;
                 }
@@ -78,7 +96,8 @@ fn a_record_cut_off_anywhere_is_refused() {
         }
     }
     println!("{cuts:?}");
-    assert_eq!(cuts[1..], [4 * 8 * 8 + 7 * 7 - 4, 4]);
+    // Of nine fields three cuts are accepted: before 8, before 9, before both.
+    assert_eq!(cuts[1..], [3 * 9 * 9 + 2 * 8 * 8 - 11, 3 * 3 + 2]);
     assert!(cuts[0] > 2_000, "{cuts:?}");
 }
 
@@ -137,11 +156,11 @@ fn every_bit_flipped_and_every_byte_set_to_any() {
         }
     }
     println!("{met:?}");
-    assert_eq!(met[0].iter().sum::<usize>(), 8 * (3 * 73 + 68 + 121));
-    assert_eq!(met[1].iter().sum::<usize>(), 256 * (3 * 73 + 68));
+    assert_eq!(met[0].iter().sum::<usize>(), 8 * (2 * 78 + 2 * 73 + 130));
+    assert_eq!(met[1].iter().sum::<usize>(), 256 * (2 * 78 + 2 * 73));
     for met in met {
         assert!([0, 1, 3, 4, 7].iter().all(|&k| met[k] > 40), "{met:?}");
-        assert!(met[9] > 10, "{met:?}");
+        assert!(met[5] > 10 && met[9] > 10, "{met:?}");
     }
 }
 
@@ -166,13 +185,13 @@ fn a_byte_taken_out_or_put_in_anywhere() {
             }
         }
     }
-    assert_eq!(refused, (3 * 74 + 69) * 256);
+    assert_eq!(refused, (2 * 79 + 2 * 74) * 256);
 }
 
 #[test]
 fn an_unknown_tag_is_refused_at_every_place() {
     for fields in four_orders() {
-        for tag in (0..=255).filter(|tag| !(1..=8).contains(tag)) {
+        for tag in (0..=255).filter(|tag| !(1..=9).contains(tag)) {
             for place in 0..=fields.len() {
                 let offset = fields[..place].concat().len() as u64;
                 // For a field, and between two.
@@ -262,8 +281,8 @@ fn huge_lengths_are_refused_at_every_place() {
                 let mut record = fields.concat();
                 record[offset + 1..offset + 3].copy_from_slice(&u16::to_be_bytes(length));
                 expect_refused(&record, &[7, offset as u64], "a huge length");
-                // The same with the bytes that it asks for: of h, b, u and v it
-                // is a 2.
+                // The same with the bytes that it asks for: of h, b, u, v and the
+                // barriers it is a 2.
                 let mut whole = fields.clone();
                 let tag = fields[place][0];
                 whole[place] = record_field(tag, &vec![0; length.into()]);
@@ -276,17 +295,17 @@ fn huge_lengths_are_refused_at_every_place() {
         }
     }
     // As long as a record can be that is damaged nowhere, and then damaged at
-    // its end. Tag 8, which it could do without, goes to the front.
+    // its end. Tags 8 and 9, which it could do without, go to the front.
     let mut fields = record_fields(&two_cells(), TIMESTAMP);
-    for field in &mut fields[3..7] {
-        *field = record_field(field[0], &[0; 0xFFFF]);
+    for place in [3, 4, 5, 6, 8] {
+        fields[place] = record_field(place as u8 + 1, &[0; 0xFFFF]);
     }
-    fields.rotate_right(1);
+    fields.rotate_right(2);
     let mut record = fields.concat();
     expect_refused(&record, &[2], "the longest");
     let length = record.len() as u64;
-    assert_eq!(length, 49 + 4 * 0xFFFF);
-    let last = fields.pop().expect("eight");
+    assert_eq!(length, 52 + 5 * 0xFFFF);
+    let last = fields.pop().expect("nine");
     expect_refused(&fields.concat(), &[7, length - 3 - 0xFFFF], "no last field");
     fields.push(last);
     record.push(1);
@@ -330,8 +349,8 @@ fn missing_tags_are_refused_at_the_records_length() {
                 .filter(|k| set >> k & 1 == 1)
                 .map(|k| fields[k].clone())
                 .collect();
-            // Tag 8 is not missed.
-            if some.iter().filter(|field| field[0] != 8).count() == 7 {
+            // Tags 8 and 9 are not missed.
+            if some.iter().filter(|field| field[0] < 8).count() == 7 {
                 continue;
             }
             for _ in 0..3 {
@@ -385,7 +404,7 @@ fn of_two_damages_the_first_in_the_record_is_told() {
             }
         }
     }
-    assert_eq!(pairs, (3 * 21 + 15) * 3 * 4);
+    assert_eq!(pairs, (2 * 28 + 2 * 21) * 3 * 4);
 }
 
 // ---- refusals 1, 2, 8, 3, 4, 5, and the order of all
@@ -413,6 +432,7 @@ fn every_width_height_and_kind_is_known_or_not() {
                         b: vec![0; cells],
                         u: vec![0; cells],
                         v: vec![0; cells],
+                        barriers: vec![0; cells],
                     };
                     let record = record_of(&state, 5);
                     let good = known(w) && known(n) && kind < 3;
@@ -442,16 +462,16 @@ fn every_width_height_and_kind_is_known_or_not() {
 #[test]
 fn values_of_other_lengths_than_the_grids_are_a_2() {
     let mut random = Random::new(65);
-    for state in [two_cells(), basin()] {
-        for which in 0..4 {
-            let bytes = [4, 4, 2, 2][which];
+    for state in [two_cells_and_a_barrier(), basin()] {
+        for (tag, bytes) in [(4, 4), (5, 4), (6, 2), (7, 2), (9, 1)] {
             let right = bytes * state.h.len();
             let lengths = (0..=2 * right + 4).chain([256 + right, 0x8000, 0xFFFF]);
             for length in lengths {
                 let mut fields = record_fields(&state, TIMESTAMP);
-                let mut value = fields[3 + which][3..].to_vec();
+                let field = &mut fields[usize::from(tag) - 1];
+                let mut value = field[3..].to_vec();
                 value.resize(length, 0);
-                fields[3 + which] = record_field(4 + which as u8, &value);
+                *field = record_field(tag, &value);
                 shuffle(&mut random, &mut fields);
                 let record = fields.concat();
                 if length == right {
@@ -466,6 +486,7 @@ fn values_of_other_lengths_than_the_grids_are_a_2() {
         for cells in [0, state.h.len() - 1, state.h.len() + 1, 100] {
             let mut other = state.clone();
             (0..4).for_each(|which| field(&mut other, which).resize(cells, 1_000));
+            other.barriers.resize(cells, 0);
             expect_refused(&record_of(&other, 1), &[2], "lengths");
         }
     }
@@ -473,9 +494,9 @@ fn values_of_other_lengths_than_the_grids_are_a_2() {
 
 #[test]
 fn destinations_of_fewer_places_are_refused() {
-    for (state, cells) in [(two_cells(), 2), (basin(), 6)] {
+    for (state, cells) in [(two_cells_and_a_barrier(), 2), (basin(), 6)] {
         let record = record_of(&state, TIMESTAMP);
-        for which in 0..4 {
+        for which in 0..5 {
             for length in 0..=2 * cells + 1 {
                 for others in [0, cells - 1, cells, cells + 1, 3 * cells] {
                     let mut lent = Lent::enough(others);
@@ -591,6 +612,7 @@ fn closed_edges_are_those_of_01() {
                 b: vec![0; w * n],
                 u: vec![0; w * n],
                 v: vec![0; w * n],
+                barriers: vec![0; w * n],
             };
             for which in [U, V] {
                 for cell in 0..w * n {
@@ -619,118 +641,58 @@ fn closed_edges_are_those_of_01() {
     }
 }
 
-/// A cause of refusal that can be put into the basin of 3 by 2 cells, or into
-/// its record.
+/// A cause of refusal that can be put into the basin of 3 by 2 cells, into its
+/// record, or into what is lent.
 #[derive(Clone, Copy, Debug, PartialEq)]
 enum Cause {
+    State(causes::Cause),
     /// A byte past the record.
     Damage,
     /// A field of an unknown tag at the front.
     DamageInFront,
-    Columns(usize),
-    Rows(usize),
-    Kind(u8),
-    /// A field of so many numbers.
-    Length(usize, usize),
     /// A destination of so many places.
     Destination(usize, usize),
-    Gravity(i64),
-    Coriolis(i64),
-    Ratio(i64),
-    Milliseconds(u64),
-    /// A number outside, in this field at this cell.
-    Value(usize, usize, i64),
-    /// A velocity on a closed edge, in this field at this cell.
-    Edge(usize, usize),
 }
+
+use causes::Cause::{Barred, Columns, Edge, Length, Milliseconds, Ratio, Value};
+use Cause::{Damage, DamageInFront, Destination, State as In};
+
+/// The fields of a state.
+const FIELDS: [usize; 5] = [0, 1, U, V, BARRIERS];
 
 impl Cause {
     fn all() -> Vec<Self> {
-        let mut causes = vec![Cause::Damage, Cause::DamageInFront];
-        for side in [0, 65, 255] {
-            causes.extend([Cause::Columns(side), Cause::Rows(side)]);
+        let mut causes = vec![Damage, DamageInFront];
+        causes.extend(causes::Cause::of(&FIELDS).into_iter().map(In));
+        causes.extend([1_000, 0xFFFF].map(|above| In(Milliseconds(above))));
+        for which in 0..5 {
+            causes.extend([0, 5].map(|length| Destination(which, length)));
         }
-        // Known, but the lengths do not fit: a 2.
-        causes.extend([Cause::Columns(2), Cause::Rows(4)]);
-        causes.extend([3, 255].map(Cause::Kind));
-        for which in 0..4 {
-            causes.extend([0, 5, 7].map(|length| Cause::Length(which, length)));
-            causes.extend([0, 5].map(|length| Cause::Destination(which, length)));
-        }
-        causes.extend([0, 10_001].map(Cause::Gravity));
-        causes.extend([-10_001, 10_001].map(Cause::Coriolis));
-        causes.extend([999, 1_000_001].map(Cause::Ratio));
-        causes.extend([1_000, 0xFFFF].map(Cause::Milliseconds));
-        for (which, (low, high)) in BOUNDS[..4].iter().enumerate() {
-            for cell in [0, 2, 5] {
-                causes.extend([low - 1, high + 1].map(|x| Cause::Value(which, cell, x)));
-            }
-        }
-        causes.extend([0, 3].map(|cell| Cause::Edge(U, cell)));
-        causes.extend([0, 1, 2].map(|cell| Cause::Edge(V, cell)));
         causes
     }
-
-    fn put(self, to: &mut Caused) {
-        let Caused {
-            state,
-            time,
-            lent,
-            damage,
-        } = to;
-        let mut put = |which: usize, cell: usize, x| {
-            // A shortened field may not have the cell.
-            if let Some(place) = field(state, which).get_mut(cell) {
-                *place = x;
-            }
-        };
-        match self {
-            Cause::Damage => damage[0] = true,
-            Cause::DamageInFront => damage[1] = true,
-            Cause::Value(which, cell, x) => put(which, cell, x),
-            Cause::Edge(which, cell) => put(which, cell, 1),
-            Cause::Columns(w) => state.parameters.w = w,
-            Cause::Rows(n) => state.parameters.n = n,
-            Cause::Kind(kind) => state.parameters.kind = kind,
-            Cause::Length(which, length) => field(state, which).resize(length, BOUNDS[which].0),
-            Cause::Destination(which, length) => lent.fields[which] = length,
-            Cause::Gravity(g) => state.parameters.g = g,
-            Cause::Coriolis(c) => state.parameters.c = c,
-            Cause::Ratio(r) => state.parameters.r = r,
-            Cause::Milliseconds(above) => time.milliseconds = above,
-        }
-    }
-}
-
-/// What causes are put into.
-struct Caused {
-    state: State,
-    time: Timestamp,
-    lent: Lent,
-    /// A byte past the record, and a field of an unknown tag at the front.
-    damage: [bool; 2],
 }
 
 /// What these causes make of the basin: its record in this order, and what is
 /// lent.
-fn with(causes: &[Cause], order: &[usize; 8]) -> (Vec<u8>, Lent) {
-    let mut caused = Caused {
-        state: basin(),
-        time: TIMESTAMP,
-        lent: Lent::enough(6),
-        damage: [false; 2],
-    };
-    causes.iter().for_each(|cause| cause.put(&mut caused));
-    let fields = record_fields(&caused.state, caused.time);
+fn with(causes: &[Cause], order: &[usize; 9]) -> (Vec<u8>, Lent) {
+    let (mut case, mut lent) = (Case::basin(), Lent::enough(6));
+    case.timestamp = TIMESTAMP;
+    for &cause in causes {
+        match cause {
+            In(cause) => cause.put(&mut case),
+            Destination(which, length) => lent.fields[which] = length,
+            Damage | DamageInFront => {}
+        }
+    }
+    let fields = record_fields(&case.state(), case.timestamp);
     let mut record = order.map(|k| fields[k].clone()).concat();
-    let [byte_past, in_front] = caused.damage;
-    if in_front {
+    if causes.contains(&DamageInFront) {
         record.splice(0..0, record_field(0, &[]));
     }
-    if byte_past {
+    if causes.contains(&Damage) {
         record.push(1);
     }
-    (record, caused.lent)
+    (record, lent)
 }
 
 #[test]
@@ -742,8 +704,8 @@ fn of_two_causes_the_first_of_7_1_2_8_3_9_4_5_is_told() {
     let mut met = [[0; NUMBERS]; NUMBERS];
     for &one in &causes {
         for &other in &causes {
-            let mut order = [0, 1, 2, 3, 4, 5, 6, 7];
-            for k in (1..8).rev() {
+            let mut order = [0, 1, 2, 3, 4, 5, 6, 7, 8];
+            for k in (1..9).rev() {
                 order.swap(k, random.below(k + 1));
             }
             let (record, lent) = with(&[one, other], &order);
@@ -788,26 +750,32 @@ fn of_two_causes_the_first_of_7_1_2_8_3_9_4_5_is_told() {
 fn every_cause_of_a_basin_goes_in_the_order_7_1_2_8_3_9_4_5() {
     // Bad in every way; each cause is then taken away in turn.
     let causes = [
-        (Cause::DamageInFront, vec![7, 0]),
-        (Cause::Columns(0), vec![1]),
-        (Cause::Length(3, 7), vec![2]),
-        (Cause::Destination(3, 5), vec![8]),
-        (Cause::Ratio(999), vec![3]),
-        (Cause::Milliseconds(1_000), vec![9]),
-        (Cause::Value(0, 5, 100_001), vec![4, 0, 5]),
-        (Cause::Value(1, 4, -1), vec![4, 1, 4]),
-        (Cause::Value(2, 1, 5_001), vec![4, 2, 1]),
-        (Cause::Value(3, 4, -5_001), vec![4, 3, 4]),
-        (Cause::Edge(U, 0), vec![5, 2, 0]),
-        (Cause::Edge(U, 3), vec![5, 2, 3]),
-        (Cause::Edge(V, 0), vec![5, 3, 0]),
-        (Cause::Edge(V, 2), vec![5, 3, 2]),
+        (DamageInFront, vec![7, 0]),
+        (In(Columns(0)), vec![1]),
+        (In(Length(V, 7)), vec![2]),
+        (In(Length(BARRIERS, 0)), vec![2]),
+        (Destination(3, 5), vec![8]),
+        (Destination(4, 5), vec![8]),
+        (In(Ratio(999)), vec![3]),
+        (In(Milliseconds(1_000)), vec![9]),
+        (In(Value(0, 5, 100_001)), vec![4, 0, 5]),
+        (In(Value(1, 4, -1)), vec![4, 1, 4]),
+        (In(Value(U, 1, 5_001)), vec![4, 2, 1]),
+        (In(Value(V, 4, -5_001)), vec![4, 3, 4]),
+        (In(Value(BARRIERS, 1, 255)), vec![4, 6, 1]),
+        (In(Value(BARRIERS, 4, 4)), vec![4, 6, 4]),
+        (In(Edge(U, 0)), vec![5, 2, 0]),
+        (In(Barred(U, 2)), vec![5, 2, 2]),
+        (In(Edge(U, 3)), vec![5, 2, 3]),
+        (In(Edge(V, 0)), vec![5, 3, 0]),
+        (In(Edge(V, 2)), vec![5, 3, 2]),
+        (In(Barred(V, 5)), vec![5, 3, 5]),
     ];
     let orders = [
-        [0, 1, 2, 3, 4, 5, 6, 7],
-        [7, 6, 5, 4, 3, 2, 1, 0],
-        [5, 6, 3, 7, 4, 2, 0, 1],
-        [4, 3, 6, 5, 1, 2, 7, 0],
+        [0, 1, 2, 3, 4, 5, 6, 7, 8],
+        [8, 7, 6, 5, 4, 3, 2, 1, 0],
+        [5, 6, 3, 7, 4, 2, 8, 0, 1],
+        [4, 3, 8, 6, 5, 1, 2, 7, 0],
     ];
     for order in orders {
         for taken in 0..=causes.len() {

@@ -2,7 +2,7 @@
 //! worked examples (their refusals are in comparison.rs), fields at their bounds
 //! in eight patterns each, and random grids. In these one tendency is then put
 //! off by one: the energy rate shows it always in dh and mostly in du and dv,
-//! the enstrophy rate, where there is no wall, mostly in each of the three.
+//! the enstrophy rate, where no edge is closed, mostly in each of the three.
 //!
 //! Every comparison is with the independent version, and every accepted one of
 //! tendencies asks for the rates that are 0 ([`cases::calls`]).
@@ -72,6 +72,7 @@ fn example_8_greatest_vorticity() {
         vec![0; 4],
         vec![0; 4],
     ];
+    case.barriers = vec![0; 4];
     case.destinations = [4; 3];
     let [q, ..] = filled(&case, Call::PotentialVorticity, "example 8");
     assert_eq!(q[0], 1_966_080);
@@ -187,14 +188,14 @@ fn the_largest_totals() {
 // ---- random grids
 
 #[test]
-fn random_grids_keep_energy_and_without_walls_enstrophy() {
+fn random_grids_keep_energy_and_without_closed_edges_enstrophy() {
     let (mut grids, mut lent_own) = (0, 0);
-    // Enstrophy rates other than 0, by kind.
-    let mut changing = [0; 3];
+    // Enstrophy rates other than 0: without closed edges, and with some by kind.
+    let mut changing = [0; 4];
     // Of tendencies off by one, in dh, du, dv: how many; seen by the energy
-    // rate; of kind 0; seen by the enstrophy rate.
+    // rate; without closed edges; seen by the enstrophy rate.
     let mut off_by_one = [[0; 4]; 3];
-    for (kind, changing) in changing.iter_mut().enumerate() {
+    for kind in 0..3 {
         let seed = 31 + kind as u64;
         let mut random = Random::new(seed);
         for number in 0..2_000 {
@@ -211,13 +212,14 @@ fn random_grids_keep_energy_and_without_walls_enstrophy() {
             let tendencies = filled(&case, Call::Tendencies, &at);
             totals(&case, &at);
             for (field, numbers) in [(U, &tendencies[1]), (V, &tendencies[2])] {
-                let closed = (0..cells).filter(|&cell| case.is_closed(field, cell));
+                let closed = case.closed(field).into_iter();
                 let moving = closed.filter(|&cell| numbers[cell] != 0).count();
                 assert_eq!(moving, 0, "{at}: {case:?}");
             }
             grids += 1;
+            let open = case.is_open();
             let (_, enstrophy) = rates(&case, &tendencies);
-            *changing += usize::from(enstrophy != 0);
+            changing[if open { 0 } else { 1 + kind }] += usize::from(enstrophy != 0);
 
             let mut wrong = tendencies;
             let (which, cell) = (random.below(3), random.below(cells));
@@ -225,7 +227,6 @@ fn random_grids_keep_energy_and_without_walls_enstrophy() {
             let (energy, enstrophy) = rates(&case, &wrong);
             // The Bernoulli function is above 0, a flux need not be.
             assert!(which != 0 || energy != 0, "{at}: {case:?}");
-            let open = kind == 0;
             let seen = [true, energy != 0, open, open && enstrophy != 0];
             add(&mut off_by_one[which], seen);
         }
@@ -237,6 +238,6 @@ fn random_grids_keep_energy_and_without_walls_enstrophy() {
     assert!(changing[1..].iter().all(|&k| k > 500), "{changing:?}");
     for [times, by_energy, open, by_enstrophy] in off_by_one {
         assert!(times > 1_500 && by_energy * 2 > times, "{off_by_one:?}");
-        assert!(open > 500 && by_enstrophy * 2 > open, "{off_by_one:?}");
+        assert!(open > 250 && by_enstrophy * 2 > open, "{off_by_one:?}");
     }
 }

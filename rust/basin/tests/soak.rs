@@ -1,8 +1,8 @@
 //! Load and faults: random calls of the whole library, one after another, each
 //! compared with the independent version in all that is told and all that is
 //! lent, refused calls too, with fences beside every slice ([`cases`]). About
-//! half of the calls have a fault or two. Some come in lists on one state, over
-//! which the balance of total depth is taken.
+//! half of the calls have a fault or two, and half of the states barriers. Some
+//! come in lists on one state, over which the balance of total depth is taken.
 //!
 //! A short one is part of every test run. The long one, of ten million calls,
 //! takes some minutes, from a seed of its own each time; `SOAK=5` makes five
@@ -45,6 +45,8 @@ struct Soak {
     lists: u64,
     steps: u64,
     moved: [u64; 3],
+    /// Calls on a state without barriers, and with some.
+    barred: [u64; 2],
 }
 
 // ---- calls
@@ -56,6 +58,8 @@ impl Soak {
 
     fn call(&mut self, case: &Case, call: Call, at: &str) -> calls::Outcome {
         let outcome = calls::compare(case, call, at);
+        let barred = case.barriers.iter().any(|&barrier| barrier != 0);
+        self.barred[usize::from(barred)] += 1;
         self.told[call as usize][outcome.told[0] as usize] += 1;
         outcome
     }
@@ -128,7 +132,7 @@ impl Soak {
         let (record, good) = (&changed.record, &changed.good);
         let mut lent = Lent::any(random, changed.cells);
         if random.once_in(8) {
-            lent.fields[random.below(4)] = random.below(changed.cells + 1);
+            lent.fields[random.below(5)] = random.below(changed.cells + 1);
         }
         self.read(record, lent, at);
         let answer = any_numbers(random);
@@ -274,6 +278,8 @@ impl Soak {
             assert!(numbers(call).iter().all(enough), "{}", self.table());
         }
         assert!(self.moved.iter().all(|&lists| lists >= least));
+        let [open, barred] = self.barred;
+        assert!(barred * 3 > open && open * 3 > barred, "{open} {barred}");
     }
 
     /// Calls by the number that was told, of those that were.

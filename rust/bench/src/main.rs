@@ -16,7 +16,8 @@ mod common;
 use std::hint::black_box;
 use std::time::{Duration, Instant};
 
-use common::{clear_closed_edges, numbers, random_q, random_state, written, Random, Spread};
+use common::{clear_closed_edges, numbers, random_q, random_state_without_barriers, written};
+use common::{Random, Spread};
 use reference::{CompareAnswer, FillAnswer, ReadAnswer, TotalAnswer, WriteAnswer};
 use reference::{Parameters, RunAnswer, State, StepAnswer};
 
@@ -98,14 +99,14 @@ macro_rules! call {
 #[rustfmt::skip]
 const CALLS: [Call; 8] = [
     Call { steps: 1,
-           ..call!("step", |l| step(&mut l.h, &l.b, &mut l.u, &mut l.v, &l.inflow, &mut l.work)) },
+           ..call!("step", |l| step(&mut l.h, &l.b, &mut l.u, &mut l.v, &l.barriers, &l.inflow, &mut l.work)) },
     Call { steps: 100,
-           ..call!("run of 100 steps", |l| run(&mut l.h, &l.b, &mut l.u, &mut l.v, &l.inflow, 100, &mut l.work)) },
-    call!("potential vorticity", |l| potential_vorticity(&l.h, &l.b, &l.u, &l.v, &mut l.own_q)),
-    call!("tendencies", |l| tendencies(&l.h, &l.b, &l.u, &l.v, &l.q, &mut l.dh, &mut l.du, &mut l.dv)),
-    call!("total depth", |l| total_depth(&l.h, &l.b, &l.u, &l.v)),
-    call!("write", |l| write(&l.h, &l.b, &l.u, &l.v, TIMESTAMP.into(), &mut l.written)),
-    call!("read", record |l| read(&l.record, &mut l.own_q, &mut l.dh, &mut l.du, &mut l.dv)),
+           ..call!("run of 100 steps", |l| run(&mut l.h, &l.b, &mut l.u, &mut l.v, &l.barriers, &l.inflow, 100, &mut l.work)) },
+    call!("potential vorticity", |l| potential_vorticity(&l.h, &l.b, &l.u, &l.v, &l.barriers, &mut l.own_q)),
+    call!("tendencies", |l| tendencies(&l.h, &l.b, &l.u, &l.v, &l.barriers, &l.q, &mut l.dh, &mut l.du, &mut l.dv)),
+    call!("total depth", |l| total_depth(&l.h, &l.b, &l.u, &l.v, &l.barriers)),
+    call!("write", |l| write(&l.h, &l.b, &l.u, &l.v, &l.barriers, TIMESTAMP.into(), &mut l.written)),
+    call!("read", record |l| read(&l.record, &mut l.own_q, &mut l.dh, &mut l.du, &mut l.dv, &mut l.read_barriers)),
     call!("compare", record |l| compare(&l.record, &l.same)),
 ];
 
@@ -137,10 +138,13 @@ struct Lent {
     b: Vec<i64>,
     u: Vec<i64>,
     v: Vec<i64>,
+    /// All 0, so that times compare with those from before there were barriers.
+    barriers: Vec<u8>,
     q: Vec<i64>,
     /// Filled with the state's own potential vorticity. A record is read into
-    /// this and the tendencies.
+    /// this, the tendencies and barriers of its own.
     own_q: Vec<i64>,
+    read_barriers: Vec<u8>,
     dh: Vec<i64>,
     du: Vec<i64>,
     dv: Vec<i64>,
@@ -163,7 +167,7 @@ impl Lent {
     fn all(call: &Call, size: (usize, usize)) -> Vec<Self> {
         let mut random = Random::new(1);
         let state = |random: &mut Random| match call.steps {
-            0 => random_state(random, Spread::Even, size, KIND),
+            0 => random_state_without_barriers(random, Spread::Even, size, KIND),
             _ => seiche(random, size),
         };
         (0..call.states(size))
@@ -182,6 +186,7 @@ impl Lent {
             b,
             u,
             v,
+            barriers,
         } = state;
         let cells = h.len();
         let reference::Parameters {
@@ -207,8 +212,10 @@ impl Lent {
             b,
             u,
             v,
+            barriers,
             q: random_q(random, Spread::Even, cells),
             own_q: vec![0; cells],
+            read_barriers: vec![7; cells],
             dh: vec![0; cells],
             du: vec![0; cells],
             dv: vec![0; cells],
@@ -249,6 +256,7 @@ fn seiche(random: &mut Random, (w, n): (usize, usize)) -> State {
         b,
         u: numbers(random, Spread::Even, cells, -300, 300),
         v: numbers(random, Spread::Even, cells, -300, 300),
+        barriers: vec![0; cells],
     };
     clear_closed_edges(&mut state);
     state

@@ -51,9 +51,15 @@ A text description has one line for each thing it says; # starts a comment.
                                with a number for each column
   u 0                          through the west edge of each cell, mm/s
   v 0                          through the south edge of each cell, mm/s
+  barrier west 12 3            closes the west edge of a cell; south: its south
+                               edge; u or v is 0 there
+  barrier south box 4 7 9 7    the same of each cell of a box
+  barriers rows                all of them: 1 on the west edge, 2 on the south
+                               edge, 3 on both
 
 Cells are counted from 0, columns from the west and rows from the south. A later
-line goes over an earlier one. What is not given of bottom, u and v is 0.
+line goes over an earlier one, but a barrier adds to those that are there. What
+is not given of bottom, u, v and barriers is 0.
 
 Exit status: 0 a result, 1 refused by the core, 2 anything else.
 ";

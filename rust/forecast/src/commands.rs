@@ -18,7 +18,7 @@ use crate::show::shown;
 use crate::state::State;
 use crate::text::{from_text, Unread};
 
-/// So many bytes of a file are read. A record has eight fields of at most
+/// So many bytes of a file are read. A record has nine fields of at most
 /// 3 + 65,535 bytes, so a longer one is refused at a tag that is among these; a
 /// longer text is no description.
 const LIMIT: u64 = 1 << 20;

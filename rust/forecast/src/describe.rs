@@ -29,16 +29,19 @@ pub fn to_text(state: &State) -> String {
     for (word, field) in fields {
         text.push_str(&field_text(word, field, p.w));
     }
+    if state.has_barriers() {
+        text.push_str(&field_text("barriers", &state.barriers, p.w));
+    }
     text
 }
 
 /// A field in the shortest form that gives it whole: one number, a number for
 /// each column, or all rows.
-fn field_text(word: &str, field: &[i64], w: usize) -> String {
+fn field_text<T: Display + PartialEq>(word: &str, field: &[T], w: usize) -> String {
     let Some(first) = field.first() else {
         return String::new();
     };
-    let rows: Vec<&[i64]> = field.chunks(w.max(1)).collect();
+    let rows: Vec<&[T]> = field.chunks(w.max(1)).collect();
     if field.iter().all(|value| value == first) {
         format!("{word} {first}\n")
     } else if rows.iter().all(|row| row == &rows[0]) {
@@ -55,7 +58,7 @@ fn joined<T: Display>(values: &[T]) -> String {
 
 /// A line for each row, north first, the numbers of a column one below the
 /// other.
-pub fn table(field: &[i64], w: usize) -> String {
+pub fn table<T: Display>(field: &[T], w: usize) -> String {
     let width = field.iter().map(|value| value.to_string().len()).max();
     let width = width.unwrap_or(0) + 1;
     let mut text = String::new();

@@ -90,6 +90,7 @@ pub fn name(field: Field) -> &'static str {
         Field::VelocityV => "v",
         Field::Vorticity => "vorticity",
         Field::Inflow => "inflow",
+        Field::Barriers => "barrier",
     }
 }
 

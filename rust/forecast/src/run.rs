@@ -14,7 +14,8 @@ pub fn step(state: &mut State, inflow: &[i64]) -> Result<Ran, Refusal> {
     let p = state.parameters;
     let mut work = state.work();
     let (h, u, v) = (&mut state.h, &mut state.u, &mut state.v);
-    match basin::step(&p, h, &state.b, u, v, inflow, &mut work) {
+    let (b, barriers) = (&state.b, &state.barriers);
+    match basin::step(&p, h, b, u, v, barriers, inflow, &mut work) {
         Ok(()) => Ok(Ran {
             steps: 1,
             stopped: None,
@@ -45,7 +46,8 @@ pub fn run(
     loop {
         let next = part.min(steps - done);
         let (h, u, v) = (&mut state.h, &mut state.u, &mut state.v);
-        let ran = basin::run(&p, h, &state.b, u, v, inflow, next, &mut work)?;
+        let (b, barriers) = (&state.b, &state.barriers);
+        let ran = basin::run(&p, h, b, u, v, barriers, inflow, next, &mut work)?;
         done += ran.steps;
         tell(done);
         if done == steps || ran.stopped.is_some() {

@@ -11,7 +11,8 @@ use crate::state::State;
 const SMALL: (usize, usize) = (16, 24);
 
 /// Grid, boundary, constants, timestamp, totals by the core, the range of each
-/// field, and of a small grid level and velocities of each cell.
+/// field, and of a small grid level and velocities of each cell; barriers where
+/// there are some.
 pub fn shown(state: &State) -> Result<String, Refusal> {
     let p = &state.parameters;
     let mut text = format!("grid {} columns, {} rows\n", p.w, p.n);
@@ -28,6 +29,11 @@ pub fn shown(state: &State) -> Result<String, Refusal> {
     text += &range("level", &level, "mm", p.w);
     text += &range("u", &state.u, "mm/s", p.w);
     text += &range("v", &state.v, "mm/s", p.w);
+    if state.has_barriers() {
+        let on = |bit: u8| state.barriers.iter().filter(|&z| z & bit != 0).count();
+        let (west, south) = (on(1), on(2));
+        text += &format!("barriers: {west} on west edges, {south} on south edges\n");
+    }
     if p.w <= SMALL.0 && p.n <= SMALL.1 {
         let of_cells = [
             ("level, mm", &level),
@@ -36,6 +42,10 @@ pub fn shown(state: &State) -> Result<String, Refusal> {
         ];
         for (name, field) in of_cells {
             text += &format!("\n{name}, north first\n{}", table(field, p.w));
+        }
+        if state.has_barriers() {
+            let name = "barriers, 1 on the west edge, 2 on the south edge, 3 on both";
+            text += &format!("\n{name}, north first\n{}", table(&state.barriers, p.w));
         }
     }
     Ok(text)

@@ -22,20 +22,24 @@ pub struct State {
     pub u: Vec<i64>,
     /// Velocity through the south edge of each cell, mm/s.
     pub v: Vec<i64>,
+    /// Barriers of each cell: 1 on its west edge, 2 on its south edge, 3 on both.
+    pub barriers: Vec<u8>,
 }
 
 impl State {
     /// The state of a record, by the core's reader.
     pub fn read(record: &[u8]) -> Result<State, Refusal> {
         let [mut h, mut b, mut u, mut v] = [(); 4].map(|()| vec![0; MOST_CELLS]);
+        let mut barriers = vec![0; MOST_CELLS];
         let Read {
             parameters,
             timestamp,
-        } = basin::read(record, &mut h, &mut b, &mut u, &mut v)?;
+        } = basin::read(record, &mut h, &mut b, &mut u, &mut v, &mut barriers)?;
         let cells = parameters.w * parameters.n;
         for field in [&mut h, &mut b, &mut u, &mut v] {
             field.truncate(cells);
         }
+        barriers.truncate(cells);
         Ok(State {
             parameters,
             timestamp,
@@ -43,6 +47,7 @@ impl State {
             b,
             u,
             v,
+            barriers,
         })
     }
 
@@ -56,8 +61,8 @@ impl State {
             ..*p
         };
         let mut record = vec![0; p.record_len().min(largest.record_len())];
-        let (h, b, u, v) = (&self.h, &self.b, &self.u, &self.v);
-        let length = basin::write(p, h, b, u, v, self.timestamp, &mut record)?;
+        let ([h, b, u, v], barriers) = self.fields();
+        let length = basin::write(p, h, b, u, v, barriers, self.timestamp, &mut record)?;
         record.truncate(length);
         Ok(record)
     }
@@ -70,12 +75,24 @@ impl State {
 
     /// Total depth in mm, by the core.
     pub fn total_depth(&self) -> Result<i64, Refusal> {
-        basin::total_depth(&self.parameters, &self.h, &self.b, &self.u, &self.v)
+        let ([h, b, u, v], barriers) = self.fields();
+        basin::total_depth(&self.parameters, h, b, u, v, barriers)
     }
 
     /// Four times total energy, by the core.
     pub fn total_energy(&self) -> Result<i64, Refusal> {
-        basin::total_energy(&self.parameters, &self.h, &self.b, &self.u, &self.v)
+        let ([h, b, u, v], barriers) = self.fields();
+        basin::total_energy(&self.parameters, h, b, u, v, barriers)
+    }
+
+    /// h, b, u, v and the barriers.
+    fn fields(&self) -> ([&[i64]; 4], &[u8]) {
+        ([&self.h, &self.b, &self.u, &self.v], &self.barriers)
+    }
+
+    /// Whether there are barriers anywhere.
+    pub fn has_barriers(&self) -> bool {
+        self.barriers.iter().any(|&barrier| barrier != 0)
     }
 
     /// Level of each cell, mm: depth above the height of the bottom. To be

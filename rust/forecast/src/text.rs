@@ -1,8 +1,9 @@
 //! A state from a text that a person can read and write: `docs/DESCRIPTION.md`.
 //!
 //! The text says grid, boundary, constants and time once each, then fields, a
-//! part at a time; a later line goes over an earlier one. Bounds are not looked
-//! at here: the core tests the state when its record is written.
+//! part at a time; a later line goes over an earlier one, but a line `barrier` adds
+//! to what is there. Bounds are not looked at here: the core tests the state when
+//! its record is written.
 
 use std::fmt::Display;
 use std::iter::Enumerate;
@@ -55,6 +56,7 @@ enum Named {
     Bottom,
     U,
     V,
+    Barriers,
 }
 
 /// The lines, and what they have said so far.
@@ -68,8 +70,9 @@ struct Reader<'a> {
     spacing_per_step: Option<i64>,
     time: Option<Timestamp>,
     depth_given: bool,
-    /// h, b, u and v, empty until the grid is known.
+    /// h, b, u and v, and the barriers, empty until the grid is known.
     fields: [Vec<i64>; 4],
+    barriers: Vec<u8>,
 }
 
 impl<'a> Reader<'a> {
@@ -85,6 +88,7 @@ impl<'a> Reader<'a> {
             time: None,
             depth_given: false,
             fields: Default::default(),
+            barriers: Vec::new(),
         }
     }
 
@@ -119,6 +123,8 @@ impl<'a> Reader<'a> {
             "bottom" => self.take_field(line, word, Named::Bottom, rest),
             "u" => self.take_field(line, word, Named::U, rest),
             "v" => self.take_field(line, word, Named::V, rest),
+            "barriers" => self.take_field(line, word, Named::Barriers, rest),
+            "barrier" => self.take_barrier(line, rest),
             _ => fault(line, format!("unknown word `{word}`")),
         }
     }
@@ -141,10 +147,11 @@ impl<'a> Reader<'a> {
             c,
             r,
         };
-        if let Err(refusal @ Refusal::Grid) = total_depth(&p, &[], &[], &[], &[]) {
+        if let Err(refusal @ Refusal::Grid) = total_depth(&p, &[], &[], &[], &[], &[]) {
             return Err(Unread::Refused(refusal));
         }
         self.fields = [(); 4].map(|()| vec![0; w * n]);
+        self.barriers = vec![0; w * n];
         Ok(())
     }
 
@@ -166,16 +173,12 @@ impl<'a> Reader<'a> {
             ["rows"] => self.put_rows(line, named),
             [value] => self.put_box(line, named, value, [0, 0, w - 1, n - 1]),
             [value, "cell", i, j] => {
-                let (i, j) = (self.column(line, i)?, self.row(line, j)?);
-                self.put_box(line, named, value, [i, j, i, j])
+                let corners = self.corners(line, [i, j, i, j])?;
+                self.put_box(line, named, value, corners)
             }
             [value, "box", i, j, i2, j2] => {
-                let (i, j) = (self.column(line, i)?, self.row(line, j)?);
-                let (i2, j2) = (self.column(line, i2)?, self.row(line, j2)?);
-                if i2 < i || j2 < j {
-                    return fault(line, "a box is given by its southwest and northeast cells");
-                }
-                self.put_box(line, named, value, [i, j, i2, j2])
+                let corners = self.corners(line, [i, j, i2, j2])?;
+                self.put_box(line, named, value, corners)
             }
             _ => fault(
                 line,
@@ -185,6 +188,40 @@ impl<'a> Reader<'a> {
                 ),
             ),
         }
+    }
+
+    /// Takes a line about barriers: on the west or south edge of a cell, or of each
+    /// cell of a box, beside those that stand there.
+    fn take_barrier(&mut self, line: usize, rest: &[&str]) -> Result<(), Unread> {
+        let Some((w, _)) = self.grid else {
+            return fault(line, "`grid` must come before `barrier`");
+        };
+        let corners = match rest[..] {
+            ["west" | "south", i, j] => [i, j, i, j],
+            ["west" | "south", "box", i, j, i2, j2] => [i, j, i2, j2],
+            _ => {
+                let form = "`barrier` takes `west` or `south`, and `I J` or `box I J I2 J2`";
+                return fault(line, form);
+            }
+        };
+        let [i, j, i2, j2] = self.corners(line, corners)?;
+        let bit = if rest[0] == "west" { 1 } else { 2 };
+        for row in j..=j2 {
+            for column in i..=i2 {
+                self.barriers[row * w + column] |= bit;
+            }
+        }
+        Ok(())
+    }
+
+    /// The corners of a box: its southwest cell and its northeast cell.
+    fn corners(&self, line: usize, [i, j, i2, j2]: [&str; 4]) -> Result<[usize; 4], Unread> {
+        let (i, j) = (self.column(line, i)?, self.row(line, j)?);
+        let (i2, j2) = (self.column(line, i2)?, self.row(line, j2)?);
+        if i2 < i || j2 < j {
+            return fault(line, "a box is given by its southwest and northeast cells");
+        }
+        Ok([i, j, i2, j2])
     }
 
     /// A column of the grid.
@@ -270,6 +307,13 @@ impl<'a> Reader<'a> {
         let cell = row * w + column;
         let [h, b, u, v] = &mut self.fields;
         let (field, value) = match named {
+            Named::Barriers => {
+                let Ok(barrier) = u8::try_from(value) else {
+                    return fault(line, format!("{value} is no barrier: these are 0 to 3"));
+                };
+                self.barriers[cell] = barrier;
+                return Ok(());
+            }
             Named::Depth => (h, Some(value)),
             Named::Level => (h, value.checked_sub(b[cell])),
             Named::Bottom => (b, Some(value)),
@@ -313,6 +357,7 @@ impl<'a> Reader<'a> {
             b,
             u,
             v,
+            barriers: self.barriers,
         })
     }
 }

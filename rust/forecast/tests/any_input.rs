@@ -12,7 +12,7 @@ use forecast::State;
 
 /// Numbers and words that texts are damaged with.
 const WORDS: &str = "0 -1 1 64 65 999999999999 -9223372036854775808 18446744073709551615 1e5 \
-     grid boundary basin time 2026-02-29 06:00:00.250 .5 depth level rows columns box cell # \n \u{feff} ü";
+     grid boundary basin time 2026-02-29 06:00:00.250 .5 depth level barrier barriers west south rows columns box cell # \n \u{feff} ü";
 
 /// A few bytes changed, put in or left out, or the end cut off.
 fn damage(bytes: &mut Vec<u8>, random: &mut Random) {
@@ -38,11 +38,12 @@ fn damaging(random: &mut Random) -> u8 {
 fn small(random: &mut Random) -> Vec<u8> {
     let text = format!(
         "grid {} {}\nboundary {}\ngravity 9810\ncoriolis 3\nspacing-per-step 40000\n\
-         time 2026-01-01 00:00:00.{:03}\ndepth 5000\nbottom 10 cell 0 0\n",
+         time 2026-01-01 00:00:00.{:03}\ndepth 5000\nbottom 10 cell 0 0\nbarriers {} cell 0 0\n",
         1 + random.below(4),
         1 + random.below(4),
         random.pick(&["basin", "channel", "periodic"]),
-        random.pick(&[0, 1, 999])
+        random.pick(&[0, 1, 999]),
+        random.pick(&[0, 0, 0, 1, 2, 3])
     );
     from_text(text.as_bytes()).unwrap().write().unwrap()
 }
@@ -100,7 +101,7 @@ fn damaged_texts() {
     let texts = EXAMPLES.map(|name| fs::read(example(&format!("{name}.txt"))).unwrap());
     for round in 0..4000 {
         // The head, where a change is felt most, or a whole text now and then.
-        let text = &texts[random.below(3)];
+        let text = &texts[random.below(texts.len())];
         let length = if round % 10 == 0 {
             text.len()
         } else {

@@ -37,9 +37,13 @@ fn the_answers_of_compare() {
         given(&input, &["compare", "-", &later]).out,
         "second newer\n"
     );
-    // The same without tag 8, whose milliseconds are 0.
-    let old = &input[..input.len() - 5];
-    assert_eq!(given(old, &["compare", "-", &dock]).out, "same\n");
+    // The same without tag 9, whose barriers are 0, and without tag 8, whose
+    // milliseconds are.
+    let tag_9 = 3 + 32 * 20;
+    for lacking in [tag_9, 5 + tag_9] {
+        let old = &input[..input.len() - lacking];
+        assert_eq!(given(old, &["compare", "-", &dock]).out, "same\n");
+    }
     let refused = given(&[9], &["compare", &dock, "-"]);
     let words = "refused 7: the record is damaged at byte 0 (second record)\n";
     assert_eq!((refused.status, &refused.out[..]), (1, words));
@@ -51,14 +55,37 @@ fn the_answers_of_compare() {
 #[test]
 fn milliseconds_that_are_refused() {
     let mut record = fs::read(example("one_cell.rec")).unwrap();
-    let value = record.len() - 2..;
-    record[value].copy_from_slice(&1_000u16.to_be_bytes());
+    // The value of tag 8, before the four bytes of tag 9.
+    record[59..61].copy_from_slice(&1_000u16.to_be_bytes());
     let words = "refused 9: the milliseconds of the timestamp are above 999";
     let shown = given(&record, &["show", "-"]);
     assert_eq!((shown.status, shown.out), (1, format!("{words}\n")));
     let compared = given(&record, &["compare", &example("dock.rec"), "-"]);
     let words = format!("{words} (second record)\n");
     assert_eq!((compared.status, compared.out), (1, words));
+}
+
+#[test]
+fn barriers_that_are_refused() {
+    let mut record = fs::read(example("one_cell.rec")).unwrap();
+    for (barrier, words) in [
+        (
+            4,
+            "refused 4: barrier at cell number 0 is outside its bounds",
+        ),
+        (
+            1,
+            "refused 5: u at cell number 0 is on a closed edge and must be 0",
+        ),
+        (
+            2,
+            "refused 5: v at cell number 0 is on a closed edge and must be 0",
+        ),
+    ] {
+        *record.last_mut().unwrap() = barrier;
+        let shown = given(&record, &["show", "-"]);
+        assert_eq!((shown.status, shown.out), (1, format!("{words}\n")));
+    }
 }
 
 #[test]

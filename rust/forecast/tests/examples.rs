@@ -55,7 +55,7 @@ fn a_later_state_goes_round_too() {
 
 #[test]
 fn each_runs_a_thousand_steps_and_keeps_total_depth() {
-    for (kind, name) in [(2, "dock"), (1, "channel"), (0, "eddies")] {
+    for (kind, name) in [(2, "dock"), (1, "channel"), (0, "eddies"), (2, "jetty")] {
         let state = state(name);
         let p = state.parameters;
         assert!(p.kind == kind && p.w * p.n <= 1024, "{name}");
@@ -84,6 +84,11 @@ fn what_is_shown_of_the_dock() {
     ] {
         assert!(text.lines().any(|shown| shown == line), "{line}\n{text}");
     }
+    // Nor are barriers where there are none.
+    assert!(!text.contains("barrier"), "{text}");
+    let jetty = said(&["show", &example("jetty.rec")]);
+    let line = "\nbarriers: 24 on west edges, 3 on south edges\n";
+    assert!(jetty.ends_with(line), "{jetty}");
 }
 
 #[test]
@@ -97,16 +102,34 @@ fn a_small_grid_is_shown_cell_by_cell() {
         text.contains("\nfour times total energy 78530000000\n"),
         "{text}"
     );
+    // With a barrier, that too.
+    let mut state = state("one_cell");
+    (state.u, state.barriers) = (vec![0], vec![1]);
+    let text = given(&state.write().unwrap(), &["show", "-"]).out;
+    let line = "\nbarriers: 1 on west edges, 0 on south edges\n";
+    assert!(text.contains(line), "{text}");
+    let table = "barriers, 1 on the west edge, 2 on the south edge, 3 on both, north first\n 1\n";
+    assert!(text.ends_with(table), "{text}");
 }
 
-/// The picture that the pages show is the one that the tool draws today.
+/// The pictures that the pages show are those that the tool draws today.
 #[test]
-fn the_picture_of_the_dock() {
-    let folder = folder("picture");
-    said(&["draw", &example("dock.rec"), &folder, "--steps", "265"]);
-    let drawn = fs::read(format!("{folder}/series.svg")).unwrap();
-    let shown = fs::read(repository("docs/dock.svg")).unwrap();
-    assert!(shown == drawn, "docs/dock.svg is not {folder}/series.svg");
+fn the_pictures_of_the_dock_and_the_jetty() {
+    for (name, line, picture) in [
+        ("dock", "draw @ @ --steps 265", "docs/dock.svg"),
+        (
+            "jetty",
+            "draw @ @ --steps 440 --every 110",
+            "examples/jetty.svg",
+        ),
+    ] {
+        let folder = folder(&format!("picture_of_{name}"));
+        let record = example(&format!("{name}.rec"));
+        said(&words(line, &[&record, &folder]));
+        let drawn = fs::read(format!("{folder}/series.svg")).unwrap();
+        let shown = fs::read(repository(picture)).unwrap();
+        assert!(shown == drawn, "{picture} is not {folder}/series.svg");
+    }
 }
 
 #[test]
@@ -114,8 +137,8 @@ fn a_refused_record_is_told_by_number() {
     let record = fs::read(example("dock.rec")).unwrap();
     let answer = given(&record[..record.len() - 1], &["show", "-"]);
     assert_eq!(answer.status, 1);
-    // The last field, of the milliseconds, begins 3 + 2 bytes before the end.
-    let offset = record.len() - 3 - 2;
+    // The last field, of the barriers, has a byte for each of 640 cells.
+    let offset = record.len() - 3 - 640;
     let words = format!("refused 7: the record is damaged at byte {offset}\n");
     assert_eq!(answer.out, words);
     let missing = tool(&["show", &example("no such record")]);

@@ -75,9 +75,11 @@ fn any_grid_is_drawn() {
             state.b = (0..w * n).map(|k| k as i64 * 20).collect();
             state.u = vec![0; w * n];
             state.v = vec![0; w * n];
+            state.barriers = (0..w * n).map(|k| k as u8 % 4).collect();
             if kind == 0 {
                 state.u[0] = -5000;
                 state.v[w * n - 1] = 5000;
+                (state.barriers[0], state.barriers[w * n - 1]) = (0, 0);
             }
             let svg = draw::picture(&state).unwrap();
             assert_eq!(rectangles(&svg), w * n);
@@ -86,20 +88,59 @@ fn any_grid_is_drawn() {
     }
 }
 
-/// Thick lines: none, south and north, and all four.
+/// The thick lines of a picture, each as it is written.
+fn thick_lines(state: &State) -> Vec<String> {
+    let svg = draw::picture(state).unwrap();
+    let thick = svg
+        .lines()
+        .filter(|line| line.contains("stroke-width=\"3\""));
+    let paths = thick.map(|line| line.split('"').nth(1).unwrap().to_owned());
+    let lines = paths.flat_map(|path| {
+        path.split('M')
+            .skip(1)
+            .map(str::to_owned)
+            .collect::<Vec<_>>()
+    });
+    lines.collect()
+}
+
+/// Thick lines: none, south and north, all four, and these with an edge for each
+/// barrier.
 #[test]
 fn walls_where_edges_are_closed() {
-    let thick = |state: &State| {
-        let svg = draw::picture(state).unwrap();
-        let lines = svg
-            .lines()
-            .filter(|line| line.contains("stroke-width=\"3\""));
-        lines.map(|line| line.split('M').count() - 1).sum::<usize>()
-    };
+    let count = |name: &str| thick_lines(&state(name)).len();
     assert_eq!(
-        ["eddies", "channel", "dock"].map(|name| thick(&state(name))),
-        [0, 2, 4]
+        ["eddies", "channel", "dock", "jetty"].map(count),
+        [0, 2, 4, 4 + 24 + 3]
     );
+}
+
+/// On its own edge, and where that is a side of the grid on the opposite side too:
+/// the grid wraps there.
+#[test]
+fn barriers_where_they_stand() {
+    let mut state = state("eddies");
+    let (w, n) = (32, 32);
+    (state.u, state.v) = (vec![0; w * n], vec![0; w * n]);
+    // A cell is 17.5 wide, the map begins at 20 and 44 and is 560 wide and high.
+    let mut drawn = |cell: usize, barrier: u8| {
+        state.barriers = vec![0; w * n];
+        state.barriers[cell] = barrier;
+        thick_lines(&state)
+    };
+    // Column 4 of row 2, whose north edge is 3 cells from the south.
+    assert_eq!(drawn(2 * w + 4, 1), ["90.0 551.5v17.5"]);
+    assert_eq!(drawn(2 * w + 4, 2), ["90.0 569.0h17.5"]);
+    let both = ["90.0 551.5v17.5", "90.0 569.0h17.5"];
+    assert_eq!(drawn(2 * w + 4, 3), both);
+    // At the west side, at the south side, and in that corner.
+    assert_eq!(drawn(2 * w, 1), ["20.0 551.5v17.5", "580.0 551.5v17.5"]);
+    assert_eq!(drawn(2 * w, 2), ["20.0 569.0h17.5"]);
+    assert_eq!(drawn(4, 1), ["90.0 586.5v17.5"]);
+    assert_eq!(drawn(4, 2), ["90.0 604.0h17.5", "90.0 44.0h17.5"]);
+    assert_eq!(drawn(0, 3).len(), 4);
+    // The last cell is at the north and east sides, its west and south edges not.
+    assert_eq!(drawn(w * n - 1, 3).len(), 2);
 }
 
 #[test]

@@ -13,28 +13,31 @@ fn one_step(state: &mut State, inflow: &[i64]) {
     let p = state.parameters;
     let mut work = vec![0; p.work_len()];
     let (h, u, v) = (&mut state.h, &mut state.u, &mut state.v);
-    basin::step(&p, h, &state.b, u, v, inflow, &mut work).unwrap();
+    let (b, barriers) = (&state.b, &state.barriers);
+    basin::step(&p, h, b, u, v, barriers, inflow, &mut work).unwrap();
 }
 
 #[test]
 fn parts_of_any_length_are_single_steps() {
-    let start = state("dock");
-    let mut inflow = vec![0; start.h.len()];
-    (inflow[5], inflow[300]) = (3, -2);
-    let mut stepped = start.clone();
-    for _ in 0..60 {
-        one_step(&mut stepped, &inflow);
-    }
-    for part in [0, 1, 7, 60, u64::MAX] {
-        let mut state = start.clone();
-        let mut last = 0;
-        let ran = run::run(&mut state, &inflow, 60, part, |done| last = done).unwrap();
-        let all = Ran {
-            steps: 60,
-            stopped: None,
-        };
-        assert_eq!((ran, last), (all, 60), "parts of {part}");
-        assert!(state == stepped, "parts of {part}");
+    for start in ["dock", "jetty"].map(state) {
+        let mut inflow = vec![0; start.h.len()];
+        (inflow[5], inflow[300]) = (3, -2);
+        let mut stepped = start.clone();
+        for _ in 0..60 {
+            one_step(&mut stepped, &inflow);
+        }
+        assert!(stepped.barriers == start.barriers && stepped.h != start.h);
+        for part in [0, 1, 7, 60, u64::MAX] {
+            let mut state = start.clone();
+            let mut last = 0;
+            let ran = run::run(&mut state, &inflow, 60, part, |done| last = done).unwrap();
+            let all = Ran {
+                steps: 60,
+                stopped: None,
+            };
+            assert_eq!((ran, last), (all, 60), "parts of {part}");
+            assert!(state == stepped, "parts of {part}");
+        }
     }
 }
 

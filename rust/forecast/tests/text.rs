@@ -40,6 +40,50 @@ fn the_forms_of_a_field() {
     assert_eq!(rows.v, [4, 5, 6, 1, 2, 3]);
 }
 
+/// Barriers add to each other; the whole field is given as others are, and goes
+/// over them.
+#[test]
+fn the_forms_of_barriers() {
+    let barriers = |lines: &str| described(&format!("depth 2000\n{lines}")).barriers;
+    assert_eq!(barriers(""), [0; 6]);
+    assert_eq!(barriers("barrier west 1 0"), [0, 1, 0, 0, 0, 0]);
+    assert_eq!(barriers("barrier south 2 1"), [0, 0, 0, 0, 0, 2]);
+    let both = "barrier west box 1 0 2 1\nbarrier south box 0 1 2 1 # across";
+    assert_eq!(barriers(both), [0, 1, 1, 2, 3, 3]);
+    let twice = "barrier west 1 0\nbarrier west box 0 0 1 0";
+    assert_eq!(barriers(twice), [1, 1, 0, 0, 0, 0]);
+    let rows = "barrier west 2 0\nbarriers rows\n 3 0 0\n0 2 0\nbarrier west 1 0";
+    assert_eq!(barriers(rows), [0, 3, 0, 3, 0, 0]);
+    assert_eq!(
+        barriers("barriers 3\nbarriers 0 cell 1 1"),
+        [3, 3, 3, 3, 0, 3]
+    );
+    assert_eq!(barriers("barriers columns 0 1 2"), [0, 1, 2, 0, 1, 2]);
+}
+
+/// They are kept from text to record to text, which has them where not 0.
+#[test]
+fn barriers_go_round() {
+    for (lines, again) in [
+        ("", None),
+        ("barriers 0", None),
+        (
+            "barrier west 1 0\nbarrier south 1 1",
+            Some("rows\n 0 2 0\n 0 1 0\n"),
+        ),
+        ("barrier west box 2 0 2 1", Some("columns 0 0 1\n")),
+        ("barriers 3", Some("3\n")),
+    ] {
+        let state = described(&format!("depth 2000\n{lines}"));
+        let read = State::read(&state.write().unwrap()).unwrap();
+        assert!(read == state, "{lines}");
+        let text = to_text(&read);
+        let end = again.map_or("\nv 0\n".to_owned(), |form| format!("\nbarriers {form}"));
+        assert!(text.ends_with(&end), "{text}");
+        assert!(from_text(text.as_bytes()).unwrap() == state, "{lines}");
+    }
+}
+
 /// Milliseconds are kept from text to record to text, and shown where not 0.
 #[test]
 fn milliseconds_of_a_time() {
@@ -121,6 +165,35 @@ fn faults_of_fields_have_their_line() {
 }
 
 #[test]
+fn faults_of_barriers_have_their_line() {
+    let form = "`barrier` takes `west` or `south`, and `I J` or";
+    let cases = [
+        ("barrier", 1, form),
+        ("barrier west", 1, form),
+        ("barrier east 1 0", 1, form),
+        ("\nbarrier west 1", 2, form),
+        ("barrier west 1 0 2", 1, form),
+        ("barrier west cell 1 0", 1, form),
+        ("barrier south box 1 0 2", 1, form),
+        ("barrier 3", 1, form),
+        (
+            "barrier west 3 0",
+            1,
+            "column 3 is outside the grid, 0 to 2",
+        ),
+        ("barrier west 0 2", 1, "row 2 is outside the grid, 0 to 1"),
+        ("barrier west one 0", 1, "`one` is no whole number"),
+        ("barrier south box 2 0 1 1", 1, "southwest and northeast"),
+        ("barriers", 1, "`barriers` takes a number"),
+        ("barriers 256", 1, "256 is no barrier: these are 0 to 3"),
+        ("barriers rows\n0 0 0\n0 -1 0", 3, "-1 is no barrier"),
+    ];
+    faults(HEAD, &cases);
+    let without_grid = [("barrier west 0 0", 1, "`grid` must come before `barrier`")];
+    faults("", &without_grid);
+}
+
+#[test]
 fn faults_of_the_head() {
     let cases = [
         ("", 1, "the text ends without `grid`"),
@@ -181,6 +254,14 @@ fn a_fault_and_a_refusal_as_the_tool_tells_them() {
         (
             "depth 2000\nv 5001 cell 0 1",
             "refused 4: v at cell 0 1 is outside its bounds\n",
+        ),
+        (
+            "depth 2000\nbarriers 4 cell 2 1",
+            "refused 4: barrier at cell 2 1 is outside its bounds\n",
+        ),
+        (
+            "depth 2000\nv 7\nbarrier south 1 1",
+            "refused 5: v at cell 1 1 is on a closed edge and must be 0\n",
         ),
     ] {
         let refused = make(fields);

@@ -1,16 +1,16 @@
 //! An independent version of the shallow-water core that document 01
 //! specifies: the Arakawa-Lamb C-grid scheme in whole numbers, its two-pass
 //! time step, and the record a state is stored in, with timestamps to the
-//! millisecond (request U1 of document 02).
+//! millisecond and barriers inside the grid (requests U1 and U2 of document 02).
 //!
 //! It was written from 01, 02 and the open points decided in docs/DECISIONS.md,
 //! apart from the proved core and its model, and is meant to be compared with
 //! them call by call. 01 and 02 decide every question.
 //!
-//! The calls take the scalars of a state as [`Parameters`] and its fields as
-//! slices of `i64`. They take any numbers and any lengths and never panic:
-//! what 01 refuses is returned as a [`Refusal`]. Each answer has a `told`
-//! that gives 01's number and values for it.
+//! The calls take the scalars of a state as [`Parameters`], its fields as
+//! slices of `i64` and its barriers as bytes. They take any numbers and any
+//! lengths and never panic: what 01 refuses is returned as a [`Refusal`]. Each
+//! answer has a `told` that gives 01's number and values for it.
 
 #![forbid(unsafe_code)]
 // A call takes a whole state as separate fields, and its destinations too.

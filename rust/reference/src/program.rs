@@ -26,25 +26,27 @@ fn step_text(input: &[u8]) -> Result<String, i128> {
     let mut b = [0; CELLS];
     let mut u = [0; CELLS];
     let mut v = [0; CELLS];
+    let mut barriers = [0; CELLS];
     // The whole arrays are lent, so that a larger grid meets refusal 8.
-    let p = match read(input, &mut h, &mut b, &mut u, &mut v) {
+    let p = match read(input, &mut h, &mut b, &mut u, &mut v, &mut barriers) {
         ReadAnswer::Read { parameters, .. } => parameters,
         refused => return Err(refused.told()[0]),
     };
     let cells = p.w * p.n;
-    let (h, b, u, v) = (
+    let (h, b, u, v, barriers) = (
         &mut h[..cells],
         &b[..cells],
         &mut u[..cells],
         &mut v[..cells],
+        &barriers[..cells],
     );
     let inflow = [0; CELLS];
     let mut work = [0; WORK_PER_CELL * CELLS];
-    match step(&p, h, b, u, v, &inflow[..cells], &mut work) {
+    match step(&p, h, b, u, v, barriers, &inflow[..cells], &mut work) {
         StepAnswer::Done => {}
         refused => return Err(refused.told()[0]),
     }
-    let total = match total_depth(&p, h, b, u, v) {
+    let total = match total_depth(&p, h, b, u, v, barriers) {
         TotalAnswer::Total(total) => total,
         refused => return Err(refused.told()[0]),
     };

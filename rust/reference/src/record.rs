@@ -2,8 +2,9 @@
 //!
 //! A record is a row of fields, each a one-byte tag, a two-byte length and a
 //! value; numbers are big-endian. Tag 1 holds w, n and kind, 2 holds G, c and
-//! R, 3 the seconds of the timestamp (01: stamp), 4 to 7 hold h, b, u and v, and
-//! 8 holds the milliseconds. A record may lack tag 8: its milliseconds are 0.
+//! R, 3 the seconds of the timestamp (01: stamp), 4 to 7 hold h, b, u and v, 8
+//! holds the milliseconds and 9 the barriers. A record may lack tag 8: its
+//! milliseconds are 0. It may lack tag 9: all its barriers are 0.
 
 use std::cmp::Ordering;
 
@@ -12,20 +13,27 @@ use crate::state::{
     test_destinations, test_grid, test_lengths, test_recorded, Fields, Parameters, State, Timestamp,
 };
 
-const TAGS: usize = 8;
+const TAGS: usize = 9;
 /// Tags 1 to 7 must be there.
 const REQUIRED: usize = 7;
 /// Tag and length of a field.
 const HEAD: usize = 3;
-/// Lengths of the values under tags 1 to 8, where a tag has but one.
-const FIXED_LENGTHS: [Option<usize>; TAGS] =
-    [Some(3), Some(12), Some(8), None, None, None, None, Some(2)];
-/// Bytes of a cell under tags 4, 5, 6 and 7.
-const CELL_LENGTHS: [usize; 4] = [4, 4, 2, 2];
+/// Lengths of the values under tags 1 to 9, where a tag has but one.
+const FIXED_LENGTHS: [Option<usize>; TAGS] = [
+    Some(3),
+    Some(12),
+    Some(8),
+    None,
+    None,
+    None,
+    None,
+    Some(2),
+    None,
+];
 
 /// Bytes of a record of so many cells.
 pub const fn record_size(cells: usize) -> usize {
-    49 + 12 * cells
+    52 + 13 * cells
 }
 
 /// Writes the record of a state, by rising tag.
@@ -35,10 +43,18 @@ pub fn write(
     b: &[i64],
     u: &[i64],
     v: &[i64],
+    barriers: &[u8],
     timestamp: Timestamp,
     out: &mut [u8],
 ) -> WriteAnswer {
-    match try_write(p, Fields { h, b, u, v }, timestamp, out) {
+    let fields = Fields {
+        h,
+        b,
+        u,
+        v,
+        barriers,
+    };
+    match try_write(p, fields, timestamp, out) {
         Ok(bytes) => WriteAnswer::Written { bytes },
         Err(refusal) => WriteAnswer::Refused(refusal),
     }
@@ -74,6 +90,8 @@ fn try_write(
     writer.put_2(fields.v.iter());
     writer.head(8, 2);
     writer.put(&(timestamp.milliseconds as u16).to_be_bytes());
+    writer.head(9, cells);
+    writer.put(fields.barriers);
     Ok(writer.at)
 }
 
@@ -102,22 +120,24 @@ impl Writer<'_> {
     }
 }
 
-/// Reads a record into the first w·n places of four lent fields.
+/// Reads a record into the first w·n places of five lent fields.
 pub fn read(
     record: &[u8],
     h: &mut [i64],
     b: &mut [i64],
     u: &mut [i64],
     v: &mut [i64],
+    barriers: &mut [u8],
 ) -> ReadAnswer {
-    let room = h.len().min(b.len()).min(u.len()).min(v.len());
-    match decode(record, room) {
+    let rooms = [h.len(), b.len(), u.len(), v.len(), barriers.len()];
+    match decode(record, &rooms) {
         Ok((state, timestamp)) => {
             let cells = state.h.len();
             h[..cells].copy_from_slice(&state.h);
             b[..cells].copy_from_slice(&state.b);
             u[..cells].copy_from_slice(&state.u);
             v[..cells].copy_from_slice(&state.v);
+            barriers[..cells].copy_from_slice(&state.barriers);
             ReadAnswer::Read {
                 parameters: state.parameters,
                 timestamp,
@@ -129,9 +149,9 @@ pub fn read(
 
 /// Compares two records, the first tested wholly before the second.
 pub fn compare(first: &[u8], second: &[u8]) -> CompareAnswer {
-    // Nothing is lent, so no grid is too large for it.
+    // Nothing is lent, so nothing is too short.
     let decoded = |record, number| {
-        decode(record, usize::MAX).map_err(|refusal| CompareAnswer::Refused {
+        decode(record, &[]).map_err(|refusal| CompareAnswer::Refused {
             record: number,
             refusal,
         })
@@ -153,9 +173,10 @@ pub fn compare(first: &[u8], second: &[u8]) -> CompareAnswer {
 }
 
 /// The state and timestamp of a record, after tests 7, 1, 2, 8, 3, 9, 4, 5;
-/// `room` is the length of the shortest destination.
-fn decode(record: &[u8], room: usize) -> Result<(State, Timestamp), Refusal> {
-    let [sizes, constants, seconds, h, b, u, v, milliseconds] = values_by_tag(record)?;
+/// `rooms` are the lengths of the destinations.
+fn decode(record: &[u8], rooms: &[usize]) -> Result<(State, Timestamp), Refusal> {
+    let (required, milliseconds, barriers) = values_by_tag(record)?;
+    let [sizes, constants, seconds, h, b, u, v] = required;
     let constant = |k: usize| signed(&constants[4 * k..][..4]);
     let parameters = Parameters {
         w: usize::from(sizes[0]),
@@ -166,15 +187,14 @@ fn decode(record: &[u8], room: usize) -> Result<(State, Timestamp), Refusal> {
         r: constant(2),
     };
     let grid = test_grid(&parameters)?;
-    let fields = [h, b, u, v];
-    if fields
-        .iter()
-        .zip(CELL_LENGTHS)
-        .any(|(value, bytes)| value.len() != bytes * grid.cells())
-    {
+    let cells = grid.cells();
+    // The fields with the bytes of a cell. An absent one has no length.
+    let fields = [(h, 4), (b, 4), (u, 2), (v, 2)];
+    let mut fields = fields.into_iter().chain(barriers.map(|value| (value, 1)));
+    if fields.any(|(value, bytes)| value.len() != bytes * cells) {
         return Err(Refusal::Lengths);
     }
-    test_destinations(grid.cells(), [room])?;
+    test_destinations(cells, rooms.iter().copied())?;
     let numbers = |value: &[u8], bytes| value.chunks_exact(bytes).map(signed).collect();
     let state = State {
         parameters,
@@ -182,18 +202,22 @@ fn decode(record: &[u8], room: usize) -> Result<(State, Timestamp), Refusal> {
         b: numbers(b, 4),
         u: numbers(u, 2),
         v: numbers(v, 2),
+        barriers: barriers.map_or(vec![0; cells], <[u8]>::to_vec),
     };
     let timestamp = Timestamp {
         seconds: unsigned(seconds),
-        milliseconds: unsigned(milliseconds),
+        milliseconds: milliseconds.map_or(0, unsigned),
     };
     test_recorded(&parameters, timestamp, grid, state.fields())?;
     Ok((state, timestamp))
 }
 
-/// Test 7: the values under tags 1 to 8, those of 1, 2, 3 and 8 of the right
-/// length. Where tag 8 is absent, its value is that of 0 milliseconds.
-fn values_by_tag(record: &[u8]) -> Result<[&[u8]; TAGS], Refusal> {
+/// The values under tags 1 to 7, and those under tags 8 and 9 where these are
+/// there.
+type Values<'a> = ([&'a [u8]; REQUIRED], Option<&'a [u8]>, Option<&'a [u8]>);
+
+/// Test 7: the values by their tags, those of 1, 2, 3 and 8 of the right length.
+fn values_by_tag(record: &[u8]) -> Result<Values<'_>, Refusal> {
     let mut values = [None; TAGS];
     let mut offset = 0;
     while offset < record.len() {
@@ -215,16 +239,12 @@ fn values_by_tag(record: &[u8]) -> Result<[&[u8]; TAGS], Refusal> {
         offset += HEAD + length;
     }
     let missing = Refusal::Record { offset };
-    // What is not found keeps these bytes, and only tag 8 may.
-    let mut found = [&[0, 0][..]; TAGS];
-    for (index, value) in values.into_iter().enumerate() {
-        match value {
-            Some(value) => found[index] = value,
-            None if index < REQUIRED => return Err(missing),
-            None => {}
-        }
+    let mut required = [&[][..]; REQUIRED];
+    for (place, value) in required.iter_mut().zip(values) {
+        *place = value.ok_or(missing)?;
     }
-    Ok(found)
+    let [.., milliseconds, barriers] = values;
+    Ok((required, milliseconds, barriers))
 }
 
 /// A big-endian number without a sign.

@@ -5,7 +5,8 @@
 
 use crate::state::{Parameters, Timestamp};
 
-/// A field of numbers, one per cell, that a refusal can name, with its number.
+/// A field, of a number or a byte per cell, that a refusal can name, with its
+/// number.
 #[derive(Clone, Copy, Debug, PartialEq, Eq, PartialOrd, Ord)]
 pub enum Field {
     /// h
@@ -20,10 +21,13 @@ pub enum Field {
     Vorticity = 4,
     /// s (01: river entry)
     Inflow = 5,
+    /// Barriers (02: piers). Their number is the last, though they are tested
+    /// straight after v.
+    Barriers = 6,
 }
 
 impl Field {
-    /// The field's place in the order h, b, u, v, q, s.
+    /// The field's number.
     fn told(self) -> i128 {
         self as i128
     }

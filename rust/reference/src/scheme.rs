@@ -45,9 +45,17 @@ pub fn potential_vorticity(
     b: &[i64],
     u: &[i64],
     v: &[i64],
+    barriers: &[u8],
     out: &mut [i64],
 ) -> FillAnswer {
-    try_potential_vorticity(p, Fields { h, b, u, v }, out).into()
+    let fields = Fields {
+        h,
+        b,
+        u,
+        v,
+        barriers,
+    };
+    try_potential_vorticity(p, fields, out).into()
 }
 
 fn try_potential_vorticity(p: &Parameters, fields: Fields, out: &mut [i64]) -> Result<(), Refusal> {
@@ -65,12 +73,20 @@ pub fn tendencies(
     b: &[i64],
     u: &[i64],
     v: &[i64],
+    barriers: &[u8],
     q: &[i64],
     dh: &mut [i64],
     du: &mut [i64],
     dv: &mut [i64],
 ) -> FillAnswer {
-    try_tendencies(p, Fields { h, b, u, v }, q, dh, du, dv).into()
+    let fields = Fields {
+        h,
+        b,
+        u,
+        v,
+        barriers,
+    };
+    try_tendencies(p, fields, q, dh, du, dv).into()
 }
 
 fn try_tendencies(
@@ -96,7 +112,7 @@ fn try_tendencies(
         du[cell] = tu;
         dv[cell] = tv;
     });
-    grid.close_edges(&mut du[..cells], &mut dv[..cells]);
+    grid.close_edges(fields.barriers, &mut du[..cells], &mut dv[..cells]);
     Ok(())
 }
 
@@ -127,7 +143,7 @@ pub(crate) fn fill_fluxes(
 
 /// The Bernoulli function B, times 4.
 pub(crate) fn fill_bernoulli(grid: Grid, g: i64, fields: Fields, out: &mut [i64]) {
-    let Fields { h, b, u, v } = fields;
+    let Fields { h, b, u, v, .. } = fields;
     let square = |x: i64| x * x;
     grid.for_each(|at| {
         out[at.here] = square(u[at.here])

@@ -1,7 +1,7 @@
 //! A state and its timestamp, their limits, the grid, and refusals 1 to 5, 8 and
 //! 9.
 
-use std::ops::RangeInclusive;
+use std::ops::{Range, RangeInclusive};
 
 use crate::refusal::{Field, Refusal};
 
@@ -13,6 +13,8 @@ pub const DEPTH: RangeInclusive<i64> = 1_000..=100_000;
 pub const BOTTOM: RangeInclusive<i64> = 0..=100_000;
 /// u and v, mm/s
 pub const VELOCITY: RangeInclusive<i64> = -5_000..=5_000;
+/// A byte of the barriers.
+pub const BARRIER: RangeInclusive<i64> = 0..=3;
 /// q
 pub const VORTICITY: RangeInclusive<i64> = -2_000_000..=2_000_000;
 /// s, mm a step
@@ -29,6 +31,11 @@ pub const MAX_STEPS: u64 = 10_000;
 pub const MILLISECONDS: RangeInclusive<u64> = 0..=999;
 /// Work space of a step or run, in numbers per cell.
 pub const WORK_PER_CELL: usize = 8;
+
+/// The bit of a barrier that closes the west edge of its cell.
+const WEST: u8 = 1;
+/// The bit that closes the south edge.
+const SOUTH: u8 = 2;
 
 /// The scalars of a state. Any numbers may stand here; the calls test them.
 #[derive(Clone, Copy, Debug, PartialEq, Eq)]
@@ -75,6 +82,9 @@ pub struct State {
     pub b: Vec<i64>,
     pub u: Vec<i64>,
     pub v: Vec<i64>,
+    /// What closes edges inside the grid (02: piers), a byte per cell: 1 its west
+    /// edge, 2 its south edge, 3 both.
+    pub barriers: Vec<u8>,
 }
 
 impl State {
@@ -84,17 +94,19 @@ impl State {
             b: &self.b,
             u: &self.u,
             v: &self.v,
+            barriers: &self.barriers,
         }
     }
 }
 
-/// The four fields of a state, borrowed.
+/// The fields of a state, borrowed.
 #[derive(Clone, Copy)]
 pub(crate) struct Fields<'a> {
     pub h: &'a [i64],
     pub b: &'a [i64],
     pub u: &'a [i64],
     pub v: &'a [i64],
+    pub barriers: &'a [u8],
 }
 
 /// What closes the grid (01: the seam). Indices wrap all the same.
@@ -199,35 +211,58 @@ impl Grid {
         }
     }
 
-    /// Writes 0 on the closed edges of a pair of edge fields.
-    pub fn close_edges(self, u: &mut [i64], v: &mut [i64]) {
-        if self.boundary.closes_west() {
-            u.iter_mut().step_by(self.w).for_each(|x| *x = 0);
-        }
-        if self.boundary.closes_south() {
-            v[..self.w].fill(0);
+    /// The cells whose west edge the boundary closes, in index order.
+    fn west_wall(self) -> impl Iterator<Item = usize> {
+        let closed = self.boundary.closes_west();
+        (0..if closed { self.cells() } else { 0 }).step_by(self.w)
+    }
+
+    /// The cells whose south edge the boundary closes, in index order.
+    fn south_wall(self) -> Range<usize> {
+        let closed = self.boundary.closes_south();
+        0..if closed { self.w } else { 0 }
+    }
+
+    /// Writes 0 on the closed edges of a pair of edge fields: those that the
+    /// boundary closes, and those that a barrier closes.
+    pub fn close_edges(self, barriers: &[u8], u: &mut [i64], v: &mut [i64]) {
+        self.west_wall().for_each(|cell| u[cell] = 0);
+        self.south_wall().for_each(|cell| v[cell] = 0);
+        for ((u, v), barrier) in u.iter_mut().zip(v).zip(barriers) {
+            if barrier & WEST != 0 {
+                *u = 0;
+            }
+            if barrier & SOUTH != 0 {
+                *v = 0;
+            }
         }
     }
 
     /// Test 5: u before v, lowest cell.
-    fn test_closed_edges(self, u: &[i64], v: &[i64]) -> Result<(), Refusal> {
-        if self.boundary.closes_west() {
-            if let Some(row) = u.iter().step_by(self.w).position(|&x| x != 0) {
-                return Err(Refusal::ClosedEdge {
-                    field: Field::VelocityU,
-                    cell: row * self.w,
-                });
-            }
-        }
-        if self.boundary.closes_south() {
-            if let Some(cell) = v[..self.w].iter().position(|&x| x != 0) {
-                return Err(Refusal::ClosedEdge {
-                    field: Field::VelocityV,
-                    cell,
-                });
-            }
-        }
-        Ok(())
+    fn test_closed_edges(self, fields: Fields) -> Result<(), Refusal> {
+        let Fields { u, v, barriers, .. } = fields;
+        test_still(Field::VelocityU, u, self.west_wall(), barriers, WEST)?;
+        test_still(Field::VelocityV, v, self.south_wall(), barriers, SOUTH)
+    }
+}
+
+/// Test 5 of one velocity: it is 0 on the edges of a wall and on those that this
+/// bit of a barrier closes.
+fn test_still(
+    field: Field,
+    velocities: &[i64],
+    mut wall: impl Iterator<Item = usize>,
+    barriers: &[u8],
+    bit: u8,
+) -> Result<(), Refusal> {
+    let at_wall = wall.find(|&cell| velocities[cell] != 0);
+    let at_barrier = velocities
+        .iter()
+        .zip(barriers)
+        .position(|(&velocity, barrier)| velocity != 0 && barrier & bit != 0);
+    match at_wall.into_iter().chain(at_barrier).min() {
+        Some(cell) => Err(Refusal::ClosedEdge { field, cell }),
+        None => Ok(()),
     }
 }
 
@@ -264,10 +299,16 @@ pub(crate) fn test_grid(p: &Parameters) -> Result<Grid, Refusal> {
 
 /// Test 2, but for the work space.
 pub(crate) fn test_lengths(grid: Grid, fields: Fields, extra: Extra) -> Result<(), Refusal> {
-    let Fields { h, b, u, v } = fields;
-    let state_fits = [h, b, u, v].iter().all(|f| f.len() == grid.cells());
-    let extra_fits = extra.is_none_or(|(_, values)| values.len() == grid.cells());
-    if state_fits && extra_fits {
+    let Fields {
+        h,
+        b,
+        u,
+        v,
+        barriers,
+    } = fields;
+    let lengths = [h.len(), b.len(), u.len(), v.len(), barriers.len()];
+    let extra = extra.map(|(_, values)| values.len());
+    if lengths.into_iter().chain(extra).all(|k| k == grid.cells()) {
         Ok(())
     } else {
         Err(Refusal::Lengths)
@@ -313,18 +354,23 @@ fn test_milliseconds(timestamp: Timestamp) -> Result<(), Refusal> {
 
 /// Tests 4 and 5; the lengths have been tested.
 fn test_fields(grid: Grid, fields: Fields, extra: Extra) -> Result<(), Refusal> {
-    let state = [
-        (Field::Depth, fields.h),
-        (Field::Bottom, fields.b),
-        (Field::VelocityU, fields.u),
-        (Field::VelocityV, fields.v),
-    ];
-    for (field, values) in state.into_iter().chain(extra) {
-        if let Some(cell) = first_outside(field, values) {
-            return Err(Refusal::Value { field, cell });
-        }
+    test_bound(Field::Depth, fields.h)?;
+    test_bound(Field::Bottom, fields.b)?;
+    test_bound(Field::VelocityU, fields.u)?;
+    test_bound(Field::VelocityV, fields.v)?;
+    test_bound(Field::Barriers, fields.barriers)?;
+    if let Some((field, values)) = extra {
+        test_bound(field, values)?;
     }
-    grid.test_closed_edges(fields.u, fields.v)
+    grid.test_closed_edges(fields)
+}
+
+/// Test 4 of one field.
+fn test_bound<T: Copy + Into<i64>>(field: Field, values: &[T]) -> Result<(), Refusal> {
+    match first_outside(field, values) {
+        Some(cell) => Err(Refusal::Value { field, cell }),
+        None => Ok(()),
+    }
 }
 
 /// Tests 3, 4 and 5; the lengths have been tested.
@@ -370,14 +416,17 @@ pub(crate) fn test_destinations(
     }
 }
 
-/// The lowest cell whose value is outside the field's bound.
-pub(crate) fn first_outside(field: Field, values: &[i64]) -> Option<usize> {
+/// The lowest cell whose value, a number or a byte, is outside the field's bound.
+pub(crate) fn first_outside<T: Copy + Into<i64>>(field: Field, values: &[T]) -> Option<usize> {
     let bound = match field {
         Field::Depth => DEPTH,
         Field::Bottom => BOTTOM,
         Field::VelocityU | Field::VelocityV => VELOCITY,
         Field::Vorticity => VORTICITY,
         Field::Inflow => INFLOW,
+        Field::Barriers => BARRIER,
     };
-    values.iter().position(|value| !bound.contains(value))
+    values
+        .iter()
+        .position(|&value| !bound.contains(&value.into()))
 }

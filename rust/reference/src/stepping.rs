@@ -20,10 +20,11 @@ pub fn step(
     b: &[i64],
     u: &mut [i64],
     v: &mut [i64],
+    barriers: &[u8],
     inflow: &[i64],
     work: &mut [i64],
 ) -> StepAnswer {
-    match run(p, h, b, u, v, inflow, 1, work) {
+    match run(p, h, b, u, v, barriers, inflow, 1, work) {
         RunAnswer::Finished { .. } => StepAnswer::Done,
         RunAnswer::Stopped {
             pass, field, cell, ..
@@ -40,21 +41,29 @@ pub fn run(
     b: &[i64],
     u: &mut [i64],
     v: &mut [i64],
+    barriers: &[u8],
     inflow: &[i64],
     steps: u64,
     work: &mut [i64],
 ) -> RunAnswer {
-    let grid = match test_room(p, Fields { h, b, u, v }, inflow, steps, work.len()) {
+    let fields = Fields {
+        h,
+        b,
+        u,
+        v,
+        barriers,
+    };
+    let grid = match test_room(p, fields, inflow, steps, work.len()) {
         Ok(grid) => grid,
         Err(refusal) => return RunAnswer::Refused(refusal),
     };
     let work = &mut work[..grid.work()];
     // From here on the work space is left clear, whatever the answer.
     let extra = Some((Field::Inflow, inflow));
-    let answer = match test_values(p, grid, Fields { h, b, u, v }, extra) {
+    let answer = match test_values(p, grid, fields, extra) {
         Ok(()) => {
             let mut stage = Stage::in_work_space(work, grid.cells());
-            advance(p, grid, h, b, u, v, inflow, steps, &mut stage)
+            advance(p, grid, h, b, u, v, barriers, inflow, steps, &mut stage)
         }
         Err(refusal) => RunAnswer::Refused(refusal),
     };
@@ -69,12 +78,19 @@ fn advance(
     b: &[i64],
     u: &mut [i64],
     v: &mut [i64],
+    barriers: &[u8],
     inflow: &[i64],
     steps: u64,
     stage: &mut Stage,
 ) -> RunAnswer {
     for done in 0..steps {
-        let base = Fields { h, b, u, v };
+        let base = Fields {
+            h,
+            b,
+            u,
+            v,
+            barriers,
+        };
         if let Err(OutOfBounds { pass, field, cell }) = two_passes(p, grid, base, inflow, stage) {
             return RunAnswer::Stopped {
                 steps: done,
@@ -165,8 +181,8 @@ impl<'a> Stage<'a> {
         // Everything the tendencies need, so that h, u and v are free.
         fill_vorticity(grid, p.c, h, u, v, q);
         fill_fluxes(grid, h, u, v, flux_u, flux_v);
-        let b = base.b;
-        fill_bernoulli(grid, p.g, Fields { h, b, u, v }, bernoulli);
+        let given = Fields { h, u, v, ..base };
+        fill_bernoulli(grid, p.g, given, bernoulli);
 
         // The flow through an edge is rounded once, leaves one cell and enters
         // the other: the total keeps exactly.
@@ -188,20 +204,46 @@ impl<'a> Stage<'a> {
             v[cell] = base.v[cell] + round_div(tv, divisor);
         });
         // The base has 0 there and the tendency is 0.
-        grid.close_edges(u, v);
+        grid.close_edges(base.barriers, u, v);
     }
 }
 
 /// Total depth: the sum of h.
-pub fn total_depth(p: &Parameters, h: &[i64], b: &[i64], u: &[i64], v: &[i64]) -> TotalAnswer {
-    test_state(p, Fields { h, b, u, v }, None)
-        .map(|_| h.iter().sum())
-        .into()
+pub fn total_depth(
+    p: &Parameters,
+    h: &[i64],
+    b: &[i64],
+    u: &[i64],
+    v: &[i64],
+    barriers: &[u8],
+) -> TotalAnswer {
+    let fields = Fields {
+        h,
+        b,
+        u,
+        v,
+        barriers,
+    };
+    test_state(p, fields, None).map(|_| h.iter().sum()).into()
 }
 
 /// Four times total energy.
-pub fn total_energy(p: &Parameters, h: &[i64], b: &[i64], u: &[i64], v: &[i64]) -> TotalAnswer {
-    test_state(p, Fields { h, b, u, v }, None)
+pub fn total_energy(
+    p: &Parameters,
+    h: &[i64],
+    b: &[i64],
+    u: &[i64],
+    v: &[i64],
+    barriers: &[u8],
+) -> TotalAnswer {
+    let fields = Fields {
+        h,
+        b,
+        u,
+        v,
+        barriers,
+    };
+    test_state(p, fields, None)
         .map(|grid| {
             let mut total = 0;
             grid.for_each(|at| {

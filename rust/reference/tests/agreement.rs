@@ -31,6 +31,8 @@ struct Nine {
 
 const RAIN: [i64; 9] = [1, -2, 3, -4, 5, -6, 7, -8, 9];
 const LENT: [i64; 9] = [1000, -2000, 3000, -4000, 5000, -6000, 7000, -8000, 9000];
+/// No barriers.
+const OPEN: [u8; 9] = [0; 9];
 
 impl Nine {
     fn new(kind: u8) -> Self {
@@ -65,7 +67,8 @@ impl Nine {
 
     fn vorticities(&self) -> String {
         let mut q = [0; 9];
-        let answer = potential_vorticity(&self.p, &self.h, &self.b, &self.u, &self.v, &mut q);
+        let answer =
+            potential_vorticity(&self.p, &self.h, &self.b, &self.u, &self.v, &OPEN, &mut q);
         assert_eq!(answer, FillAnswer::Done);
         format!("vorticities {} (zeros 9) done {}", self.name, list(&q))
     }
@@ -80,7 +83,7 @@ impl Nine {
             u,
             v,
         } = self;
-        let answer = tendencies(p, h, b, u, v, &LENT, &mut dh, &mut du, &mut dv);
+        let answer = tendencies(p, h, b, u, v, &OPEN, &LENT, &mut dh, &mut du, &mut dv);
         assert_eq!(answer, FillAnswer::Done);
         format!(
             "tends {name} lent (zeros 9) (zeros 9) (zeros 9) done {} {} {}",
@@ -91,7 +94,7 @@ impl Nine {
     }
 
     fn energy(&self) -> String {
-        let answer = total_energy(&self.p, &self.h, &self.b, &self.u, &self.v);
+        let answer = total_energy(&self.p, &self.h, &self.b, &self.u, &self.v, &OPEN);
         let TotalAnswer::Total(total) = answer else {
             panic!("{answer:?}");
         };
@@ -107,6 +110,7 @@ impl Nine {
             b: self.b.to_vec(),
             u: self.u.to_vec(),
             v: self.v.to_vec(),
+            barriers: OPEN.to_vec(),
         };
         let energy = energy_rate(&state, &RAIN, &self.b, &LENT);
         let enstrophy = enstrophy_rate(&self.p, &LENT, &RAIN, &self.b, &LENT);
@@ -130,6 +134,7 @@ impl Nine {
             &self.b,
             &mut u,
             &mut v,
+            &OPEN,
             &RAIN,
             &mut [7; 73],
         );
@@ -150,6 +155,7 @@ impl Nine {
             &self.b,
             &mut u,
             &mut v,
+            &OPEN,
             &RAIN,
             length,
             &mut [7; 72],
@@ -176,8 +182,14 @@ fn steep() -> [String; 2] {
     };
     let (mut h, mut u, mut v) = ([1000, 2000], [0; 2], [0; 2]);
     let still = [0; 2];
-    let stepped = step(&p, &mut h, &still, &mut u, &mut v, &still, &mut [7; 16]).told();
-    let ran = run(&p, &mut h, &still, &mut u, &mut v, &still, 3, &mut [7; 16]).told();
+    let open = [0; 2];
+    let mut work = [7; 16];
+    let stepped = step(&p, &mut h, &still, &mut u, &mut v, &open, &still, &mut work).told();
+    let mut work = [7; 16];
+    let ran = run(
+        &p, &mut h, &still, &mut u, &mut v, &open, &still, 3, &mut work,
+    )
+    .told();
     assert_eq!((h, u, v), ([1000, 2000], still, still));
     [("steps", "", stepped), ("runs", "3 ", ran)].map(|(call, length, told)| {
         assert_eq!(told[..2], [6, 2]);
@@ -204,13 +216,14 @@ fn shallow(w: usize, n: usize) -> String {
         b: zeros.clone(),
         u: zeros.clone(),
         v: zeros,
+        barriers: vec![0; w * n],
     };
     let printed = step_program(&record_of(&state, 0));
     format!("prints (encode (shallow {w} {n}) (timeOf 0 0)) {printed:?}")
 }
 
-/// The same for worked example 10's record, which has no tag 8, with `m` bytes for
-/// its depth.
+/// The same for worked example 10's record, which has neither tag 8 nor tag 9,
+/// with `m` bytes for its depth.
 fn lengthened(m: usize) -> String {
     let state = State {
         parameters: Parameters {
@@ -225,6 +238,7 @@ fn lengthened(m: usize) -> String {
         b: vec![0],
         u: vec![100],
         v: vec![-50],
+        barriers: vec![0],
     };
     let mut fields = record_fields(&state, 0);
     fields[3] = record_field(4, &vec![0; m]);

@@ -5,6 +5,7 @@ mod common;
 
 mod agreement;
 mod balance;
+mod barriers;
 mod conservation;
 mod program;
 mod record;

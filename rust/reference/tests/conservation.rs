@@ -1,14 +1,14 @@
 //! The scaled rates of energy and enstrophy, by the tendencies that the call
-//! fills in: energy exactly 0 for every boundary, enstrophy exactly 0 where
-//! no edge is closed, for any lent q.
+//! fills in: energy exactly 0 for every boundary and any barriers, enstrophy
+//! exactly 0 where no edge is closed, for any lent q.
 
 use crate::common::literal::{self, Three, Variant, NO_E_F, PAPER};
-use crate::common::{random_q, random_size, random_state, Random, Spread, SPREADS};
-use reference::{energy_rate, enstrophy_rate, potential_vorticity, tendencies, FillAnswer, State};
+use crate::common::{is_open, random_q, random_size, random_state, random_state_without_barriers};
+use crate::common::{tendencies_of, vorticity_of, Random, Spread, SPREADS};
+use reference::{energy_rate, enstrophy_rate, State};
 
 /// A random state, a q for it (its own or any), and the tendencies that the
-/// library fills in. Odd numbers in the destinations would show a place left
-/// unfilled.
+/// library fills in.
 struct Case {
     state: State,
     q: Vec<i64>,
@@ -16,31 +16,29 @@ struct Case {
 }
 
 impl Case {
+    /// Every second one with barriers.
     fn new(random: &mut Random, kind: u8) -> Self {
-        let spread = random.pick(&SPREADS);
-        let size = random_size(random);
+        let (spread, size) = (random.pick(&SPREADS), random_size(random));
         let state = random_state(random, spread, size, kind);
+        Case::of(random, state)
+    }
+
+    /// One without closed edges.
+    fn open(random: &mut Random) -> Self {
+        let (spread, size) = (random.pick(&SPREADS), random_size(random));
+        let state = random_state_without_barriers(random, spread, size, 0);
+        Case::of(random, state)
+    }
+
+    fn of(random: &mut Random, state: State) -> Self {
         let cells = state.h.len();
-        let p = state.parameters;
         let q = if random.once_in(4) {
-            let mut q = vec![0; cells];
-            let answer = potential_vorticity(&p, &state.h, &state.b, &state.u, &state.v, &mut q);
-            assert_eq!(answer, FillAnswer::Done, "{state:?}");
-            q
+            vorticity_of(&state).expect("within the limits")
         } else {
             let spread = random.pick(&[Spread::Even, Spread::Extreme, Spread::Mixed]);
             random_q(random, spread, cells)
         };
-        let (mut dh, mut du, mut dv) = (vec![1; cells], vec![1; cells], vec![1; cells]);
-        let answer = tendencies(
-            &p, &state.h, &state.b, &state.u, &state.v, &q, &mut dh, &mut du, &mut dv,
-        );
-        assert_eq!(answer, FillAnswer::Done, "{state:?} {q:?}");
-        let rates = Three {
-            h: dh,
-            u: du,
-            v: dv,
-        };
+        let rates = tendencies_of(&state, &q).expect("within the limits");
         Case { state, q, rates }
     }
 
@@ -77,7 +75,7 @@ fn altered(random: &mut Random, rates: &Three) -> Three {
 }
 
 #[test]
-fn energy_rate_is_zero_for_every_boundary() {
+fn energy_rate_is_zero_for_every_boundary_and_any_barriers() {
     for kind in 0..3 {
         let mut random = Random::new(10 + u64::from(kind));
         let (mut seen, mut tried) = (0, 0);
@@ -100,7 +98,7 @@ fn enstrophy_rate_is_zero_without_closed_edges() {
     let mut random = Random::new(20);
     let (mut seen, mut tried) = (0, 0);
     for _ in 0..5_000 {
-        let case = Case::new(&mut random, 0);
+        let case = Case::open(&mut random);
         let Case { state, q, rates } = &case;
         assert_eq!(case.enstrophy_rate(rates), 0, "{state:?} {q:?}");
         tried += 1;
@@ -114,15 +112,18 @@ fn enstrophy_rate_is_zero_without_closed_edges() {
 }
 
 #[test]
-fn enstrophy_rate_need_not_be_zero_at_walls() {
-    for kind in 1..3 {
+fn enstrophy_rate_need_not_be_zero_at_walls_and_barriers() {
+    for kind in 0..3 {
         let mut random = Random::new(30 + u64::from(kind));
-        let nonzero = (0..300)
+        let mut closed = 0;
+        let nonzero = (0..600)
             .map(|_| Case::new(&mut random, kind))
+            .filter(|case| !is_open(&case.state))
+            .inspect(|_| closed += 1)
             .filter(|case| case.enstrophy_rate(&case.rates) != 0)
             .count();
-        println!("kind {kind}: {nonzero} of 300");
-        assert!(nonzero > 100, "{nonzero}");
+        println!("kind {kind}: {nonzero} of {closed}");
+        assert!(closed > 200 && nonzero * 3 > closed, "{nonzero} {closed}");
     }
 }
 
@@ -131,7 +132,7 @@ fn without_e_and_f_energy_balances_and_enstrophy_does_not() {
     let mut random = Random::new(40);
     let mut nonzero = 0;
     for _ in 0..1_000 {
-        let case = Case::new(&mut random, 0);
+        let case = Case::open(&mut random);
         let Case { state, q, .. } = &case;
         let rates = NO_E_F.tendencies(state, q);
         assert_eq!(case.energy_rate(&rates), 0, "{state:?} {q:?}");
@@ -149,7 +150,7 @@ fn beta_from_the_wrong_cell_breaks_energy() {
     };
     let mut random = Random::new(50);
     let nonzero = (0..1_000)
-        .map(|_| Case::new(&mut random, 0))
+        .map(|_| Case::open(&mut random))
         .filter(|case| case.energy_rate(&wrong.tendencies(&case.state, &case.q)) != 0)
         .count();
     println!("{nonzero} of 1000");

@@ -7,7 +7,7 @@ use crate::common::literal::PAPER;
 use crate::common::{
     at_rest, milliseconds_field, moment, random_state, random_timestamp, record_of,
 };
-use crate::common::{record_of_length, record_without_8, Random, Spread};
+use crate::common::{record_of_01, record_of_length, Random, Spread};
 use reference::{step_program, Parameters, State};
 
 /// Runs the program itself.
@@ -46,6 +46,7 @@ fn one_cell() -> State {
         b: vec![0],
         u: vec![100],
         v: vec![-50],
+        barriers: vec![0],
     }
 }
 
@@ -57,7 +58,7 @@ fn worked_example_10() {
         0x00, 0x00, 0x04, 0x00, 0x04, 0x00, 0x00, 0x07, 0xD0, 0x05, 0x00, 0x04, 0x00, 0x00, 0x00,
         0x00, 0x06, 0x00, 0x02, 0x00, 0x64, 0x07, 0x00, 0x02, 0xFF, 0xCE,
     ];
-    assert_eq!(record_without_8(&one_cell(), 0), input);
+    assert_eq!(record_of_01(&one_cell(), 0), input);
     let text = "total 2000\n0 0 2000 99 -51\n";
     assert_prints(&input, text);
     // With tag 8, wherever it stands.
@@ -122,6 +123,7 @@ fn every_refusal_is_printed() {
             b: vec![0; 2],
             u: vec![0; 2],
             v: vec![0; 2],
+            barriers: vec![0; 2],
         }
     });
     assert_prints(&[], "refused 7\n");

@@ -1,21 +1,58 @@
-//! The record: both round trips, tags in any order, with tag 8 and without, every
-//! kind of damage, every value of the milliseconds, and the comparison of two
-//! records.
+//! The record: both round trips, tags in any order, with tags 8 and 9 and without,
+//! every kind of damage, every value of the milliseconds and of a barrier, and the
+//! comparison of two records.
 
-use crate::common::{any_state, every_order, moment, random_state, random_timestamp};
-use crate::common::{milliseconds_field, record_field, record_fields, record_of, record_without_8};
-use crate::common::{two_cells, written, Random, Spread, NUMBERS, SPREADS};
+use crate::common::{any_state, every_order, moment, random_state, random_timestamp, shuffled};
+use crate::common::{milliseconds_field, record_field, record_fields, record_of, within_limits};
+use crate::common::{
+    two_cells, two_cells_and_a_barrier, written, Random, Spread, NUMBERS, SPREADS,
+};
 use reference::{compare, read, CompareAnswer, ReadAnswer, State, Timestamp};
 
-/// A destination place that reading must not touch.
+/// What stands in the destinations of a read: places that it must not touch keep
+/// these.
 const KEPT: i64 = -77;
+const KEPT_BYTE: u8 = 77;
+
+/// The five destinations of a read.
+#[derive(Clone, Debug, PartialEq)]
+struct Destinations {
+    /// h, b, u, v
+    fields: [Vec<i64>; 4],
+    barriers: Vec<u8>,
+}
+
+impl Destinations {
+    /// So many places each, before a read.
+    fn of(room: usize) -> Self {
+        Destinations {
+            fields: [(); 4].map(|()| vec![KEPT; room]),
+            barriers: vec![KEPT_BYTE; room],
+        }
+    }
+
+    /// The same after a read of this state.
+    fn with(state: &State, room: usize) -> Self {
+        let mut filled = Destinations::of(room);
+        let fields = [&state.h, &state.b, &state.u, &state.v];
+        for (place, field) in filled.fields.iter_mut().zip(fields) {
+            place[..field.len()].copy_from_slice(field);
+        }
+        filled.barriers[..state.barriers.len()].copy_from_slice(&state.barriers);
+        filled
+    }
+
+    fn read(&mut self, record: &[u8]) -> ReadAnswer {
+        let [h, b, u, v] = &mut self.fields;
+        read(record, h, b, u, v, &mut self.barriers)
+    }
+}
 
 /// Reads into destinations of `room` places. Gives the answer as 01 tells it
-/// and the four destinations.
-fn read_into(record: &[u8], room: usize) -> (Vec<i128>, [Vec<i64>; 4]) {
-    let [mut h, mut b, mut u, mut v] = [(); 4].map(|()| vec![KEPT; room]);
-    let told = read(record, &mut h, &mut b, &mut u, &mut v).told();
-    (told, [h, b, u, v])
+/// and the destinations.
+fn read_into(record: &[u8], room: usize) -> (Vec<i128>, Destinations) {
+    let mut destinations = Destinations::of(room);
+    (destinations.read(record).told(), destinations)
 }
 
 /// What reading the record of this state should tell.
@@ -28,13 +65,19 @@ fn told_for(state: &State, timestamp: impl Into<Timestamp>) -> Vec<i128> {
     told
 }
 
+/// The record is read as this state, into destinations of `room` places.
+fn assert_read(record: &[u8], room: usize, state: &State, timestamp: impl Into<Timestamp>) {
+    let (told, destinations) = read_into(record, room);
+    assert_eq!(told, told_for(state, timestamp), "{state:?}: {record:?}");
+    let expected = Destinations::with(state, room);
+    assert_eq!(destinations, expected, "{state:?}: {record:?}");
+}
+
 /// The record is refused, and no destination is touched.
 fn assert_refused(record: &[u8], expected: &[i128], what: &str) {
-    let (told, fields) = read_into(record, 64);
+    let (told, destinations) = read_into(record, 64);
     assert_eq!(told, expected, "{what}: {record:?}");
-    for field in fields {
-        assert!(field.iter().all(|&x| x == KEPT), "{what}: {record:?}");
-    }
+    assert_eq!(destinations, Destinations::of(64), "{what}: {record:?}");
 }
 
 #[test]
@@ -45,44 +88,48 @@ fn reading_what_was_written_gives_the_state_back() {
         let timestamp = random_timestamp(&mut random);
         let record = written(&state, timestamp);
         assert_eq!(record, record_of(&state, timestamp), "{state:?}");
-        let cells = state.h.len();
-        let room = cells + random.below(5);
-        let (told, fields) = read_into(&record, room);
-        assert_eq!(told, told_for(&state, timestamp), "{state:?} {timestamp:?}");
-        for (got, field) in fields.iter().zip([&state.h, &state.b, &state.u, &state.v]) {
-            assert_eq!(&got[..cells], field, "{state:?} {timestamp:?}");
-            assert!(got[cells..].iter().all(|&x| x == KEPT), "{state:?}");
-        }
+        let room = state.h.len() + random.below(5);
+        assert_read(&record, room, &state, timestamp);
     }
 }
 
 #[test]
 fn writing_keeps_the_rest_of_its_destination() {
-    let state = two_cells();
-    let p = &state.parameters;
-    let mut out = vec![0xEE; 49 + 24 + 3];
+    let state = two_cells_and_a_barrier();
+    let State {
+        parameters: p,
+        h,
+        b,
+        u,
+        v,
+        barriers,
+    } = &state;
+    let mut out = vec![0xEE; 52 + 26 + 3];
     let time = moment(5, 999);
-    let answer = reference::write(p, &state.h, &state.b, &state.u, &state.v, time, &mut out);
-    assert_eq!(answer.told(), [0, 73]);
-    assert_eq!(out[..73], record_of(&state, time));
-    assert_eq!(out[73..], [0xEE; 3]);
-    assert_eq!(out[68..73], [8, 0, 2, 3, 0xE7]);
+    let answer = reference::write(p, h, b, u, v, barriers, time, &mut out);
+    assert_eq!(answer.told(), [0, 78]);
+    assert_eq!(out[..78], record_of(&state, time));
+    assert_eq!(out[78..], [0xEE; 3]);
+    assert_eq!(out[68..78], [8, 0, 2, 3, 0xE7, 9, 0, 2, 0, 2]);
 }
 
 /// A record read, and written again.
 fn rewritten(record: &[u8], cells: usize) -> Vec<u8> {
-    let [mut h, mut b, mut u, mut v] = [(); 4].map(|()| vec![KEPT; cells]);
-    match read(record, &mut h, &mut b, &mut u, &mut v) {
+    let mut destinations = Destinations::of(cells);
+    match destinations.read(record) {
         ReadAnswer::Read {
             parameters,
             timestamp,
         } => {
+            let Destinations { fields, barriers } = destinations;
+            let [h, b, u, v] = fields;
             let state = State {
                 parameters,
                 h,
                 b,
                 u,
                 v,
+                barriers,
             };
             written(&state, timestamp)
         }
@@ -97,39 +144,47 @@ fn writing_what_was_read_gives_its_fields_back_by_rising_tag() {
         let state = any_state(&mut random);
         let cells = state.h.len();
         let timestamp = random_timestamp(&mut random);
-        let rising = record_of(&state, timestamp);
+        let fields = record_fields(&state, timestamp);
+        let rising = fields.concat();
         assert_eq!(rewritten(&rising, cells), rising, "{rising:?}");
-        let mut turned = record_fields(&state, timestamp);
-        turned.rotate_left(random.below(8));
+        let mut turned = fields.clone();
+        turned.rotate_left(random.below(9));
         assert_eq!(rewritten(&turned.concat(), cells), rising, "{turned:?}");
-        // What lacks tag 8 gets it, of zeros, at its end.
-        let old = record_without_8(&state, timestamp.seconds);
-        let restored = [&old[..], &[8, 0, 2, 0, 0]].concat();
-        assert_eq!(rewritten(&old, cells), restored, "{old:?}");
+        // What lacks tag 8 or 9 gets it, of zeros, where it belongs.
+        for lacking in [&[8][..], &[9], &[8, 9]] {
+            let mut old = fields.clone();
+            old.retain(|field| !lacking.contains(&field[0]));
+            let mut restored = fields.clone();
+            let zeroed = restored
+                .iter_mut()
+                .filter(|field| lacking.contains(&field[0]));
+            zeroed.for_each(|field| field[3..].fill(0));
+            let old = old.concat();
+            assert_eq!(rewritten(&old, cells), restored.concat(), "{old:?}");
+        }
     }
 }
 
 #[test]
-fn the_largest_record_has_49_201_bytes() {
+fn the_largest_record_has_53_300_bytes() {
     let mut random = Random::new(102);
     let state = random_state(&mut random, Spread::Mixed, (64, 64), 2);
     let last = moment(u64::MAX, 999);
     let record = written(&state, last);
-    assert_eq!(record.len(), 49_201);
-    let (told, [h, ..]) = read_into(&record, 4_096);
-    assert_eq!(told, told_for(&state, last));
-    assert_eq!(h, state.h);
+    assert_eq!(record.len(), 53_300);
+    assert_read(&record, 4_096, &state, last);
 }
 
 /// In every order these fields read as the state at this time.
 fn every_order_reads(state: &State, time: Timestamp, fields: &mut [Vec<u8>], orders: usize) {
     let rising = record_of(state, time);
-    let expected = read_into(&rising, 3);
-    assert_eq!(expected.0, told_for(state, time));
+    let told = told_for(state, time);
+    let filled = Destinations::with(state, 3);
     let mut tried = 0;
     every_order(fields, 0, &mut |fields| {
         let record = fields.concat();
-        assert_eq!(read_into(&record, 3), expected, "{record:?}");
+        let (got, destinations) = read_into(&record, 3);
+        assert!(got == told && destinations == filled, "{record:?}");
         assert_eq!(compare(&rising, &record), CompareAnswer::Same, "{record:?}");
         tried += 1;
     });
@@ -138,10 +193,18 @@ fn every_order_reads(state: &State, time: Timestamp, fields: &mut [Vec<u8>], ord
 
 #[test]
 fn tags_in_every_order_read_the_same() {
-    let state = two_cells();
-    let mut fields = record_fields(&state, moment(12, 250));
-    every_order_reads(&state, moment(12, 250), &mut fields, 40_320);
-    every_order_reads(&state, moment(12, 0), &mut fields[..7], 5_040);
+    let (barred, open) = (two_cells_and_a_barrier(), two_cells());
+    let (whole, later) = (moment(12, 0), moment(12, 250));
+    let mut nine = record_fields(&barred, later);
+    every_order_reads(&barred, later, &mut nine, 362_880);
+    let mut without_9 = record_fields(&open, later);
+    without_9.remove(8);
+    every_order_reads(&open, later, &mut without_9, 40_320);
+    let mut without_8 = record_fields(&barred, whole);
+    without_8.remove(7);
+    every_order_reads(&barred, whole, &mut without_8, 40_320);
+    let mut seven = record_fields(&open, whole);
+    every_order_reads(&open, whole, &mut seven[..7], 5_040);
 }
 
 #[test]
@@ -160,6 +223,24 @@ fn every_value_of_tag_8_is_read_or_refused() {
 }
 
 #[test]
+fn every_value_of_a_barrier_is_read_or_refused() {
+    let mut state = two_cells();
+    (state.u, state.v) = (vec![0; 2], vec![0; 2]);
+    for cell in 0..2 {
+        for value in 0..=255 {
+            let mut state = state.clone();
+            state.barriers[cell] = value;
+            let record = record_of(&state, 12);
+            if value <= 3 {
+                assert_read(&record, 3, &state, 12);
+            } else {
+                assert_refused(&record, &[4, 6, cell as i128], "a barrier");
+            }
+        }
+    }
+}
+
+#[test]
 fn a_record_cut_off_anywhere_is_refused() {
     let record = record_of(&two_cells(), 12);
     let mut starts = vec![0];
@@ -167,10 +248,9 @@ fn a_record_cut_off_anywhere_is_refused() {
         starts.push(starts[starts.len() - 1] + field.len());
     }
     for length in 0..record.len() {
-        if length == starts[7] {
-            // All of tag 8 is cut off, which a record can do without.
-            let expected = told_for(&two_cells(), 12);
-            assert_eq!(read_into(&record[..length], 2).0, expected);
+        if starts[7..].contains(&length) {
+            // All of tag 9 is cut off, or of 8 and 9: a record can do without.
+            assert_read(&record[..length], 2, &two_cells(), 12);
             continue;
         }
         // Cut at the end of a field a tag is missing, else the last one is bad.
@@ -201,7 +281,7 @@ fn with_field(place: usize, field: Vec<u8>) -> (Vec<u8>, usize) {
 #[test]
 fn one_or_two_bytes_left_are_refused() {
     let whole = record_of(&two_cells(), 12);
-    for rest in [&[1][..], &[0], &[9], &[1, 0], &[200, 200]] {
+    for rest in [&[1][..], &[0], &[9], &[10], &[1, 0], &[200, 200]] {
         let record = [&whole, rest].concat();
         let expected = [7, whole.len() as i128];
         assert_refused(&record, &expected, "bytes left");
@@ -211,8 +291,8 @@ fn one_or_two_bytes_left_are_refused() {
 
 #[test]
 fn an_unknown_tag_is_refused() {
-    for tag in (0..=255).filter(|tag| !(1..=8).contains(tag)) {
-        for place in 0..8 {
+    for tag in (0..=255).filter(|tag| !(1..=9).contains(tag)) {
+        for place in 0..9 {
             let mut field = record_fields(&two_cells(), 12)[place].clone();
             field[0] = tag;
             let (record, offset) = with_field(place, field);
@@ -228,8 +308,8 @@ fn an_unknown_tag_is_refused() {
 #[test]
 fn a_repeated_tag_is_refused() {
     let fields = record_fields(&two_cells(), 12);
-    for again in 0..8 {
-        for place in 0..=8 {
+    for again in 0..9 {
+        for place in 0..=9 {
             let mut damaged = fields.clone();
             damaged.insert(place, fields[again].clone());
             // The second of the two is the bad one.
@@ -248,7 +328,7 @@ fn a_repeated_tag_is_refused() {
 #[test]
 fn a_value_past_the_end_is_refused() {
     let fields = record_fields(&two_cells(), 12);
-    for last in 0..8 {
+    for last in 0..9 {
         let mut order = fields.clone();
         let field = order.remove(last);
         let offset = order.concat().len();
@@ -281,9 +361,9 @@ fn tags_1_2_3_and_8_of_a_wrong_length_are_refused() {
 #[test]
 fn a_missing_tag_is_refused_at_the_records_length() {
     let fields = record_fields(&two_cells(), 12);
-    // Every set of the eight in which one of the first seven is missing.
-    for set in (0..256).filter(|set| set & 127 != 127) {
-        let record: Vec<u8> = (0..8)
+    // Every set of the nine in which one of the first seven is missing.
+    for set in (0..512).filter(|set| set & 127 != 127) {
+        let record: Vec<u8> = (0..9)
             .filter(|k| set >> k & 1 == 1)
             .flat_map(|k| fields[k].clone())
             .collect();
@@ -312,8 +392,8 @@ fn the_first_bad_tag_is_reported() {
 }
 
 #[test]
-fn tags_4_to_7_of_a_wrong_length_are_a_2() {
-    for (place, right) in [(3, 8), (4, 8), (5, 4), (6, 4)] {
+fn tags_4_to_7_and_9_of_a_wrong_length_are_a_2() {
+    for (place, right) in [(3, 8), (4, 8), (5, 4), (6, 4), (8, 2)] {
         for length in (0..20).chain([65_535]) {
             if length == right {
                 continue;
@@ -333,13 +413,14 @@ fn reading_tests_7_1_2_8_3_9_4_5_in_this_order() {
     let mut state = two_cells();
     state.parameters.kind = 2;
     state.u[0] = 1; // 5
+    state.barriers = vec![0, 5]; // 4
     state.b[1] = 100_001; // 4
     let late = moment(1, 1_000); // 9
     state.parameters.g = 0; // 3
     let room = 1; // 8
     state.h.push(1_000); // 2
     state.parameters.w = 0; // 1
-    let damage = [9]; // 7
+    let damage = [10]; // 7
 
     let record = [record_of(&state, late), damage.to_vec()].concat();
     let expected = vec![7, record.len() as i128 - 1];
@@ -350,19 +431,17 @@ fn reading_tests_7_1_2_8_3_9_4_5_in_this_order() {
     state.h.pop();
     assert_eq!(read_into(&record_of(&state, late), room).0, [8]);
     let record = record_of(&state, late);
-    let [mut two, mut two_more, mut yet_two, mut one] =
-        [vec![0; 2], vec![0; 2], vec![0; 2], vec![0]];
-    for short in 0..4 {
-        // Each of the four destinations may be the short one.
-        let told = match short {
-            0 => read(&record, &mut one, &mut two, &mut two_more, &mut yet_two),
-            1 => read(&record, &mut two, &mut one, &mut two_more, &mut yet_two),
-            2 => read(&record, &mut two, &mut two_more, &mut one, &mut yet_two),
-            _ => read(&record, &mut two, &mut two_more, &mut yet_two, &mut one),
-        };
-        assert_eq!(told.told(), [8]);
+    for short in 0..5 {
+        // Each of the five destinations may be the short one.
+        let mut lent = Destinations::of(2);
+        match lent.fields.get_mut(short) {
+            Some(field) => field.truncate(1),
+            None => lent.barriers.truncate(1),
+        }
+        let before = lent.clone();
+        assert_eq!(lent.read(&record).told(), [8]);
+        assert_eq!(lent, before);
     }
-    assert_eq!([two, two_more, yet_two, one].concat(), [0; 7]);
     assert_eq!(read_into(&record, 2).0, [3]);
     // A comparison lends nothing, so it never meets 8.
     assert_eq!(compare(&record, &[]).told(), [3, 1]);
@@ -372,11 +451,15 @@ fn reading_tests_7_1_2_8_3_9_4_5_in_this_order() {
     assert_eq!(compare(&record, &[]).told(), [9, 1]);
     assert_eq!(read_into(&record_of(&state, 1), 2).0, [4, 1, 1]);
     state.b[1] = 0;
+    assert_eq!(read_into(&record_of(&state, 1), 2).0, [4, 6, 1]);
+    state.barriers[1] = 1;
     assert_eq!(read_into(&record_of(&state, 1), 2).0, [5, 2, 0]);
     state.u[0] = 0;
+    assert_eq!(read_into(&record_of(&state, 1), 2).0, [5, 2, 1]);
+    state.u[1] = 0;
     assert_eq!(read_into(&record_of(&state, 1), 2).0, [5, 3, 0]);
     state.v = vec![0, 0];
-    assert_eq!(read_into(&record_of(&state, 1), 2).0[0], 0);
+    assert_read(&record_of(&state, 1), 2, &state, 1);
 }
 
 #[test]
@@ -386,6 +469,7 @@ fn a_value_is_reported_by_field_and_not_by_place() {
     state.b[0] = -1;
     state.u[1] = 5_001;
     state.v[0] = -5_001;
+    state.barriers = vec![255, 4];
     let mut fields = record_fields(&state, 3);
     fields.reverse();
     assert_refused(&fields.concat(), &[4, 0, 1], "h");
@@ -396,7 +480,11 @@ fn a_value_is_reported_by_field_and_not_by_place() {
     state.u[1] = 5_000;
     assert_refused(&record_of(&state, 3), &[4, 3, 0], "v");
     state.v[0] = -5_000;
-    assert_eq!(read_into(&record_of(&state, 3), 2).0[0], 0);
+    assert_refused(&record_of(&state, 3), &[4, 6, 0], "barriers");
+    state.barriers[0] = 0;
+    assert_refused(&record_of(&state, 3), &[4, 6, 1], "barriers");
+    state.barriers[1] = 0;
+    assert_read(&record_of(&state, 3), 2, &state, 3);
 }
 
 #[test]
@@ -429,27 +517,31 @@ fn numbers_of_every_sign_are_read_and_bounded() {
     let mut state = two_cells();
     state.parameters.c = -10_000;
     state.u = vec![-5_000, 5_000];
-    assert_eq!(read_into(&written(&state, 9), 2).0, told_for(&state, 9));
+    assert_read(&written(&state, 9), 2, &state, 9);
 }
 
 /// A state that differs from the given one in one number, still within the
 /// limits.
 fn neighbour(random: &mut Random, state: &State) -> State {
-    let moved = |x: i64, high: i64| if x == high { x - 1 } else { x + 1 };
-    let mut other = state.clone();
-    let k = random.below(state.h.len());
-    let p = &mut other.parameters;
-    match random.below(7) {
-        0 => p.g = moved(p.g, 10_000),
-        1 => p.c = moved(p.c, 10_000),
-        2 => p.r = moved(p.r, 1_000_000),
-        3 => other.h[k] = moved(other.h[k], 100_000),
-        4 => other.b[k] = moved(other.b[k], 100_000),
-        // The last cell of a grid of two rows and columns has open edges.
-        5 => *other.u.last_mut().expect("a cell") = moved(*state.u.last().expect("a cell"), 5_000),
-        _ => *other.v.last_mut().expect("a cell") = moved(*state.v.last().expect("a cell"), 5_000),
+    loop {
+        let mut other = state.clone();
+        let k = random.below(state.h.len());
+        let by = random.pick(&[-1, 1]);
+        let p = &mut other.parameters;
+        match random.below(8) {
+            0 => p.g += by,
+            1 => p.c += by,
+            2 => p.r += by,
+            3 => other.h[k] += by,
+            4 => other.b[k] += by,
+            5 => other.u[k] += by,
+            6 => other.v[k] += by,
+            _ => other.barriers[k] ^= random.pick(&[1, 2, 3]),
+        }
+        if within_limits(&other) {
+            return other;
+        }
     }
-    other
 }
 
 /// By second, then by millisecond, then by state.
@@ -510,14 +602,10 @@ fn comparison_orders_by_timestamp_and_tells_states_apart() {
             _ => random_timestamp(&mut random),
         };
         let expected = expected_comparison(time, other_time, first == second);
-        let (a, mut fields) = (written(&first, time), record_fields(&second, other_time));
-        // Neither the order of the tags nor a tag 8 of zeros is part of the meaning.
-        if other_time.milliseconds == 0 && random.once_in(2) {
-            fields.pop();
-        }
-        let (x, y) = (random.below(7), random.below(fields.len()));
-        fields.swap(x, y);
-        let b = fields.concat();
+        // Neither the order of the tags nor a tag 8 or 9 of zeros is part of the
+        // meaning.
+        let a = written(&first, time);
+        let b = shuffled(&mut random, &second, other_time);
         let got = compare(&a, &b);
         assert_eq!(
             got, expected,
@@ -541,9 +629,10 @@ fn comparison_orders_by_timestamp_and_tells_states_apart() {
 
 #[test]
 fn comparison_tells_every_part_of_a_state_apart() {
-    let state = two_cells();
+    let mut state = two_cells_and_a_barrier();
+    state.u[1] = 0;
     let record = written(&state, 5);
-    let changes: [fn(&mut State); 9] = [
+    let changes: [fn(&mut State); 12] = [
         |s| (s.parameters.w, s.parameters.n) = (1, 2),
         |s| {
             s.parameters.kind = 1;
@@ -555,7 +644,10 @@ fn comparison_tells_every_part_of_a_state_apart() {
         |s| s.h[1] += 1,
         |s| s.b[0] += 1,
         |s| s.u[0] += 1,
-        |s| s.v[1] -= 1,
+        |s| s.v[0] -= 1,
+        |s| s.barriers[1] = 0,
+        |s| s.barriers[1] = 1,
+        |s| s.barriers[1] = 3,
     ];
     for change in changes {
         let mut other = state.clone();
@@ -593,12 +685,15 @@ fn comparison_tells_kinds_apart() {
 fn comparison_says_which_record_is_refused() {
     let good = record_of(&two_cells(), 1);
     type Change = fn(&mut State);
-    let bad: [(Change, &[i128]); 5] = [
+    let bad: [(Change, &[i128]); 8] = [
         (|s| s.parameters.n = 65, &[1]),
         (|s| s.u.push(0), &[2]),
+        (|s| s.barriers.clear(), &[2]),
         (|s| s.parameters.r = 999, &[3]),
         (|s| s.v[1] = -5_001, &[4, 3, 1]),
+        (|s| s.barriers[1] = 4, &[4, 6, 1]),
         (|s| s.parameters.kind = 2, &[5, 2, 0]),
+        (|s| s.barriers[1] = 3, &[5, 2, 1]),
     ];
     let records: Vec<(Vec<u8>, Vec<i128>)> = bad
         .iter()
@@ -638,9 +733,12 @@ fn any_bytes_are_answered() {
             (0..length).map(|_| random.next() as u8).collect()
         } else {
             let mut fields = record_fields(&two_cells(), random.next());
-            match random.below(4) {
-                0 => drop(fields.pop()),
-                1 => fields[7] = milliseconds_field(random.below(2_000) as u64),
+            match random.below(6) {
+                0 => drop(fields.remove(7)),
+                1 => drop(fields.remove(8)),
+                2 => fields.truncate(7),
+                3 => fields[7] = milliseconds_field(random.below(2_000) as u64),
+                4 => fields[8][3] = random.pick(&[0, 1, 2, 3, 4, 128, 255]),
                 _ => {}
             }
             fields.concat()
@@ -652,10 +750,10 @@ fn any_bytes_are_answered() {
             }
         }
         let room = random.below(5);
-        let (told, fields) = read_into(&record, room);
+        let (told, destinations) = read_into(&record, room);
         numbers[told[0] as usize] += 1;
         if told[0] != 0 {
-            assert!(fields.concat().iter().all(|&x| x == KEPT), "{record:?}");
+            assert_eq!(destinations, Destinations::of(room), "{record:?}");
         }
         let other = record_of(&two_cells(), 7);
         let first = compare(&record, &other).told();

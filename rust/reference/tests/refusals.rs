@@ -4,9 +4,8 @@
 //! record.rs.
 
 use crate::common::literal::PAPER;
-use crate::common::{
-    any_state, first_told, moment, numbers, random_number, random_state, record_size,
-};
+use crate::common::{any_state, closed_edges, first_told, moment, numbers, random_number};
+use crate::common::{random_state, random_state_without_barriers, record_size};
 use crate::common::{
     run_state, step_state, within_limits, Random, Spread, NUMBERS, SPREADS, TESTED,
 };
@@ -44,6 +43,7 @@ struct Lent {
     b: Vec<i64>,
     u: Vec<i64>,
     v: Vec<i64>,
+    barriers: Vec<u8>,
     q: Vec<i64>,
     inflow: Vec<i64>,
     work: Vec<i64>,
@@ -66,6 +66,7 @@ impl Lent {
             b: state.b,
             u: state.u,
             v: state.v,
+            barriers: state.barriers,
             q: vec![1; cells],
             inflow: vec![0; cells],
             work: vec![71; 8 * cells + 2],
@@ -94,23 +95,46 @@ impl Lent {
             b: vec![0, 1, 2, 3, 4, 5],
             u: vec![0, 10, -10, 0, 7, 0],
             v: vec![0, 0, 0, 3, -4, 5],
+            barriers: vec![0; 6],
         })
+    }
+
+    /// The state by itself.
+    fn state(&self) -> State {
+        State {
+            parameters: self.p,
+            h: self.h.clone(),
+            b: self.b.clone(),
+            u: self.u.clone(),
+            v: self.v.clone(),
+            barriers: self.barriers.clone(),
+        }
     }
 
     /// Makes the call and gives its answer as 01 tells it.
     fn make(&mut self, call: Call) -> Vec<i128> {
-        let Lent { p, h, b, u, v, .. } = self;
+        let Lent {
+            p,
+            h,
+            b,
+            u,
+            v,
+            barriers: z,
+            inflow: s,
+            work,
+            ..
+        } = self;
         match call {
-            Vorticity => potential_vorticity(p, h, b, u, v, &mut self.vorticity).told(),
+            Vorticity => potential_vorticity(p, h, b, u, v, z, &mut self.vorticity).told(),
             Tendencies => {
                 let (dh, du, dv) = (&mut self.dh, &mut self.du, &mut self.dv);
-                tendencies(p, h, b, u, v, &self.q, dh, du, dv).told()
+                tendencies(p, h, b, u, v, z, &self.q, dh, du, dv).told()
             }
-            Step => step(p, h, b, u, v, &self.inflow, &mut self.work).told(),
-            Run => run(p, h, b, u, v, &self.inflow, self.steps, &mut self.work).told(),
-            TotalDepth => total_depth(p, h, b, u, v).told(),
-            TotalEnergy => total_energy(p, h, b, u, v).told(),
-            Write => write(p, h, b, u, v, self.timestamp, &mut self.out).told(),
+            Step => step(p, h, b, u, v, z, s, work).told(),
+            Run => run(p, h, b, u, v, z, s, self.steps, work).told(),
+            TotalDepth => total_depth(p, h, b, u, v, z).told(),
+            TotalEnergy => total_energy(p, h, b, u, v, z).told(),
+            Write => write(p, h, b, u, v, z, self.timestamp, &mut self.out).told(),
         }
     }
 
@@ -199,6 +223,11 @@ fn faults() -> Vec<Fault> {
             }));
         }
     }
+    for length in [0, 5, 7, 12] {
+        faults.push(fault("length of barriers", &[2], ALL, move |l| {
+            l.barriers.resize(length, 0)
+        }));
+    }
     for length in [0, 1, 47] {
         faults.push(fault("work space", &[2], &[Step, Run], move |l| {
             l.work.truncate(length)
@@ -232,6 +261,28 @@ fn faults() -> Vec<Fault> {
                     }
                 }));
             }
+        }
+    }
+
+    // Bytes above 3, and barriers on edges with a velocity.
+    let barriers: [(u8, &[i128], &[i128]); 7] = [
+        (4, &[4, 6], &[1, 4, 5]),
+        (7, &[4, 6], &[1, 4]),
+        (128, &[4, 6], &[0, 5]),
+        (255, &[4, 6], &[0, 1, 5]),
+        (1, &[5, 2], &[1, 2, 4]),
+        (2, &[5, 3], &[3, 4, 5]),
+        (3, &[5, 2], &[1, 4]),
+    ];
+    for (barrier, told, cells) in barriers {
+        for &cell in cells {
+            let what = format!("barriers[{cell}]");
+            let told = [told, &[cell]].concat();
+            faults.push(fault(&what, &told, ALL, move |l| {
+                if let Some(place) = l.barriers.get_mut(cell as usize) {
+                    *place = barrier;
+                }
+            }));
         }
     }
 
@@ -359,6 +410,7 @@ fn every_bound_itself_is_accepted() {
             for field in [&mut state.h, &mut state.b, &mut state.u, &mut state.v] {
                 field.resize(w * n, 1_000);
             }
+            state.barriers.resize(w * n, 0);
             let lent = Lent::beside(state);
             for &call in ALL {
                 lent.assert_refused(call, &[1], "sizes");
@@ -387,6 +439,10 @@ fn every_bound_itself_is_accepted() {
             accepted(calls, name, &lent);
         }
     }
+    // The greatest, where both edges are still.
+    let mut lent = Lent::basin();
+    lent.barriers[0] = 3;
+    accepted(ALL, "barriers", &lent);
     for steps in [0, 10_000] {
         let mut lent = Lent::basin();
         lent.steps = steps;
@@ -414,25 +470,34 @@ fn every_bound_itself_is_accepted() {
 }
 
 #[test]
-fn the_boundary_says_which_edges_are_closed() {
+fn boundary_and_barriers_say_which_edges_are_closed() {
+    let random = &mut Random::new(2);
     for kind in 0..3 {
-        for cell in 0..9 {
-            let (i, j) = (cell % 3, cell / 3);
-            for (field, closed) in [(2, kind == 2 && i == 0), (3, kind != 0 && j == 0)] {
-                let mut state = random_state(&mut Random::new(2), Spread::Calm, (3, 3), kind);
-                (state.u, state.v) = (vec![0; 9], vec![0; 9]);
-                let edges = if field == 2 {
-                    &mut state.u
-                } else {
-                    &mut state.v
-                };
-                edges[cell] = -1;
-                let lent = Lent::beside(state);
-                for &call in ALL {
-                    if closed {
-                        lent.assert_refused(call, &[5, field, cell as i128], "closed edge");
-                    } else {
-                        lent.assert_accepted(call, "open edge");
+        let mut still = random_state_without_barriers(random, Spread::Calm, (3, 3), kind);
+        (still.u, still.v) = (vec![0; 9], vec![0; 9]);
+        // Every barrier of every cell, and a velocity on every edge.
+        for (at, barrier) in (0..9).flat_map(|at| (0..4).map(move |barrier| (at, barrier))) {
+            still.barriers = vec![0; 9];
+            still.barriers[at] = barrier;
+            for cell in 0..9 {
+                let (i, j) = (cell % 3, cell / 3);
+                let here = if cell == at { barrier } else { 0 };
+                let west = kind == 2 && i == 0 || here == 1 || here == 3;
+                let south = kind != 0 && j == 0 || here == 2 || here == 3;
+                for (field, closed) in [(2, west), (3, south)] {
+                    let mut state = still.clone();
+                    match field {
+                        2 => state.u[cell] = -1,
+                        _ => state.v[cell] = -1,
+                    }
+                    let lent = Lent::beside(state);
+                    for &call in ALL {
+                        if closed {
+                            let told = [5, field as i128, cell as i128];
+                            lent.assert_refused(call, &told, "closed edge");
+                        } else {
+                            lent.assert_accepted(call, "open edge");
+                        }
                     }
                 }
             }
@@ -455,6 +520,7 @@ fn expected_refusal(call: Call, l: &Lent) -> Option<Vec<i128>> {
         .collect();
     let steps = matches!(call, Step | Run);
     if fields.iter().any(|(_, _, _, values)| values.len() != cells)
+        || l.barriers.len() != cells
         || (steps && l.work.len() < 8 * cells)
     {
         return Some(vec![2]);
@@ -465,21 +531,22 @@ fn expected_refusal(call: Call, l: &Lent) -> Option<Vec<i128>> {
     if call == Write && l.timestamp.milliseconds >= 1_000 {
         return Some(vec![9]);
     }
-    for (field, low, high, values) in fields {
+    let barriers = l.barriers.iter().map(|&barrier| barrier.into()).collect();
+    // The four of the state, the barriers, then the one that may follow.
+    let (four, more) = fields.split_at(4);
+    for (field, low, high, values) in [four, &[(6, 0, 3, barriers)], more].concat() {
         for (cell, value) in values.into_iter().enumerate() {
             if value < low || value > high {
                 return Some(vec![4, field, cell as i128]);
             }
         }
     }
-    for cell in 0..cells {
-        if p.kind == 2 && cell % p.w == 0 && l.u[cell] != 0 {
-            return Some(vec![5, 2, cell as i128]);
-        }
-    }
-    for cell in 0..p.w {
-        if p.kind != 0 && l.v[cell] != 0 {
-            return Some(vec![5, 3, cell as i128]);
+    let state = l.state();
+    for (edge, velocities) in [&l.u, &l.v].into_iter().enumerate() {
+        for (cell, &velocity) in velocities.iter().enumerate() {
+            if closed_edges(&state, cell)[edge] && velocity != 0 {
+                return Some(vec![5, 2 + edge as i128, cell as i128]);
+            }
         }
     }
     let short = match call {
@@ -505,7 +572,7 @@ fn random_lent(random: &mut Random) -> Lent {
             2 => random.between(-6_000, 110_000),
             _ => random.next() as i64,
         };
-        match random.below(17) {
+        match random.below(20) {
             0 if random.once_in(4) => lent.p.w = wild as usize,
             1 if random.once_in(4) => lent.p.n = wild as usize,
             2 if random.once_in(4) => lent.p.kind = wild as u8,
@@ -528,6 +595,14 @@ fn random_lent(random: &mut Random) -> Lent {
             11 => {
                 let (_, _, low, _, _, pick) = random.pick(&FIELDS);
                 pick(&mut lent).resize(random.below(2 * cells + 1), low);
+            }
+            12 => lent.barriers.resize(random.below(2 * cells + 1), 0),
+            13 | 14 => {
+                // A byte above 3, or one that closes an edge.
+                if !lent.barriers.is_empty() {
+                    let cell = random.below(lent.barriers.len());
+                    lent.barriers[cell] = random.pick(&[1, 2, 3, 4, 7, 128, 255]);
+                }
             }
             _ => {
                 // Several bad cells in one field.
@@ -599,14 +674,7 @@ fn accepted_call(call: Call, before: &Lent) -> i128 {
         Write => after.out[..size].copy_from_slice(&before.out[..size]),
     }
     assert_eq!(&after, before, "{call:?}");
-    let state = State {
-        parameters: filled.p,
-        h: filled.h,
-        b: filled.b,
-        u: filled.u,
-        v: filled.v,
-    };
-    assert!(within_limits(&state), "{call:?}: {before:?}");
+    assert!(within_limits(&filled.state()), "{call:?}: {before:?}");
     match (call, &told[..]) {
         (Vorticity | Tendencies | Step, [0]) => {}
         (Run, [0, steps]) => assert_eq!(*steps, before.steps.into()),
@@ -641,6 +709,7 @@ fn huge_numbers_are_answered() {
                             b: vec![],
                             u: wild.to_vec(),
                             v: vec![g],
+                            barriers: vec![g as u8; 2],
                         });
                         lent.steps = steps;
                         lent.timestamp = moment(steps, steps);
@@ -713,6 +782,7 @@ fn refusal_6_goes_by_h_then_u_then_v_then_cell() {
         b: b.to_vec(),
         u: vec![0; 4],
         v: vec![0; 4],
+        barriers: vec![0; 4],
     };
     let told = |mut state: State, inflow: [i64; 4]| {
         let before = state.clone();
@@ -753,6 +823,7 @@ fn the_bounds_of_a_pass_are_exact() {
         b: vec![0],
         u: vec![0],
         v: vec![0],
+        barriers: vec![0],
     };
     let stepped = |h: i64, inflow: i64| {
         let mut state = one_cell(h);
@@ -811,6 +882,7 @@ fn a_run_stops_before_the_step_that_leaves_a_bound() {
         b: vec![0],
         u: vec![0],
         v: vec![0],
+        barriers: vec![0],
     };
     let mut work = [5; 9];
     let told = run_state(&mut state, &[1_000], 95, &mut work).told();

@@ -1,43 +1,11 @@
 //! Vorticity, tendencies, step and totals against 01's formulas taken
 //! literally, and the ways in which copies of the scheme go astray.
 
-use crate::common::literal::{self, Three, Variant, NO_E_F, PAPER};
+use crate::common::literal::{self, Variant, NO_E_F, PAPER};
 use crate::common::{any_state, numbers, random_q, random_state, step_state};
-use crate::common::{Random, Spread, SPREADS};
+use crate::common::{tendencies_of, totals_of, vorticity_of, Random, Spread, SPREADS};
 use reference::scheme::{round_div, WEIGHTS};
-use reference::{potential_vorticity, tendencies, total_depth, total_energy, FillAnswer, State};
-
-fn vorticity_of(state: &State) -> Vec<i64> {
-    let State {
-        parameters,
-        h,
-        b,
-        u,
-        v,
-    } = state;
-    let mut q = vec![0; h.len()];
-    let answer = potential_vorticity(parameters, h, b, u, v, &mut q);
-    assert_eq!(answer, FillAnswer::Done, "{state:?}");
-    q
-}
-
-fn tendencies_of(state: &State, q: &[i64]) -> Three {
-    let State {
-        parameters,
-        h,
-        b,
-        u,
-        v,
-    } = state;
-    let (mut dh, mut du, mut dv) = (vec![1; h.len()], vec![2; h.len()], vec![3; h.len()]);
-    let answer = tendencies(parameters, h, b, u, v, q, &mut dh, &mut du, &mut dv);
-    assert_eq!(answer, FillAnswer::Done, "{state:?} {q:?}");
-    Three {
-        h: dh,
-        u: du,
-        v: dv,
-    }
-}
+use reference::{State, TotalAnswer};
 
 #[test]
 fn rounding_is_to_the_nearest_with_halves_away_from_zero() {
@@ -88,14 +56,14 @@ fn vorticity_and_tendencies_follow_the_literal_formulas() {
     let mut random = Random::new(2);
     for _ in 0..4_000 {
         let state = any_state(&mut random);
-        let own = vorticity_of(&state);
-        assert_eq!(own, PAPER.vorticity(&state), "{state:?}");
+        let own = PAPER.vorticity(&state);
+        assert_eq!(vorticity_of(&state), Ok(own.clone()), "{state:?}");
         assert!(own.iter().all(|q| q.abs() <= 1_966_080), "{state:?}");
         let spread = random.pick(&SPREADS);
         let lent = random_q(&mut random, spread, own.len());
         for q in [own, lent] {
             let got = tendencies_of(&state, &q);
-            assert_eq!(got, PAPER.tendencies(&state, &q), "{state:?} {q:?}");
+            assert_eq!(got, Ok(PAPER.tendencies(&state, &q)), "{state:?} {q:?}");
         }
     }
 }
@@ -105,18 +73,10 @@ fn totals_follow_the_literal_formulas() {
     let mut random = Random::new(3);
     for _ in 0..4_000 {
         let state = any_state(&mut random);
-        let State {
-            parameters,
-            h,
-            b,
-            u,
-            v,
-        } = &state;
-        let depth: i64 = h.iter().sum();
-        let told = total_depth(parameters, h, b, u, v).told();
-        assert_eq!(told, [0, depth.into()], "{state:?}");
-        let told = total_energy(parameters, h, b, u, v).told();
-        assert_eq!(told, [0, literal::energy(&state)], "{state:?}");
+        let depth: i64 = state.h.iter().sum();
+        let told = totals_of(&state).map(|answer| answer.told());
+        let expected = [depth.into(), literal::energy(&state)];
+        assert_eq!(told, expected.map(|total| vec![0, total]), "{state:?}");
     }
 }
 
@@ -136,18 +96,10 @@ fn the_greatest_totals_fit() {
         b: vec![100_000; cells],
         u: vec![-5_000; cells],
         v: vec![5_000; cells],
+        barriers: vec![0; cells],
     };
-    let State {
-        parameters,
-        h,
-        b,
-        u,
-        v,
-    } = &state;
-    let depth = total_depth(parameters, h, b, u, v);
-    assert_eq!(depth.told(), [0, 409_600_000]);
-    let energy = total_energy(parameters, h, b, u, v);
-    assert_eq!(energy.told(), [0, 2_498_560_000_000_000_000]);
+    let greatest = [409_600_000, 2_498_560_000_000_000_000];
+    assert_eq!(totals_of(&state), greatest.map(TotalAnswer::Total));
 }
 
 /// The step of the library, in the form of the literal one.
@@ -249,6 +201,27 @@ fn wrong_steps_would_be_noticed() {
                 ..PAPER
             },
         ),
+        (
+            "barriers not looked at",
+            Variant {
+                boundary_alone: true,
+                ..PAPER
+            },
+        ),
+        (
+            "bits of a barrier swapped",
+            Variant {
+                bits_swapped: true,
+                ..PAPER
+            },
+        ),
+        (
+            "barrier of the cell beyond",
+            Variant {
+                barrier_beyond: true,
+                ..PAPER
+            },
+        ),
     ];
     for (name, variant) in wrong {
         let (differing, compared) = differing(5, variant);
@@ -275,6 +248,7 @@ fn halves_rounded_up_would_be_noticed() {
         b: vec![0; 2],
         u: vec![0, -5],
         v: vec![0; 2],
+        barriers: vec![0; 2],
     };
     let up = Variant {
         halves_up: true,

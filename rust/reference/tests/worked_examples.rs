@@ -1,10 +1,11 @@
 //! The worked examples of 01 (01: soundings), one test each.
 
+use crate::common::literal::Three;
 use crate::common::{run_state, step_state, within_limits, written};
+use crate::common::{tendencies_of, totals_of, vorticity_of};
 use reference::scheme::round_div;
 use reference::{
-    potential_vorticity, read, step_program, tendencies, total_depth, total_energy, Field,
-    FillAnswer, Parameters, Refusal, RunAnswer, State, StepAnswer, TotalAnswer,
+    read, step_program, Field, Parameters, Refusal, RunAnswer, State, StepAnswer, TotalAnswer,
 };
 
 /// What holds where an example does not say otherwise.
@@ -23,6 +24,7 @@ fn state(w: usize, n: usize) -> State {
         b: zeros.clone(),
         u: zeros.clone(),
         v: zeros,
+        barriers: vec![0; w * n],
     }
 }
 
@@ -40,40 +42,6 @@ fn example_4() -> State {
     state.h = vec![2000, 3000];
     state.u = vec![10, 0];
     state
-}
-
-fn vorticity_of(state: &State) -> (FillAnswer, Vec<i64>) {
-    let mut q = vec![0; state.h.len()];
-    let answer = potential_vorticity(
-        &state.parameters,
-        &state.h,
-        &state.b,
-        &state.u,
-        &state.v,
-        &mut q,
-    );
-    (answer, q)
-}
-
-fn tendencies_of(state: &State, q: &[i64]) -> (FillAnswer, [Vec<i64>; 3]) {
-    let cells = state.h.len();
-    let (mut dh, mut du, mut dv) = (vec![1; cells], vec![1; cells], vec![1; cells]);
-    let answer = tendencies(
-        &state.parameters,
-        &state.h,
-        &state.b,
-        &state.u,
-        &state.v,
-        q,
-        &mut dh,
-        &mut du,
-        &mut dv,
-    );
-    (answer, [dh, du, dv])
-}
-
-fn energy_of(state: &State) -> TotalAnswer {
-    total_energy(&state.parameters, &state.h, &state.b, &state.u, &state.v)
 }
 
 /// The state after a step without inflow.
@@ -97,15 +65,17 @@ fn example_1_rounding() {
 #[test]
 fn example_2_one_cell() {
     let state = example_2();
-    assert_eq!(vorticity_of(&state), (FillAnswer::Done, vec![328]));
+    assert_eq!(vorticity_of(&state), Ok(vec![328]));
     assert_eq!(
         tendencies_of(&state, &[328]),
-        (
-            FillAnswer::Done,
-            [vec![0], vec![-1_574_400_000], vec![-3_148_800_000]]
-        )
+        Ok(Three {
+            h: vec![0],
+            u: vec![-1_574_400_000],
+            v: vec![-3_148_800_000],
+        })
     );
-    assert_eq!(energy_of(&state), TotalAnswer::Total(78_530_000_000));
+    let totals = [2_000, 78_530_000_000];
+    assert_eq!(totals_of(&state), totals.map(TotalAnswer::Total));
 }
 
 #[test]
@@ -120,13 +90,17 @@ fn example_3_one_cell_stepped() {
 #[test]
 fn example_4_two_cells() {
     let state = example_4();
-    assert_eq!(vorticity_of(&state), (FillAnswer::Done, vec![0, 0]));
-    let (answer, [dh, du, dv]) = tendencies_of(&state, &[0, 0]);
-    assert_eq!(answer, FillAnswer::Done);
-    assert_eq!(dh, [50_000, -50_000]);
-    assert_eq!(du, [30_859_591_680_000, -30_859_591_680_000]);
-    assert_eq!(dv, [0, 0]);
-    assert_eq!(energy_of(&state), TotalAnswer::Total(255_060_500_000));
+    assert_eq!(vorticity_of(&state), Ok(vec![0, 0]));
+    assert_eq!(
+        tendencies_of(&state, &[0, 0]),
+        Ok(Three {
+            h: vec![50_000, -50_000],
+            u: vec![30_859_591_680_000, -30_859_591_680_000],
+            v: vec![0, 0],
+        })
+    );
+    let totals = [5_000, 255_060_500_000];
+    assert_eq!(totals_of(&state), totals.map(TotalAnswer::Total));
 }
 
 #[test]
@@ -148,12 +122,9 @@ fn example_6_closed_edge() {
         cell: 0,
     };
     assert_eq!(refusal.told(), [5, 2, 0]);
-    assert_eq!(vorticity_of(&state).0, FillAnswer::Refused(refusal));
-    assert_eq!(
-        tendencies_of(&state, &[0, 0]).0,
-        FillAnswer::Refused(refusal)
-    );
-    assert_eq!(energy_of(&state), TotalAnswer::Refused(refusal));
+    assert_eq!(vorticity_of(&state), Err(refusal));
+    assert_eq!(tendencies_of(&state, &[0, 0]), Err(refusal));
+    assert_eq!(totals_of(&state), [TotalAnswer::Refused(refusal); 2]);
     let answer = step_state(&mut state, &[0, 0], &mut [0; 16]);
     assert_eq!(answer, StepAnswer::Refused(refusal));
 }
@@ -168,17 +139,17 @@ fn example_7_least_depth() {
     };
     assert_eq!(refusal.told(), [4, 0, 0]);
     assert!(!within_limits(&state));
-    assert_eq!(vorticity_of(&state).0, FillAnswer::Refused(refusal));
-    assert_eq!(tendencies_of(&state, &[0]).0, FillAnswer::Refused(refusal));
-    assert_eq!(energy_of(&state), TotalAnswer::Refused(refusal));
+    assert_eq!(vorticity_of(&state), Err(refusal));
+    assert_eq!(tendencies_of(&state, &[0]), Err(refusal));
+    assert_eq!(totals_of(&state), [TotalAnswer::Refused(refusal); 2]);
     let answer = step_state(&mut state, &[0], &mut [0; 8]);
     assert_eq!(answer, StepAnswer::Refused(refusal));
 
     state.h = vec![1000];
     assert!(within_limits(&state));
-    assert_eq!(vorticity_of(&state).0, FillAnswer::Done);
-    assert_eq!(tendencies_of(&state, &[0]).0, FillAnswer::Done);
-    assert_eq!(energy_of(&state).told()[0], 0);
+    assert!(vorticity_of(&state).is_ok());
+    assert!(tendencies_of(&state, &[0]).is_ok());
+    assert!(totals_of(&state).iter().all(|total| total.told()[0] == 0));
     let answer = step_state(&mut state, &[0], &mut [0; 8]);
     assert_eq!(answer, StepAnswer::Done);
 }
@@ -190,8 +161,7 @@ fn example_8_greatest_vorticity() {
     state.h = vec![1000; 4];
     state.v = vec![5000, -5000, 0, 0];
     state.u = vec![-5000, 0, 5000, 0];
-    let (answer, q) = vorticity_of(&state);
-    assert_eq!(answer, FillAnswer::Done);
+    let q = vorticity_of(&state).expect("within the limits");
     assert_eq!(q[0], 1_966_080);
 }
 
@@ -225,13 +195,15 @@ fn example_10_step_program() {
     let record: Vec<u8> = digits.chunks(2).map(|two| two[0] << 4 | two[1]).collect();
     assert_eq!(step_program(&record), "total 2000\n0 0 2000 99 -51\n");
 
-    // The input is the record of example 2 at time 0, which is written with tag 8.
+    // The input is the record of example 2 at time 0, which is written with tags 8
+    // and 9.
     let state = example_2();
     let [mut h, mut b, mut u, mut v] = [[1]; 4];
-    let answer = read(&record, &mut h, &mut b, &mut u, &mut v);
+    let mut barriers = [1];
+    let answer = read(&record, &mut h, &mut b, &mut u, &mut v, &mut barriers);
     assert_eq!(answer.told(), [0, 1, 1, 0, 9810, 10, 1000, 0, 0]);
     assert_eq!((h, b, u, v), ([2000], [0], [100], [-50]));
-    assert_eq!(written(&state, 0), [&record[..], &[8, 0, 2, 0, 0]].concat());
-    let total = total_depth(&state.parameters, &h, &b, &u, &v);
-    assert_eq!(total, TotalAnswer::Total(2000));
+    assert_eq!(barriers, [0]);
+    let more = [8, 0, 2, 0, 0, 9, 0, 1, 0];
+    assert_eq!(written(&state, 0), [&record[..], &more].concat());
 }

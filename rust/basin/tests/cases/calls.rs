@@ -23,7 +23,7 @@ pub const UNANSWERED: [u64; 8] = [
     UNTOUCHED + 7,
     UNTOUCHED + 8,
 ];
-/// A byte beside a record.
+/// A byte beside barriers or a record.
 pub const FENCE_BYTE: u8 = 0xA5;
 
 /// What a call tells, and what is then in all that it may write to.
@@ -85,9 +85,7 @@ impl Written {
             total: vec![case.total; lent(call.is_total(), 1)],
             stepped,
             work: junk(lent(call.is_stepping(), case.lent_work()), 3),
-            record: (0..lent(call == Call::Write, case.record))
-                .map(|place| (7 * place + 0x5B) as u8)
-                .collect(),
+            record: junk_bytes(lent(call == Call::Write, case.record)),
         }
     }
 
@@ -147,6 +145,7 @@ fn field_number(field: basin::Field) -> u64 {
         basin::Field::VelocityV => 3,
         basin::Field::Vorticity => 4,
         basin::Field::Inflow => 5,
+        basin::Field::Barriers => 6,
     };
     assert_eq!(field.number(), number);
     number.into()
@@ -229,23 +228,20 @@ pub fn timestamp(of: reference::Timestamp) -> basin::Timestamp {
 fn proved(case: &Case, call: Call) -> Outcome {
     let p = &parameters(case);
     let [h, b, u, v, q, s] = &case.fields;
+    let z = &case.barriers;
     let (steps, time) = (case.steps, timestamp(case.timestamp));
     let mut written = Written::before(case, call);
     let lent = written.slices();
     let [first, second, third] = lent.destinations;
-    let [h_stepped, u_stepped, v_stepped] = lent.stepped;
+    let [h1, u1, v1] = lent.stepped;
     let told = match call {
-        Call::PotentialVorticity => told(basin::potential_vorticity(p, h, b, u, v, first)),
-        Call::Tendencies => told(basin::tendencies(p, h, b, u, v, q, first, second, third)),
-        Call::Step => told(basin::step(
-            p, h_stepped, b, u_stepped, v_stepped, s, lent.work,
-        )),
-        Call::Run => told_run(basin::run(
-            p, h_stepped, b, u_stepped, v_stepped, s, steps, lent.work,
-        )),
-        Call::TotalDepth => told_total(basin::total_depth(p, h, b, u, v), lent.total),
-        Call::TotalEnergy => told_total(basin::total_energy(p, h, b, u, v), lent.total),
-        Call::Write => told_write(basin::write(p, h, b, u, v, time, lent.record)),
+        Call::PotentialVorticity => told(basin::potential_vorticity(p, h, b, u, v, z, first)),
+        Call::Tendencies => told(basin::tendencies(p, h, b, u, v, z, q, first, second, third)),
+        Call::Step => told(basin::step(p, h1, b, u1, v1, z, s, lent.work)),
+        Call::Run => told_run(basin::run(p, h1, b, u1, v1, z, s, steps, lent.work)),
+        Call::TotalDepth => told_total(basin::total_depth(p, h, b, u, v, z), lent.total),
+        Call::TotalEnergy => told_total(basin::total_energy(p, h, b, u, v, z), lent.total),
+        Call::Write => told_write(basin::write(p, h, b, u, v, z, time, lent.record)),
     };
     Outcome { told, written }
 }
@@ -253,7 +249,12 @@ fn proved(case: &Case, call: Call) -> Outcome {
 /// The independent version.
 pub fn independent(case: &Case, call: Call) -> Outcome {
     use reference::TotalAnswer;
-    let Case { p, fields, .. } = case;
+    let Case {
+        p,
+        fields,
+        barriers: z,
+        ..
+    } = case;
     let [h, b, u, v, q, s] = fields;
     let &Case {
         steps, timestamp, ..
@@ -261,7 +262,7 @@ pub fn independent(case: &Case, call: Call) -> Outcome {
     let mut written = Written::before(case, call);
     let lent = written.slices();
     let [first, second, third] = lent.destinations;
-    let [h_stepped, u_stepped, v_stepped] = lent.stepped;
+    let [h1, u1, v1] = lent.stepped;
     // The total goes to its place, and is not told.
     let mut total = |answer: TotalAnswer| {
         if let TotalAnswer::Total(number) = answer {
@@ -271,15 +272,13 @@ pub fn independent(case: &Case, call: Call) -> Outcome {
         answer.told()
     };
     let told = match call {
-        Call::TotalDepth => total(reference::total_depth(p, h, b, u, v)),
-        Call::TotalEnergy => total(reference::total_energy(p, h, b, u, v)),
-        Call::PotentialVorticity => reference::potential_vorticity(p, h, b, u, v, first).told(),
-        Call::Tendencies => reference::tendencies(p, h, b, u, v, q, first, second, third).told(),
-        Call::Step => reference::step(p, h_stepped, b, u_stepped, v_stepped, s, lent.work).told(),
-        Call::Run => {
-            reference::run(p, h_stepped, b, u_stepped, v_stepped, s, steps, lent.work).told()
-        }
-        Call::Write => reference::write(p, h, b, u, v, timestamp, lent.record).told(),
+        Call::TotalDepth => total(reference::total_depth(p, h, b, u, v, z)),
+        Call::TotalEnergy => total(reference::total_energy(p, h, b, u, v, z)),
+        Call::PotentialVorticity => reference::potential_vorticity(p, h, b, u, v, z, first).told(),
+        Call::Tendencies => reference::tendencies(p, h, b, u, v, z, q, first, second, third).told(),
+        Call::Step => reference::step(p, h1, b, u1, v1, z, s, lent.work).told(),
+        Call::Run => reference::run(p, h1, b, u1, v1, z, s, steps, lent.work).told(),
+        Call::Write => reference::write(p, h, b, u, v, z, timestamp, lent.record).told(),
     };
     Outcome {
         told: told.into_iter().map(|x| x as u64).collect(),
@@ -291,7 +290,7 @@ pub fn independent(case: &Case, call: Call) -> Outcome {
 pub fn call_raw(
     case: &Case,
     call: Call,
-    fields: [&[i64]; 6],
+    (fields, z): ([&[i64]; 6], &[u8]),
     lent: Written<&mut [i64], &mut [u8]>,
     answer: &mut [u64; 8],
 ) -> u64 {
@@ -299,21 +298,30 @@ pub fn call_raw(
     let [h, b, u, v, q, s] = fields;
     let (steps, time) = (case.steps, case.timestamp);
     let [first, second, third] = lent.destinations;
-    let [h_stepped, u_stepped, v_stepped] = lent.stepped;
+    let [h1, u1, v1] = lent.stepped;
+    let Written {
+        total,
+        work,
+        record,
+        ..
+    } = lent;
     match call {
-        Call::PotentialVorticity => raw::potential_vorticity(p, h, b, u, v, first, answer),
-        Call::Tendencies => raw::tendencies(p, h, b, u, v, q, first, second, third, answer),
-        Call::Step => raw::step(p, h_stepped, b, u_stepped, v_stepped, s, lent.work, answer),
-        Call::Run => raw::run(
-            p, h_stepped, b, u_stepped, v_stepped, s, steps, lent.work, answer,
-        ),
-        Call::TotalDepth => raw::total_depth(p, h, b, u, v, &mut lent.total[0], answer),
-        Call::TotalEnergy => raw::total_energy(p, h, b, u, v, &mut lent.total[0], answer),
+        Call::PotentialVorticity => raw::potential_vorticity(p, h, b, u, v, z, first, answer),
+        Call::Tendencies => raw::tendencies(p, h, b, u, v, z, q, first, second, third, answer),
+        Call::Step => raw::step(p, h1, b, u1, v1, z, s, work, answer),
+        Call::Run => raw::run(p, h1, b, u1, v1, z, s, steps, work, answer),
+        Call::TotalDepth => raw::total_depth(p, h, b, u, v, z, &mut total[0], answer),
+        Call::TotalEnergy => raw::total_energy(p, h, b, u, v, z, &mut total[0], answer),
         Call::Write => {
-            let (seconds, milliseconds) = (time.seconds, time.milliseconds);
-            raw::write(p, h, b, u, v, seconds, milliseconds, lent.record, answer)
+            let (seconds, ms) = (time.seconds, time.milliseconds);
+            raw::write(p, h, b, u, v, z, seconds, ms, record, answer)
         }
     }
+}
+
+/// What a call only reads, as [`call_raw`] takes it: the fields and the barriers.
+pub fn read_of(case: &Case) -> ([&[i64]; 6], &[u8]) {
+    (case.fields.each_ref().map(Vec::as_slice), &case.barriers)
 }
 
 // ---- the comparison
@@ -330,7 +338,7 @@ pub fn compare(case: &Case, call: Call, at: &str) -> Outcome {
     if call == Call::Tendencies && got.told == [0] {
         let (energy, enstrophy) = rates(case, &got.written.destinations);
         assert_eq!(energy, 0, "{at}: the energy rate of {case:?}");
-        if case.p.kind == 0 {
+        if case.is_open() {
             assert_eq!(enstrophy, 0, "{at}: the enstrophy rate of {case:?}");
         }
     }
@@ -353,13 +361,15 @@ pub fn expect(case: &Case, call: Call, told: &[u64], at: &str) {
 /// nothing else that it is lent, nor what lies beside it.
 fn compare_raw(case: &Case, call: Call, before: &Written, expected: &Outcome, at: &str) {
     let fields = case.fields.each_ref().map(|field| fenced(field, FENCE));
+    let barriers = fenced(&case.barriers, FENCE_BYTE);
     let mut written = before.fenced();
     let mut answer = fenced(&case.answer, UNTOUCHED);
 
+    let within = fields.each_ref().map(|field| &field[1..field.len() - 1]);
     let number = call_raw(
         case,
         call,
-        fields.each_ref().map(|field| &field[1..field.len() - 1]),
+        (within, &barriers[1..=case.barriers.len()]),
         written.inside_fences(),
         array(inside(&mut answer)),
     );
@@ -374,6 +384,8 @@ fn compare_raw(case: &Case, call: Call, before: &Written, expected: &Outcome, at
         let same = matches!(&after[..], [FENCE, within @ .., FENCE] if within == before);
         assert!(same, "{at}: {call:?} left {after:?} of {case:?}");
     }
+    let left = fenced(&case.barriers, FENCE_BYTE);
+    assert_eq!(barriers, left, "{at}: left by {call:?} of {case:?}");
 }
 
 /// The eight places of the answer after a call that tells this: the numbers
@@ -389,6 +401,11 @@ pub fn answered(told: &[u64]) -> [u64; 8] {
 pub fn junk(length: usize, k: usize) -> Vec<i64> {
     let number = |place: usize| UNFILLED + (4 * place + k) as i64;
     (0..length).map(number).collect()
+}
+
+/// The same of bytes, of which no two that follow each other are the same.
+pub fn junk_bytes(length: usize) -> Vec<u8> {
+    (0..length).map(|place| (7 * place + 0x5B) as u8).collect()
 }
 
 /// The numbers between two fences, so that a write beside them shows.

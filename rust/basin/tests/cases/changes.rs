@@ -4,14 +4,15 @@
 use reference::{State, Timestamp};
 
 use super::common::{random_state, random_timestamp, record_field, Random, SPREADS};
-use super::records::{field, shuffle, shuffled, some_fields};
+use super::common::{shuffle, shuffled, some_fields};
+use super::records::field;
 use super::{BOUNDS, U, V};
 
 /// A byte that means something in a record, or any.
 fn byte(random: &mut Random) -> u8 {
     match random.below(3) {
         0 => random.next() as u8,
-        1 => random.below(10) as u8,
+        1 => random.below(11) as u8,
         _ => random.pick(&[0, 64, 65, 0x7F, 0x80, 0xEC, 0xFF]),
     }
 }
@@ -34,7 +35,7 @@ fn change_state(random: &mut Random, state: &mut State) {
     };
     let p = &mut state.parameters;
     let (w, side) = (p.w, random.pick(&[0, 1, p.w, p.n, 64, 65, 255]));
-    match random.below(12) {
+    match random.below(14) {
         0 => p.w = side,
         1 => p.n = side,
         2 => p.kind = random.pick(&[0, 1, 2, 3, 0x82, 0xFF]),
@@ -56,6 +57,7 @@ fn change_state(random: &mut Random, state: &mut State) {
                 *place = number;
             }
         }
+        10 | 11 => change_barriers(random, &mut state.barriers),
         _ => {
             // A velocity, mostly on a wall where there is one.
             let which = random.pick(&[U, V]);
@@ -67,6 +69,19 @@ fn change_state(random: &mut Random, state: &mut State) {
                 *place = random.pick(&[-5_000, -1, 1, 300]);
             }
         }
+    }
+}
+
+/// Changes a barrier, which may be above 3 then, or their number.
+fn change_barriers(random: &mut Random, barriers: &mut Vec<u8>) {
+    let length = barriers.len();
+    if random.once_in(4) {
+        // One fewer, one more, or none.
+        let length = random.pick(&[length.saturating_sub(1), length + 1, 0]);
+        // A tag 9 of zeros may be left out, whatever its length.
+        barriers.resize(length, random.pick(&[0, 1]));
+    } else if length > 0 {
+        barriers[random.below(length)] = random.pick(&[0, 1, 2, 3, 3, 4, 5, 128, 255]);
     }
 }
 

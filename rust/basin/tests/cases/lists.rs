@@ -62,6 +62,7 @@ impl Entry {
             b,
             u,
             v,
+            barriers,
         } = state;
         let &Entry {
             ref inflow,
@@ -71,11 +72,11 @@ impl Entry {
         } = self;
         let mut space = vec![0; work];
         // A run of no step is tested like any other, and leaves the state.
-        let tested = reference::run(p, h, b, u, v, inflow, 0, &mut space);
+        let tested = reference::run(p, h, b, u, v, barriers, inflow, 0, &mut space);
         if steps > MAX_STEPS || tested != (RunAnswer::Finished { steps: 0 }) {
             return 0;
         }
-        let mut step = || reference::step(p, h, b, u, v, inflow, &mut space);
+        let mut step = || reference::step(p, h, b, u, v, barriers, inflow, &mut space);
         (0..steps)
             .take_while(|_| step() == StepAnswer::Done)
             .count() as u64

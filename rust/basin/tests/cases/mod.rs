@@ -2,6 +2,7 @@
 //! and what is lent to be filled, with faults put into some.
 
 pub mod calls;
+pub mod causes;
 pub mod changes;
 pub mod lists;
 pub mod memory;
@@ -16,28 +17,39 @@ use common::{
     literal, numbers, random_number, random_q, random_state, random_timestamp, record_size,
 };
 use common::{Random, Spread, SPREADS};
-use records::TAG_8;
+use records::{tag_9, TAG_8};
 use reference::{Parameters, State, Timestamp};
 
-/// The places of the fields in [`Case::fields`], which are 01's numbers.
+/// The numbers of the fields. Those of 01 are places in [`Case::fields`].
 pub const H: usize = 0;
 pub const U: usize = 2;
 pub const V: usize = 3;
 pub const Q: usize = 4;
 pub const S: usize = 5;
+pub const BARRIERS: usize = 6;
 
-/// 01's bounds of the fields, in the order h, b, u, v, q, s.
-pub const BOUNDS: [(i64, i64); 6] = [
+/// The bounds of the fields, in the order h, b, u, v, q, s, barriers.
+pub const BOUNDS: [(i64, i64); 7] = [
     (1_000, 100_000),
     (0, 100_000),
     (-5_000, 5_000),
     (-5_000, 5_000),
     (-2_000_000, 2_000_000),
     (-1_000, 1_000),
+    (0, 3),
 ];
 
 /// For each field a number within its bounds that closed edges allow too.
-const HARMLESS: [i64; 6] = [1_000, 0, 0, 0, 0, 0];
+const HARMLESS: [i64; 7] = [1_000, 0, 0, 0, 0, 0, 0];
+
+/// The numbers next to the bounds of a field, on the outside. A barrier is a byte,
+/// so none is below 0: 255 stands there, which a byte with a sign takes for -1.
+pub fn next_outside(field: usize) -> [i64; 2] {
+    match field {
+        BARRIERS => [255, 4],
+        _ => [BOUNDS[field].0 - 1, BOUNDS[field].1 + 1],
+    }
+}
 
 /// The calls on a state.
 #[derive(Clone, Copy, Debug, PartialEq)]
@@ -71,10 +83,10 @@ impl Call {
     /// The fields that the call takes.
     pub fn fields(self) -> &'static [usize] {
         match self {
-            Call::PotentialVorticity => &[0, 1, 2, 3],
-            Call::TotalDepth | Call::TotalEnergy | Call::Write => &[0, 1, 2, 3],
-            Call::Tendencies => &[0, 1, 2, 3, Q],
-            Call::Step | Call::Run => &[0, 1, 2, 3, S],
+            Call::PotentialVorticity => &[0, 1, 2, 3, BARRIERS],
+            Call::TotalDepth | Call::TotalEnergy | Call::Write => &[0, 1, 2, 3, BARRIERS],
+            Call::Tendencies => &[0, 1, 2, 3, BARRIERS, Q],
+            Call::Step | Call::Run => &[0, 1, 2, 3, BARRIERS, S],
         }
     }
 
@@ -117,6 +129,7 @@ pub struct Case {
     pub p: Parameters,
     /// h, b, u, v, q, s
     pub fields: [Vec<i64>; 6],
+    pub barriers: Vec<u8>,
     pub steps: u64,
     pub work: usize,
     /// Lengths of the destinations: q, or dh, du, dv.
@@ -138,11 +151,13 @@ impl Case {
             b,
             u,
             v,
+            barriers,
         } = state;
         let cells = h.len();
         Case {
             p: parameters,
             fields: [h, b, u, v, q, inflow],
+            barriers,
             steps: 3,
             work: 8 * cells,
             destinations: [cells; 3],
@@ -169,6 +184,7 @@ impl Case {
             b: vec![0],
             u: vec![100],
             v: vec![-50],
+            barriers: vec![0],
         };
         Case::beside(state, vec![328], vec![0])
     }
@@ -186,6 +202,7 @@ impl Case {
             b: vec![0, 0],
             u: vec![10, 0],
             v: vec![0, 0],
+            barriers: vec![0, 0],
         };
         Case::beside(state, vec![0, 0], vec![0, 0])
     }
@@ -207,6 +224,7 @@ impl Case {
             b: vec![0, 1, 2, 3, 4, 5],
             u: vec![0, 10, -10, 0, 7, 0],
             v: vec![0, 0, 0, 3, -4, 5],
+            barriers: vec![0; 6],
         };
         Case::beside(state, vec![6; 6], vec![-7; 6])
     }
@@ -333,26 +351,87 @@ impl Case {
             b,
             u,
             v,
+            barriers: self.barriers.clone(),
         }
     }
 
-    /// Whether a velocity other than 0 at this place is a refusal 5, as 01's
-    /// words have it.
+    /// How many numbers a field has.
+    pub fn length(&self, field: usize) -> usize {
+        let numbers = self.fields.get(field);
+        numbers.map_or(self.barriers.len(), Vec::len)
+    }
+
+    /// Makes a field so long, by harmless numbers.
+    pub fn resize(&mut self, field: usize, length: usize) {
+        match self.fields.get_mut(field) {
+            Some(numbers) => numbers.resize(length, HARMLESS[field]),
+            None => self.barriers.resize(length, 0),
+        }
+    }
+
+    /// The same of all fields.
+    pub fn resize_all(&mut self, length: usize) {
+        (0..BOUNDS.len()).for_each(|field| self.resize(field, length));
+    }
+
+    /// Puts a number into a cell; a shortened field may not have it.
+    pub fn put(&mut self, field: usize, cell: usize, number: i64) {
+        let byte = || u8::try_from(number).expect("a byte");
+        match self.fields.get_mut(field) {
+            Some(numbers) => {
+                if let Some(place) = numbers.get_mut(cell) {
+                    *place = number;
+                }
+            }
+            None => {
+                if let Some(place) = self.barriers.get_mut(cell) {
+                    *place = byte();
+                }
+            }
+        }
+    }
+
+    /// The number of a cell.
+    pub fn number(&self, field: usize, cell: usize) -> i64 {
+        match self.fields.get(field) {
+            Some(numbers) => numbers[cell],
+            None => self.barriers[cell].into(),
+        }
+    }
+
+    /// Whether a field has this number.
+    pub fn has(&self, field: usize, number: i64) -> bool {
+        (0..self.length(field)).any(|cell| self.number(field, cell) == number)
+    }
+
+    /// Whether a velocity other than 0 at this place is a refusal 5, as the words
+    /// of 01 and 02 have it.
     pub fn is_closed(&self, field: usize, cell: usize) -> bool {
         let Parameters { w, kind, .. } = self.p;
+        let barrier = self.barriers.get(cell).unwrap_or(&0);
         match field {
-            U => kind == 2 && cell.checked_rem(w) == Some(0),
-            V => (kind == 1 || kind == 2) && cell < w,
+            U => kind == 2 && cell.checked_rem(w) == Some(0) || barrier & 1 != 0,
+            V => (kind == 1 || kind == 2) && cell < w || barrier & 2 != 0,
             _ => false,
         }
     }
 
+    /// The cells whose edges of u, or of v, are closed.
+    pub fn closed(&self, field: usize) -> Vec<usize> {
+        let cells = 0..self.fields[field].len();
+        cells.filter(|&cell| self.is_closed(field, cell)).collect()
+    }
+
+    /// Whether no edge is closed.
+    pub fn is_open(&self) -> bool {
+        let open = |cell| !self.is_closed(U, cell) && !self.is_closed(V, cell);
+        (0..self.fields[U].len()).all(open)
+    }
+
     pub fn clear_closed_edges(&mut self) {
         for field in [U, V] {
-            for cell in 0..self.fields[field].len() {
-                if self.is_closed(field, cell) {
-                    self.fields[field][cell] = 0;
-                }
+            for cell in self.closed(field) {
+                self.fields[field][cell] = 0;
             }
         }
     }
@@ -369,16 +448,15 @@ impl Case {
             }
             [2] => {
                 let cells = self.p.w * self.p.n;
-                for (field, number) in self.fields.iter_mut().zip(HARMLESS) {
-                    field.resize(cells, number);
-                }
+                self.resize_all(cells);
                 self.work = 8 * cells;
                 // The inflow that would stop a long run may have gone.
                 self.steps = self.steps.min(3);
             }
             [3] => (self.p.g, self.p.c, self.p.r) = (1, 0, 1_000),
             [4 | 5, field, cell] => {
-                self.fields[field as usize][cell as usize] = HARMLESS[field as usize]
+                let field = field as usize;
+                self.put(field, cell as usize, HARMLESS[field]);
             }
             [8] => {
                 let cells = self.p.w * self.p.n;
@@ -462,9 +540,11 @@ pub enum Fault {
     OpenEdges,
     /// A velocity outside its bounds on a closed edge.
     ClosedEdgePast,
+    /// Barriers on edges with a velocity.
+    BarredVelocities,
 }
 
-pub const FAULTS: [Fault; 22] = [
+pub const FAULTS: [Fault; 23] = [
     Fault::OnePast,
     Fault::FarPast,
     Fault::SeveralPast,
@@ -487,51 +567,50 @@ pub const FAULTS: [Fault; 22] = [
     Fault::ClosedEdges,
     Fault::OpenEdges,
     Fault::ClosedEdgePast,
+    Fault::BarredVelocities,
 ];
 
 impl Fault {
     pub fn put(self, random: &mut Random, case: &mut Case) {
         match self {
             Fault::OnePast => {
-                let field = random.below(6);
+                let field = random.below(7);
                 put_past(random, case, field, one_past);
             }
             Fault::FarPast => {
-                let field = random.below(6);
+                let field = random.below(7);
                 put_past(random, case, field, far_past);
             }
             Fault::SeveralPast => {
                 let same = random.once_in(2);
-                let mut field = random.below(6);
+                let mut field = random.below(7);
                 for _ in 0..2 + random.below(4) {
                     let past = random.pick(&[one_past, far_past]);
                     put_past(random, case, field, past);
                     if !same {
-                        field = random.below(6);
+                        field = random.below(7);
                     }
                 }
             }
             Fault::ConstantOnePast => put_constant(random, case, one_past),
             Fault::ConstantFarPast => put_constant(random, case, far_past),
             Fault::LengthByOne => {
-                let k = random.below(6);
-                if random.once_in(2) {
-                    case.fields[k].pop();
-                } else {
-                    case.fields[k].push(HARMLESS[k]);
-                }
+                let field = random.below(7);
+                let length = case.length(field);
+                let length = random.pick(&[length.saturating_sub(1), length + 1]);
+                case.resize(field, length);
             }
             Fault::OtherLength => {
-                let k = random.below(6);
-                let length = case.fields[k].len();
+                let field = random.below(7);
+                let length = case.length(field);
                 let length = match random.below(4) {
                     0 => 0,
                     1 => 2 * length,
                     _ => random.below(2 * length + 2),
                 };
-                case.fields[k].resize(length, HARMLESS[k]);
+                case.resize(field, length);
             }
-            Fault::AllEmpty => case.fields.iter_mut().for_each(Vec::clear),
+            Fault::AllEmpty => case.resize_all(0),
             Fault::Side => {
                 let two_to = |power: u32| 1usize << power;
                 let known = random.pick(&[case.p.w, case.p.n]);
@@ -565,7 +644,7 @@ impl Fault {
                         (0, usize::MAX),
                     ];
                     (case.p.w, case.p.n) = random.pick(&to_0);
-                    case.fields.iter_mut().for_each(Vec::clear);
+                    case.resize_all(0);
                 }
                 let length = case.fields[H].len();
                 case.work = 8 * length;
@@ -583,9 +662,7 @@ impl Fault {
                 ];
                 let (w, n) = random.pick(&sides);
                 (case.p.w, case.p.n) = (w, n);
-                for (field, number) in case.fields.iter_mut().zip(HARMLESS) {
-                    field.resize(w * n, number);
-                }
+                case.resize_all(w * n);
                 case.work = 8 * w * n;
                 case.destinations = [w * n; 3];
                 case.record = record_size(w * n);
@@ -629,11 +706,13 @@ impl Fault {
             Fault::ShortRecord => {
                 let cells = destination_needed(case);
                 let needed = record_size(cells);
-                // Short by a cell, by tag 8, of the fields alone, of no cell at all.
+                // Short by a cell, by tag 9, by tags 8 and 9, of the fields alone,
+                // of no cell at all.
                 let lengths = [
-                    needed - 12,
-                    needed - TAG_8,
-                    12 * cells,
+                    needed - 13,
+                    needed - tag_9(cells),
+                    needed - TAG_8 - tag_9(cells),
+                    13 * cells,
                     record_size(0).min(needed - 1),
                 ];
                 case.record = match random.below(4) {
@@ -653,6 +732,20 @@ impl Fault {
                 let bounds = BOUNDS[U];
                 one_past(random, bounds)
             }),
+            Fault::BarredVelocities => {
+                for _ in 0..1 + random.below(3) {
+                    let (field, bit) = random.pick(&[(U, 1), (V, 2)]);
+                    let moving: Vec<_> = (0..case.length(field))
+                        .filter(|&cell| case.fields[field][cell] != 0)
+                        .collect();
+                    if let Some(at) = place(random, moving.len()) {
+                        // Barriers may be fewer than velocities.
+                        if let Some(barrier) = case.barriers.get_mut(moving[at]) {
+                            *barrier |= bit;
+                        }
+                    }
+                }
+            }
             Fault::OpenEdges => {
                 let (w, n) = (case.p.w, case.p.n);
                 for _ in 0..1 + random.below(4) {
@@ -767,8 +860,16 @@ fn far_past(random: &mut Random, (low, high): (i64, i64)) -> i64 {
 type Past = fn(&mut Random, (i64, i64)) -> i64;
 
 fn put_past(random: &mut Random, case: &mut Case, field: usize, past: Past) {
-    if let Some(cell) = place(random, case.fields[field].len()) {
-        case.fields[field][cell] = past(random, BOUNDS[field]);
+    if let Some(cell) = place(random, case.length(field)) {
+        let number = match field {
+            // A byte, near the bound or any.
+            BARRIERS => {
+                let any = random.between(4, 255);
+                random.pick(&[4, 255, any])
+            }
+            _ => past(random, BOUNDS[field]),
+        };
+        case.put(field, cell, number);
     }
 }
 
@@ -793,19 +894,16 @@ fn put_on_edges(
     times: usize,
     number: impl Fn(&mut Random) -> i64,
 ) {
-    if !(1..=2).contains(&case.p.kind) {
+    if case.is_open() {
         case.p.kind = 1 + random.below(2) as u8;
         case.clear_closed_edges();
     }
     for _ in 0..times {
-        let field = if case.p.kind == 2 && random.once_in(2) {
-            U
-        } else {
-            V
-        };
-        let closed: Vec<_> = (0..case.fields[field].len())
-            .filter(|&cell| case.is_closed(field, cell))
-            .collect();
+        let mut field = random.pick(&[U, V]);
+        if case.closed(field).is_empty() {
+            field = U + V - field;
+        }
+        let closed = case.closed(field);
         if let Some(at) = place(random, closed.len()) {
             case.fields[field][closed[at]] = number(random);
         }

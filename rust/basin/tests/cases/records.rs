@@ -7,10 +7,9 @@ use std::cmp::Ordering;
 use basin::{raw, Comparison, Read, Refusal, Refused};
 use reference::{Parameters, ReadAnswer, State, Timestamp};
 
-use super::calls::{self, answered, array, fenced, inside, junk, told};
+use super::calls::{self, answered, array, fenced, inside, junk, junk_bytes, told};
 use super::calls::{FENCE, FENCE_BYTE, UNANSWERED, UNFILLED, UNTOUCHED};
-use super::common::Random;
-use super::common::{moment, record_fields, record_of, record_size, two_cells, within_limits};
+use super::common::{moment, record_of, record_size, two_cells, within_limits, Random};
 use super::{any_numbers, Call, Case};
 
 pub fn hex(record: &[u8]) -> String {
@@ -33,27 +32,9 @@ pub const TIMESTAMP: Timestamp = Timestamp {
 /// The bytes of tag 8, which a record may lack.
 pub const TAG_8: usize = 5;
 
-/// Shuffles the fields of a record.
-pub fn shuffle(random: &mut Random, fields: &mut [Vec<u8>]) {
-    for k in (1..fields.len()).rev() {
-        fields.swap(k, random.below(k + 1));
-    }
-}
-
-/// The fields of a record by rising tag; of a whole second, mostly without tag 8.
-pub fn some_fields(random: &mut Random, state: &State, timestamp: Timestamp) -> Vec<Vec<u8>> {
-    let mut fields = record_fields(state, timestamp);
-    if timestamp.milliseconds == 0 && !random.once_in(3) {
-        fields.pop();
-    }
-    fields
-}
-
-/// A record in some order of its tags; of a whole second, mostly without tag 8.
-pub fn shuffled(random: &mut Random, state: &State, timestamp: impl Into<Timestamp>) -> Vec<u8> {
-    let mut fields = some_fields(random, state, timestamp.into());
-    shuffle(random, &mut fields);
-    fields.concat()
+/// The bytes of tag 9, which a record of so many cells may lack.
+pub fn tag_9(cells: usize) -> usize {
+    3 + cells
 }
 
 /// One of the state's fields, by its place in the order h, b, u, v.
@@ -67,8 +48,8 @@ pub fn field(state: &mut State, which: usize) -> &mut Vec<i64> {
 /// What is lent to a read beside the record.
 #[derive(Clone, Copy, Debug, PartialEq)]
 pub struct Lent {
-    /// Lengths of h, b, u, v.
-    pub fields: [usize; 4],
+    /// Lengths of h, b, u, v and the barriers.
+    pub fields: [usize; 5],
     /// What stands in the constants and in the answer before the call.
     pub constants: [i64; 3],
     pub answer: [u64; 8],
@@ -78,7 +59,7 @@ impl Lent {
     /// Just enough for so many cells.
     pub fn enough(cells: usize) -> Self {
         Lent {
-            fields: [cells; 4],
+            fields: [cells; 5],
             // More than four bytes of a record make.
             constants: [1, 2, 3].map(|k| UNFILLED / 2 + k),
             answer: UNANSWERED,
@@ -89,7 +70,7 @@ impl Lent {
     /// in the answer.
     pub fn any(random: &mut Random, cells: usize) -> Self {
         Lent {
-            fields: [(); 4].map(|()| cells + random.pick(&[0, 0, 1, 5])),
+            fields: [(); 5].map(|()| cells + random.pick(&[0, 0, 1, 5])),
             constants: [(); 3].map(|()| random.next() as i64),
             answer: any_numbers(random),
         }
@@ -105,6 +86,7 @@ pub struct Outcome {
     pub told: Vec<u64>,
     /// h, b, u, v
     pub fields: [Vec<i64>; 4],
+    pub barriers: Vec<u8>,
     /// G, c, R
     pub constants: [i64; 3],
 }
@@ -115,6 +97,7 @@ impl Outcome {
         Outcome {
             told: vec![],
             fields: std::array::from_fn(|k| junk(lent.fields[k], k)),
+            barriers: junk_bytes(lent.fields[4]),
             constants: lent.constants,
         }
     }
@@ -145,6 +128,7 @@ impl Outcome {
             b,
             u,
             v,
+            barriers: self.barriers[..cells].to_vec(),
         };
         Some((state, moment(seconds, milliseconds)))
     }
@@ -160,7 +144,7 @@ fn accepted([w, n, kind]: [usize; 3], time: Timestamp) -> [u64; 6] {
 pub fn independent(record: &[u8], lent: Lent) -> Outcome {
     let mut outcome = Outcome::before(lent);
     let [h, b, u, v] = &mut outcome.fields;
-    outcome.told = match reference::read(record, h, b, u, v) {
+    outcome.told = match reference::read(record, h, b, u, v, &mut outcome.barriers) {
         ReadAnswer::Read {
             parameters: p,
             timestamp,
@@ -177,7 +161,7 @@ pub fn independent(record: &[u8], lent: Lent) -> Outcome {
 fn proved(record: &[u8], lent: Lent) -> Outcome {
     let mut outcome = Outcome::before(lent);
     let [h, b, u, v] = &mut outcome.fields;
-    outcome.told = match basin::read(record, h, b, u, v) {
+    outcome.told = match basin::read(record, h, b, u, v, &mut outcome.barriers) {
         Ok(Read {
             parameters: p,
             timestamp: time,
@@ -203,6 +187,7 @@ pub fn compare_read(record: &[u8], lent: Lent, at: &str) -> Outcome {
     let fenced_record = fenced(record, FENCE_BYTE);
     let before = Outcome::before(lent);
     let mut fields = before.fields.each_ref().map(|field| fenced(field, FENCE));
+    let mut barriers = fenced(&before.barriers, FENCE_BYTE);
     let mut constants = fenced(&before.constants, FENCE);
     let mut answer = fenced(&lent.answer, UNTOUCHED);
     let [h, b, u, v] = fields.each_mut().map(|field| inside(field));
@@ -212,6 +197,7 @@ pub fn compare_read(record: &[u8], lent: Lent, at: &str) -> Outcome {
         b,
         u,
         v,
+        inside(&mut barriers),
         array(inside(&mut constants)),
         array(inside(&mut answer)),
     );
@@ -220,6 +206,8 @@ pub fn compare_read(record: &[u8], lent: Lent, at: &str) -> Outcome {
     assert_eq!(answer, left, "{}", sides());
     let left = expected.fields.each_ref().map(|field| fenced(field, FENCE));
     assert_eq!(fields, left, "{}", sides());
+    let left = fenced(&expected.barriers, FENCE_BYTE);
+    assert_eq!(barriers, left, "{}", sides());
     let left = fenced(&expected.constants, FENCE);
     assert_eq!(constants, left, "{}", sides());
     assert_untouched(&fenced_record, record, at);
@@ -247,17 +235,24 @@ fn assert_untouched(fenced: &[u8], record: &[u8], at: &str) {
 /// and in the first places of the fields, and leaves the other places.
 fn assert_left(record: &[u8], before: &Outcome, got: &Outcome, at: &str) {
     if !got.is_accepted() {
-        let left = got.fields == before.fields && got.constants == before.constants;
-        assert!(left, "{at}: refused, not left by {}", hex(record));
+        let left = Outcome {
+            told: got.told.clone(),
+            ..before.clone()
+        };
+        assert_eq!(got, &left, "{at}: refused, not left by {}", hex(record));
         return;
     }
     let cells = (got.told[1] * got.told[2]) as usize;
     let lacking = record_size(cells) - record.len();
-    assert!([0, TAG_8].contains(&lacking), "{at}: {}", hex(record));
+    let both = TAG_8 + tag_9(cells);
+    let known = [0, TAG_8, tag_9(cells), both].contains(&lacking);
+    assert!(known, "{at}: {}", hex(record));
     for (after, before) in got.fields.iter().zip(&before.fields) {
         let (after, before) = (&after[cells..], &before[cells..]);
         assert_eq!(after, before, "{at}: not left by {}", hex(record));
     }
+    let (after, before) = (&got.barriers[cells..], &before.barriers[cells..]);
+    assert_eq!(after, before, "{at}: not left by {}", hex(record));
     let (state, _) = got.state().expect("one was read");
     assert!(within_limits(&state), "{at}: read from {}", hex(record));
 }
@@ -348,13 +343,8 @@ pub fn expect_state(
     at: &str,
 ) {
     let outcome = expect_read(record, lent, &told_for(state, timestamp), at);
-    let cells = state.h.len();
-    let State { h, b, u, v, .. } = state;
-    for (got, field) in outcome.fields.iter().zip([h, b, u, v]) {
-        assert_eq!(got[..cells], field[..], "{at}: {}", hex(record));
-    }
-    let Parameters { g, c, r, .. } = state.parameters;
-    assert_eq!(outcome.constants, [g, c, r], "{at}: {}", hex(record));
+    let (read, _) = outcome.state().expect("one was read");
+    assert_eq!(&read, state, "{at}: {}", hex(record));
 }
 
 /// Reading the record is refused with this, and so is comparing it with a good

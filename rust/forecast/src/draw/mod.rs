@@ -59,6 +59,7 @@ pub struct Series {
     parameters: Parameters,
     timestamp: Timestamp,
     bottom: Vec<i64>,
+    barriers: Vec<u8>,
     frames: Vec<Frame>,
     scale: Scale,
 }
@@ -97,6 +98,7 @@ impl Series {
             parameters: state.parameters,
             timestamp: state.timestamp,
             bottom: state.b.clone(),
+            barriers: state.barriers.clone(),
             frames,
             scale,
         }

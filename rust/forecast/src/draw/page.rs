@@ -103,7 +103,7 @@ impl Page {
                 top,
                 cell: self.cell,
             };
-            panel.draw(&mut svg, frame, &series.bottom, &series.scale);
+            panel.draw(&mut svg, frame, series);
             longest = panel.longest();
         }
         legend(&mut svg, below + 22.0, &series.scale, longest);

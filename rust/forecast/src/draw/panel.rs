@@ -1,4 +1,4 @@
-//! The map of one frame: cells, bottom, walls, current.
+//! The map of one frame: cells, bottom, walls and barriers, current.
 
 use std::fmt::Write;
 
@@ -6,10 +6,13 @@ use basin::Parameters;
 
 use super::scale::{length, Scale};
 use super::svg::{Svg, GREY, INK};
-use super::Frame;
+use super::{Frame, Series};
 
 /// Between two arrows at least, in points.
 const ARROWS_APART: f64 = 17.0;
+/// How thick what closes edges is, in points, and how its lines end.
+const CLOSED: f64 = 3.0;
+const CLOSED_END: &str = " stroke-linecap=\"square\"";
 
 /// Where a map stands on the page, and how large a cell is.
 pub struct Panel<'a> {
@@ -20,11 +23,12 @@ pub struct Panel<'a> {
 }
 
 impl Panel<'_> {
-    /// Draws a frame.
-    pub fn draw(&self, svg: &mut Svg, frame: &Frame, bottom: &[i64], scale: &Scale) {
+    /// Draws a frame of a series.
+    pub fn draw(&self, svg: &mut Svg, frame: &Frame, series: &Series) {
+        let scale = &series.scale;
         self.cells(svg, frame, scale);
         svg.line(
-            &self.contours(bottom, scale),
+            &self.contours(&series.bottom, scale),
             GREY,
             0.8,
             " stroke-opacity=\"0.7\"",
@@ -36,6 +40,8 @@ impl Panel<'_> {
             " stroke-linecap=\"round\" stroke-linejoin=\"round\"",
         );
         self.walls(svg);
+        let barriers = self.barriers(&series.barriers);
+        svg.line(&barriers, INK, CLOSED, CLOSED_END);
     }
 
     fn width(&self) -> f64 {
@@ -135,11 +141,40 @@ impl Panel<'_> {
             (level, self.parameters.kind >= 1),
         ] {
             if closed {
-                svg.line(&path, INK, 3.0, " stroke-linecap=\"square\"");
+                svg.line(&path, INK, CLOSED, CLOSED_END);
             } else {
                 svg.line(&path, GREY, 0.8, " stroke-dasharray=\"3 3\"");
             }
         }
+    }
+
+    /// The edges that barriers close. The west edges of column 0 are the east edges
+    /// of the last column as well, and stand on both sides of the map; so do the
+    /// south edges of row 0, in the south and in the north.
+    fn barriers(&self, barriers: &[u8]) -> String {
+        let (w, n) = (self.parameters.w, self.parameters.n);
+        // An edge of the grid is a side of the map, and so is the opposite one.
+        let places = |first: usize, count: usize| match first {
+            0 => vec![0.0, count as f64],
+            _ => vec![first as f64],
+        };
+        let mut path = String::new();
+        for (k, barrier) in barriers.iter().enumerate() {
+            let (i, j) = (k % w, k / w);
+            if barrier & 1 != 0 {
+                let north = self.y(j as f64 + 1.0);
+                for x in places(i, w).into_iter().map(|i| self.x(i)) {
+                    let _ = write!(path, "M{x:.1} {north:.1}v{:.1}", self.cell);
+                }
+            }
+            if barrier & 2 != 0 {
+                let west = self.x(i as f64);
+                for y in places(j, n).into_iter().map(|j| self.y(j)) {
+                    let _ = write!(path, "M{west:.1} {y:.1}h{:.1}", self.cell);
+                }
+            }
+        }
+        path
     }
 }
 

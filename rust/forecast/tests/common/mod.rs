@@ -14,7 +14,7 @@ use std::fs;
 
 use forecast::{answer, Answer, State, Surroundings};
 
-pub const EXAMPLES: [&str; 3] = ["dock", "channel", "eddies"];
+pub const EXAMPLES: [&str; 4] = ["dock", "channel", "eddies", "jetty"];
 
 /// A file of the repository.
 pub fn repository(name: &str) -> String {

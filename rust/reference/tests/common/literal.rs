@@ -22,6 +22,12 @@ pub struct Variant {
     pub one_pass: bool,
     /// Halves are rounded up.
     pub halves_up: bool,
+    /// Barriers are not looked at.
+    pub boundary_alone: bool,
+    /// The bits of a barrier change places.
+    pub bits_swapped: bool,
+    /// An edge is closed by the barrier of the cell on its other side.
+    pub barrier_beyond: bool,
 }
 
 /// As 01 has it.
@@ -33,6 +39,9 @@ pub const PAPER: Variant = Variant {
     vorticity_of_start: false,
     one_pass: false,
     halves_up: false,
+    boundary_alone: false,
+    bits_swapped: false,
+    barrier_beyond: false,
 };
 
 /// Without E and F.
@@ -127,6 +136,7 @@ impl Variant {
             b: base.b.clone(),
             u: cells.clone().map(|k| base.u[k] + du[k]).collect(),
             v: cells.map(|k| base.v[k] + dv[k]).collect(),
+            barriers: base.barriers.clone(),
         }
     }
 }
@@ -176,9 +186,23 @@ impl<'a> Literal<'a> {
             .collect()
     }
 
-    fn at(&self, field: &[i64], i: i64, j: i64) -> i128 {
+    fn at<T: Copy + Into<i128>>(&self, field: &[T], i: i64, j: i64) -> i128 {
         let (w, n) = (self.p.w as i64, self.p.n as i64);
         field[(j.rem_euclid(n) * w + i.rem_euclid(w)) as usize].into()
+    }
+
+    /// Whether the barrier of a cell closes an edge: 0 its west edge, 1 its south
+    /// edge.
+    fn barred(&self, edge: u32, i: i64, j: i64) -> bool {
+        let (mut bit, mut place) = (edge, (i, j));
+        if self.variant.bits_swapped {
+            bit = 1 - edge;
+        }
+        if self.variant.barrier_beyond {
+            place = [(i - 1, j), (i, j - 1)][edge as usize];
+        }
+        let barrier = self.at(&self.state.barriers, place.0, place.1);
+        !self.variant.boundary_alone && barrier / 2i128.pow(bit) % 2 == 1
     }
 
     fn h(&self, i: i64, j: i64) -> i128 {
@@ -222,7 +246,7 @@ impl<'a> Literal<'a> {
     }
 
     fn tendency_u(&self, i: i64, j: i64) -> i128 {
-        if self.p.kind == 2 && i == 0 {
+        if self.p.kind == 2 && i == 0 || self.barred(0, i, j) {
             return 0;
         }
         let p = |i, j| self.weight(0, i, j);
@@ -243,7 +267,7 @@ impl<'a> Literal<'a> {
     }
 
     fn tendency_v(&self, i: i64, j: i64) -> i128 {
-        if self.p.kind != 0 && j == 0 {
+        if self.p.kind != 0 && j == 0 || self.barred(1, i, j) {
             return 0;
         }
         let p = |i, j| self.weight(0, i, j);

@@ -12,7 +12,9 @@ pub use random::Random;
 use std::fs;
 use std::path::Path;
 
-use reference::{Parameters, RunAnswer, State, StepAnswer, Timestamp};
+use literal::Three;
+use reference::{FillAnswer, Parameters, Refusal, RunAnswer, State, StepAnswer};
+use reference::{Timestamp, TotalAnswer};
 
 /// Places of counts by number: 0, and the numbers of the refusals. 02 goes up to
 /// 13.
@@ -22,19 +24,29 @@ pub const NUMBERS: usize = 14;
 /// record that is read.
 pub const TESTED: [usize; 8] = [1, 2, 3, 9, 4, 5, 6, 8];
 pub const TESTED_IN_READ: [usize; 8] = [7, 1, 2, 8, 3, 9, 4, 5];
+/// The order in which 4 tests the fields, by their numbers: h, b, u, v, the
+/// barriers, then q or s.
+const FIELDS_TESTED: [usize; 7] = [0, 1, 2, 3, 6, 4, 5];
 
 /// Of what some causes tell each by itself, what they tell together: by the order
-/// of the tests, then by the values, field and cell. A 0 comes after all.
+/// of the tests, then by that of the fields, then by the other values, the cell
+/// among them. A 0 comes after all.
 pub fn first_told<T>(order: &[usize], told: impl IntoIterator<Item = Vec<T>>) -> Option<Vec<T>>
 where
     T: Copy + Ord + TryInto<usize>,
 {
-    let rank = |told: &Vec<T>| {
-        let number = told[0].try_into().ok();
-        order.iter().position(|&k| Some(k) == number)
+    let place = |order: &[usize], number: T| {
+        let number = number.try_into().ok();
+        let place = order.iter().position(|&k| Some(k) == number);
+        place.unwrap_or(order.len())
     };
-    told.into_iter()
-        .min_by_key(|told| (rank(told).unwrap_or(order.len()), told.clone()))
+    told.into_iter().min_by_key(|told| {
+        let field = match told[..] {
+            [_, field, _] => place(&FIELDS_TESTED, field),
+            _ => 0,
+        };
+        (place(order, told[0]), field, told.clone())
+    })
 }
 
 /// How the numbers of a random state are spread.
@@ -90,8 +102,30 @@ pub fn random_size(random: &mut Random) -> (usize, usize) {
     }
 }
 
-/// A state within the limits.
-pub fn random_state(
+/// Barriers for so many cells: none in half of the cases; else on any edges, on
+/// some, on one, or on all west edges, all south edges or all.
+pub fn random_barriers(random: &mut Random, cells: usize) -> Vec<u8> {
+    let mut barriers = vec![0; cells];
+    match random.below(8) {
+        0 | 1 => barriers.fill_with(|| random.below(4) as u8),
+        2 => barriers[random.below(cells)] = random.pick(&[1, 2, 3]),
+        3 if random.once_in(2) => barriers.fill(random.pick(&[1, 2, 3])),
+        3 => barriers.fill_with(|| random.pick(&[0, 0, 0, 0, 0, 1, 2, 3])),
+        _ => {}
+    }
+    barriers
+}
+
+/// A state within the limits, every second time with barriers.
+pub fn random_state(random: &mut Random, spread: Spread, size: (usize, usize), kind: u8) -> State {
+    let mut state = random_state_without_barriers(random, spread, size, kind);
+    state.barriers = random_barriers(random, state.h.len());
+    clear_closed_edges(&mut state);
+    assert!(within_limits(&state), "{state:?}");
+    state
+}
+
+pub fn random_state_without_barriers(
     random: &mut Random,
     spread: Spread,
     (w, n): (usize, usize),
@@ -115,6 +149,7 @@ pub fn random_state(
             b: numbers(random, spread, cells, 0, ripple),
             u: numbers(random, spread, cells, -speed, speed),
             v: numbers(random, spread, cells, -speed, speed),
+            barriers: vec![0; cells],
         }
     } else {
         State {
@@ -130,10 +165,10 @@ pub fn random_state(
             b: numbers(random, spread, cells, 0, 100_000),
             u: numbers(random, spread, cells, -5_000, 5_000),
             v: numbers(random, spread, cells, -5_000, 5_000),
+            barriers: vec![0; cells],
         }
     };
     clear_closed_edges(&mut state);
-    assert!(within_limits(&state), "{state:?}");
     state
 }
 
@@ -145,14 +180,30 @@ pub fn any_state(random: &mut Random) -> State {
     random_state(random, spread, size, kind)
 }
 
+/// Whether the west edge of a cell is closed, and its south edge: by the boundary
+/// or by a barrier.
+pub fn closed_edges(state: &State, cell: usize) -> [bool; 2] {
+    let Parameters { w, kind, .. } = state.parameters;
+    let barrier = state.barriers[cell];
+    [
+        kind == 2 && cell.is_multiple_of(w) || barrier % 2 == 1,
+        kind != 0 && cell / w == 0 || barrier / 2 % 2 == 1,
+    ]
+}
+
+/// Whether no edge of the grid is closed.
+pub fn is_open(state: &State) -> bool {
+    (0..state.h.len()).all(|cell| closed_edges(state, cell) == [false; 2])
+}
+
 pub fn clear_closed_edges(state: &mut State) {
-    let p = state.parameters;
-    for k in 0..p.w * p.n {
-        if p.kind == 2 && k % p.w == 0 {
-            state.u[k] = 0;
+    for cell in 0..state.h.len() {
+        let [west, south] = closed_edges(state, cell);
+        if west {
+            state.u[cell] = 0;
         }
-        if p.kind != 0 && k / p.w == 0 {
-            state.v[k] = 0;
+        if south {
+            state.v[cell] = 0;
         }
     }
 }
@@ -167,10 +218,7 @@ pub fn within_limits(state: &State) -> bool {
     let inside = |field: &[i64], low, high| {
         field.len() == cells && field.iter().all(|x| (low..=high).contains(x))
     };
-    let edges_closed = (0..cells).all(|k| {
-        (p.kind != 2 || k % p.w != 0 || state.u[k] == 0)
-            && (p.kind == 0 || k / p.w != 0 || state.v[k] == 0)
-    });
+    let barriers = &state.barriers;
     (1..=10_000).contains(&p.g)
         && (-10_000..=10_000).contains(&p.c)
         && (1_000..=1_000_000).contains(&p.r)
@@ -178,7 +226,68 @@ pub fn within_limits(state: &State) -> bool {
         && inside(&state.b, 0, 100_000)
         && inside(&state.u, -5_000, 5_000)
         && inside(&state.v, -5_000, 5_000)
-        && edges_closed
+        && barriers.len() == cells
+        && barriers.iter().all(|&barrier| barrier < 4)
+        && (0..cells).all(|cell| {
+            let [west, south] = closed_edges(state, cell);
+            (!west || state.u[cell] == 0) && (!south || state.v[cell] == 0)
+        })
+}
+
+fn filled(answer: FillAnswer) -> Result<(), Refusal> {
+    match answer {
+        FillAnswer::Done => Ok(()),
+        FillAnswer::Refused(refusal) => Err(refusal),
+    }
+}
+
+/// The potential vorticity of an owned state, by the public call.
+pub fn vorticity_of(state: &State) -> Result<Vec<i64>, Refusal> {
+    let mut q = vec![i64::MIN; state.h.len()];
+    let State {
+        parameters,
+        h,
+        b,
+        u,
+        v,
+        barriers,
+    } = state;
+    let answer = reference::potential_vorticity(parameters, h, b, u, v, barriers, &mut q);
+    filled(answer).map(|()| q)
+}
+
+/// The tendencies -D, Tu and Tv of an owned state, by the public call.
+pub fn tendencies_of(state: &State, q: &[i64]) -> Result<Three, Refusal> {
+    let [mut dh, mut du, mut dv] = [(); 3].map(|()| vec![i64::MIN; state.h.len()]);
+    let State {
+        parameters,
+        h,
+        b,
+        u,
+        v,
+        barriers,
+    } = state;
+    let answer = reference::tendencies(
+        parameters, h, b, u, v, barriers, q, &mut dh, &mut du, &mut dv,
+    );
+    let (h, u, v) = (dh, du, dv);
+    filled(answer).map(|()| Three { h, u, v })
+}
+
+/// The totals of an owned state, by the public calls: depth, and four times energy.
+pub fn totals_of(state: &State) -> [TotalAnswer; 2] {
+    let State {
+        parameters,
+        h,
+        b,
+        u,
+        v,
+        barriers,
+    } = state;
+    [
+        reference::total_depth(parameters, h, b, u, v, barriers),
+        reference::total_energy(parameters, h, b, u, v, barriers),
+    ]
 }
 
 /// The public step on an owned state.
@@ -189,6 +298,7 @@ pub fn step_state(state: &mut State, inflow: &[i64], work: &mut [i64]) -> StepAn
         &state.b,
         &mut state.u,
         &mut state.v,
+        &state.barriers,
         inflow,
         work,
     )
@@ -202,6 +312,7 @@ pub fn run_state(state: &mut State, inflow: &[i64], steps: u64, work: &mut [i64]
         &state.b,
         &mut state.u,
         &mut state.v,
+        &state.barriers,
         inflow,
         steps,
         work,
@@ -242,7 +353,7 @@ pub fn random_timestamp(random: &mut Random) -> Timestamp {
 
 /// The bytes of a record of so many cells, apart from the library.
 pub fn record_size(cells: usize) -> usize {
-    49 + 12 * cells
+    52 + 13 * cells
 }
 
 /// The public writer on an owned state, into a record of the right size.
@@ -253,9 +364,11 @@ pub fn written(state: &State, timestamp: impl Into<Timestamp>) -> Vec<u8> {
         b,
         u,
         v,
+        barriers,
     } = state;
     let mut record = vec![0; record_size(h.len())];
-    let answer = reference::write(parameters, h, b, u, v, timestamp.into(), &mut record);
+    let time = timestamp.into();
+    let answer = reference::write(parameters, h, b, u, v, barriers, time, &mut record);
     assert_eq!(answer.told(), [0, record.len() as i128], "{state:?}");
     record
 }
@@ -274,9 +387,10 @@ pub fn milliseconds_field(milliseconds: u64) -> Vec<u8> {
     record_field(8, &value.to_be_bytes())
 }
 
-/// The eight fields of a state's record by rising tag, apart from the
-/// library. State and timestamp need not be within the limits. Where the
-/// milliseconds are 0, a record may do without the last field.
+/// The nine fields of a state's record by rising tag, apart from the library.
+/// State and timestamp need not be within the limits. Where the milliseconds are
+/// 0, a record may do without the last field but one, and without barriers without
+/// the last.
 pub fn record_fields(state: &State, timestamp: impl Into<Timestamp>) -> Vec<Vec<u8>> {
     let p = state.parameters;
     let timestamp = timestamp.into();
@@ -301,6 +415,7 @@ pub fn record_fields(state: &State, timestamp: impl Into<Timestamp>) -> Vec<Vec<
         record_field(6, &two(&state.u)),
         record_field(7, &two(&state.v)),
         milliseconds_field(timestamp.milliseconds),
+        record_field(9, &state.barriers),
     ]
 }
 
@@ -309,9 +424,38 @@ pub fn record_of(state: &State, timestamp: impl Into<Timestamp>) -> Vec<u8> {
     record_fields(state, timestamp).concat()
 }
 
-/// The record of a state at a whole second, without tag 8.
-pub fn record_without_8(state: &State, seconds: u64) -> Vec<u8> {
+/// The record of a state without barriers at a whole second, as 01 has it: without
+/// tags 8 and 9.
+pub fn record_of_01(state: &State, seconds: u64) -> Vec<u8> {
     record_fields(state, seconds)[..7].concat()
+}
+
+/// Shuffles the fields of a record.
+pub fn shuffle(random: &mut Random, fields: &mut [Vec<u8>]) {
+    for k in (1..fields.len()).rev() {
+        fields.swap(k, random.below(k + 1));
+    }
+}
+
+/// The fields of a record by rising tag; of a whole second mostly without tag 8,
+/// and without barriers mostly without tag 9.
+pub fn some_fields(random: &mut Random, state: &State, timestamp: Timestamp) -> Vec<Vec<u8>> {
+    let mut fields = record_fields(state, timestamp);
+    let (milliseconds, barriers) = (timestamp.milliseconds, &state.barriers);
+    if barriers.iter().all(|&barrier| barrier == 0) && !random.once_in(3) {
+        fields.remove(8);
+    }
+    if milliseconds == 0 && !random.once_in(3) {
+        fields.remove(7);
+    }
+    fields
+}
+
+/// Such fields in some order.
+pub fn shuffled(random: &mut Random, state: &State, timestamp: impl Into<Timestamp>) -> Vec<u8> {
+    let mut fields = some_fields(random, state, timestamp.into());
+    shuffle(random, &mut fields);
+    fields.concat()
 }
 
 /// Two cells that wrap, with a negative number wherever one is allowed.
@@ -329,6 +473,16 @@ pub fn two_cells() -> State {
         b: vec![0, 17],
         u: vec![100, -1],
         v: vec![-50, 5_000],
+        barriers: vec![0, 0],
+    }
+}
+
+/// The same with a barrier on the south edge of the second cell.
+pub fn two_cells_and_a_barrier() -> State {
+    State {
+        v: vec![-50, 0],
+        barriers: vec![0, 2],
+        ..two_cells()
     }
 }
 
@@ -348,6 +502,7 @@ pub fn at_rest(w: usize, n: usize) -> State {
         b: vec![0; cells],
         u: vec![0; cells],
         v: vec![0; cells],
+        barriers: vec![0; cells],
     }
 }
 
