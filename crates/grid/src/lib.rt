@@ -91,10 +91,13 @@ pub fn barrier_at(barriers: &[u8], k: usize) -> u8
     0
 }
 
-// The highest byte. Its callers need that none is above it, so the contract says that alone. The loop has no exit, so that it is compiled to
-// take many bytes at a time. It rules out, for instance: the last byte left out; the first byte for all.
+// The highest byte, or 0 where there is none: no byte is above it, and it stands at some place (past the end there is 0). The loop has no
+// exit, so that it is compiled to take many bytes at a time. It rules out, for instance: the last byte left out; 255 for any bytes.
 pub fn highest(bytes: &[u8]) -> u8
-    ensures { λ r. ⌜ ((k : ℕ) → getD (now (bytes .entry)) k 0 ≤ r) ⌝ }
+    ensures { λ r. ⌜
+        ((k : ℕ) → getD (now (bytes .entry)) k 0 ≤ r)
+        × ((k : ℕ) × (getD (now (bytes .entry)) k 0 ≡ r))
+        ⌝ }
 {
     let mut most = 0;
     for k in 0..bytes.len() {

@@ -17,7 +17,7 @@ abbrev μ-loop : tie.MeasureT-loop
 
 -- there is no barrier
 unbarred : tie.Need-returns Inv-loop μ-loop
-unbarred c = let h = c .before in cleared-none (λ k. subst (λ m. getD (h .before .before .args .barriers .now) k 0 ≤ m) (c .if1 .taken) (h .highest .ensures k))
+unbarred c = let h = c .before in cleared-none (λ k. subst (λ m. getD (h .before .before .args .barriers .now) k 0 ≤ m) (c .if1 .taken) (h .highest .ensures .0 k))
 
 -- the function's entry, from within the loop
 abbrev start : tie.In-loop Inv-loop μ-loop → tie.Start Inv-loop μ-loop

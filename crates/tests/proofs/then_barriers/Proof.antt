@@ -26,7 +26,7 @@ small c =
     let a = e .before .before .before .args in
     let o = a .barriers .now in
     c .value-answer .ensures
-    ∙ sym (small-inside o (length o) (λ k. le-trans (h .highest .ensures k) (i .if1 .taken)))
+    ∙ sym (small-inside o (length o) (λ k. le-trans (h .highest .ensures .0 k) (i .if1 .taken)))
     ∙ ap (λ x. after x (barriersTest o (length o) ∷ [])) (sym (e .enum-told .given .1))
 
 scanned : tie.Need-returns-3
