@@ -8,12 +8,12 @@
 //! an enstrophy rate of 0 where no edge is closed ([`cases::calls`]).
 
 use crate::cases::calls::{compare, expect, rates, Written};
+use crate::cases::common::{four_cells_and_a_jetty, two_cells_and_a_barrier, Random};
 use crate::cases::common::{moment, record_field, record_fields, record_of, record_of_01, shuffle};
-use crate::cases::common::{two_cells_and_a_barrier, Random};
 use crate::cases::records::{basin, expect_pair, expect_read, expect_refused, expect_state};
 use crate::cases::records::{compare_read, hex, told_for, written, Lent, TIMESTAMP};
 use crate::cases::{add, Call, Case, BARRIERS, CALLS, Q, S, TOTALS, U, V};
-use reference::{Parameters, State};
+use reference::State;
 
 // ---- worked numbers
 
@@ -68,21 +68,7 @@ fn worked_numbers_of_refusals() {
 
 #[test]
 fn worked_numbers_of_rates() {
-    let state = State {
-        parameters: Parameters {
-            w: 2,
-            n: 2,
-            kind: 0,
-            g: 9_810,
-            c: 100,
-            r: 200_000,
-        },
-        h: vec![2_000, 2_500, 1_500, 3_000],
-        b: vec![10, 20, 30, 40],
-        u: vec![10, 0, -40, 50],
-        v: vec![7, -14, 0, 35],
-        barriers: vec![0, 1, 2, 0],
-    };
+    let state = four_cells_and_a_jetty();
     let mut case = Case::beside(state, vec![1_000, -2_000, 3_000, -4_000], vec![0; 4]);
     let mut both = || {
         let tendencies = accepted(&case, Call::Tendencies, &[0], "worked").destinations;

@@ -2,7 +2,8 @@
 //! other tests have barriers in every second one.)
 
 use crate::common::literal::Three;
-use crate::common::{record_field, record_of_01, step_state, tendencies_of, totals_of};
+use crate::common::{four_cells_and_a_jetty, one_cell, record_field, record_of_01, step_state};
+use crate::common::{tendencies_of, totals_of};
 use reference::{energy_rate, enstrophy_rate, read, Parameters, State, StepAnswer};
 
 /// The two cells of worked example 4, with these velocities and barriers.
@@ -78,21 +79,7 @@ fn refusals_by_barriers() {
 /// closes nothing.
 #[test]
 fn rates_of_four_cells() {
-    let mut state = State {
-        parameters: Parameters {
-            w: 2,
-            n: 2,
-            kind: 0,
-            g: 9_810,
-            c: 100,
-            r: 200_000,
-        },
-        h: vec![2_000, 2_500, 1_500, 3_000],
-        b: vec![10, 20, 30, 40],
-        u: vec![10, 0, -40, 50],
-        v: vec![7, -14, 0, 35],
-        barriers: vec![0, 1, 2, 0],
-    };
+    let mut state = four_cells_and_a_jetty();
     let q = [1_000, -2_000, 3_000, -4_000];
     let rates = |state: &State| {
         let Three { h, u, v } = tendencies_of(state, &q).expect("within the limits");
@@ -106,22 +93,7 @@ fn rates_of_four_cells() {
 
 #[test]
 fn records_of_one_cell() {
-    // Worked example 10's.
-    let cell = State {
-        parameters: Parameters {
-            w: 1,
-            n: 1,
-            kind: 0,
-            g: 9_810,
-            c: 10,
-            r: 1_000,
-        },
-        h: vec![2_000],
-        b: vec![0],
-        u: vec![100],
-        v: vec![-50],
-        barriers: vec![0],
-    };
+    let cell = one_cell();
     let record = record_of_01(&cell, 0);
     let told = |record: &[u8]| {
         let [mut h, mut b, mut u, mut v] = [[0; 2]; 4];

@@ -7,7 +7,7 @@ use crate::common::literal::PAPER;
 use crate::common::{
     at_rest, milliseconds_field, moment, random_state, random_timestamp, record_of,
 };
-use crate::common::{record_of_01, record_of_length, Random, Spread};
+use crate::common::{one_cell, record_of_01, record_of_length, Random, Spread};
 use reference::{step_program, Parameters, State};
 
 /// Runs the program itself.
@@ -30,24 +30,6 @@ fn run_binary(input: &[u8]) -> String {
 fn assert_prints(input: &[u8], text: &str) {
     assert_eq!(step_program(input), text);
     assert_eq!(run_binary(input), text);
-}
-
-fn one_cell() -> State {
-    State {
-        parameters: Parameters {
-            w: 1,
-            n: 1,
-            kind: 0,
-            g: 9_810,
-            c: 10,
-            r: 1_000,
-        },
-        h: vec![2_000],
-        b: vec![0],
-        u: vec![100],
-        v: vec![-50],
-        barriers: vec![0],
-    }
 }
 
 #[test]

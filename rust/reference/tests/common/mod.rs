@@ -486,6 +486,44 @@ pub fn two_cells_and_a_barrier() -> State {
     }
 }
 
+/// Four cells that wrap, with a jetty of two edges: those of 02's rates.
+pub fn four_cells_and_a_jetty() -> State {
+    State {
+        parameters: Parameters {
+            w: 2,
+            n: 2,
+            kind: 0,
+            g: 9_810,
+            c: 100,
+            r: 200_000,
+        },
+        h: vec![2_000, 2_500, 1_500, 3_000],
+        b: vec![10, 20, 30, 40],
+        u: vec![10, 0, -40, 50],
+        v: vec![7, -14, 0, 35],
+        barriers: vec![0, 1, 2, 0],
+    }
+}
+
+/// The cell of worked examples 2 and 10.
+pub fn one_cell() -> State {
+    State {
+        parameters: Parameters {
+            w: 1,
+            n: 1,
+            kind: 0,
+            g: 9_810,
+            c: 10,
+            r: 1_000,
+        },
+        h: vec![2_000],
+        b: vec![0],
+        u: vec![100],
+        v: vec![-50],
+        barriers: vec![0],
+    }
+}
+
 /// A state at rest with level water.
 pub fn at_rest(w: usize, n: usize) -> State {
     let cells = w * n;
