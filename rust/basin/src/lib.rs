@@ -131,6 +131,8 @@
 pub mod raw;
 mod refusal;
 
+use std::ops::RangeInclusive;
+
 pub use refusal::{Field, Refusal, Refused};
 
 /// The scalars of a state. Any numbers may stand here; the calls test them.
@@ -149,6 +151,23 @@ pub struct Parameters {
     pub c: i64,
     /// R, spacing over time step, mm/s.
     pub r: i64,
+}
+
+/// The longest run that one call of [`run`] takes, in steps.
+pub const LONGEST_RUN: u64 = 10_000;
+
+/// The bounds of the scalars. They are for words to a person; the calls test them.
+impl Parameters {
+    /// Columns and rows.
+    pub const SIDE: RangeInclusive<usize> = 1..=64;
+    /// The kinds of boundary.
+    pub const KIND: RangeInclusive<u8> = 0..=2;
+    /// G, mm/s².
+    pub const GRAVITY: RangeInclusive<i64> = 1..=10_000;
+    /// Coriolis parameter times spacing, mm/s.
+    pub const CORIOLIS: RangeInclusive<i64> = -10_000..=10_000;
+    /// R, spacing over time step, mm/s.
+    pub const RATIO: RangeInclusive<i64> = 1_000..=1_000_000;
 }
 
 impl Parameters {

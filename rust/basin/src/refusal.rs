@@ -3,6 +3,7 @@
 
 use std::error::Error;
 use std::fmt;
+use std::ops::RangeInclusive;
 
 /// What a number that the library tells can stand for; none where it is no such
 /// thing.
@@ -27,13 +28,14 @@ impl Told for u8 {
 
 // ---- fields
 
-/// A line is a field's number, its name in Rust, its name in words, and 01's
-/// letter for it where 01 has the field.
+/// A line is a field's number, its name in Rust, its bounds, its name in words, and
+/// 01's letter for it where 01 has the field.
 macro_rules! fields {
     (
         $(#[$attribute:meta])*
         pub enum $Field:ident {
-            $($number:literal: $field:ident = $name:literal $($letter:literal)?,)*
+            $($number:literal: $field:ident $least:literal to $most:literal
+                = $name:literal $($letter:literal)?,)*
         }
     ) => {
         $(#[$attribute])*
@@ -46,6 +48,15 @@ macro_rules! fields {
             /// The number by which the library tells the field.
             pub fn number(self) -> u8 {
                 self as u8
+            }
+
+            /// The numbers that the field may have: others are a
+            /// [`Refusal::Value`]. It is for words to a person; the calls test
+            /// them.
+            pub fn bounds(self) -> RangeInclusive<i64> {
+                match self {
+                    $($Field::$field => $least..=$most,)*
+                }
             }
         }
 
@@ -72,13 +83,13 @@ macro_rules! fields {
 fields! {
     /// A field, of a number or a byte per cell, that a refusal can name.
     pub enum Field {
-        0: Depth = "depth" "h",
-        1: Bottom = "bottom height" "b",
-        2: VelocityU = "velocity" "u",
-        3: VelocityV = "velocity" "v",
-        4: Vorticity = "potential vorticity" "q",
-        5: Inflow = "inflow" "s", // 01: river entry
-        6: Barriers = "barrier", // 02: piers; tested straight after v all the same
+        0: Depth 1_000 to 100_000 = "depth" "h",
+        1: Bottom 0 to 100_000 = "bottom height" "b",
+        2: VelocityU -5_000 to 5_000 = "velocity" "u",
+        3: VelocityV -5_000 to 5_000 = "velocity" "v",
+        4: Vorticity -2_000_000 to 2_000_000 = "potential vorticity" "q",
+        5: Inflow -1_000 to 1_000 = "inflow" "s", // 01: river entry
+        6: Barriers 0 to 3 = "barrier", // 02: piers; tested straight after v all the same
     }
 }
 

@@ -6,6 +6,7 @@ mod cases;
 
 mod balance;
 mod barriers;
+mod bounds;
 mod comparison;
 mod empty;
 mod limits;
