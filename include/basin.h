@@ -3,7 +3,8 @@
  * for C and C++ on x86-64. Link target/staticlib/libbasin.a, which `rt
  * staticlib basin` writes: the step of a state and runs of it, totals,
  * potential vorticity and tendencies, the record of a state (writer, reader,
- * comparison), and rounding.
+ * comparison), and rounding. `./forecast install PREFIX` puts it, and a shared
+ * library of the same functions, into PREFIX/lib.
  *
  * Every function takes any numbers and any lengths, and always returns. A
  * field or a record is lent as a pointer and the number of its elements. A
@@ -15,6 +16,10 @@
  *   promised;
  * - what a function writes (every pointer that is not to const) overlaps
  *   nothing else lent to it. What is only read may overlap.
+ *
+ * Threads. Calls share nothing and keep nothing from one call to the next. They
+ * may be made from any number of threads at once, as long as what one call
+ * writes is not lent to another at the same time.
  *
  * A state is w columns by n rows, the kind of its boundary, the constants g, c
  * and r, the fields h, b, u and v, which have a number for each cell, and the
@@ -108,8 +113,70 @@ extern "C" {
  * basin_version() returns that of the library. A caller that finds two numbers
  * has a header and a library that do not belong together.
  */
-#define BASIN_VERSION 500
+#define BASIN_VERSION 600
 uint64_t basin_version(void);
+
+/* The refusals: what a call returns, and answer[0]. */
+enum basin_refusal {
+    BASIN_ACCEPTED = 0,
+    BASIN_REFUSED_GRID = 1,
+    BASIN_REFUSED_LENGTHS = 2,
+    BASIN_REFUSED_CONSTANTS = 3,
+    BASIN_REFUSED_VALUE = 4,
+    BASIN_REFUSED_CLOSED_EDGE = 5,
+    BASIN_REFUSED_OUT_OF_BOUNDS = 6,
+    BASIN_REFUSED_RECORD = 7,
+    BASIN_REFUSED_DESTINATION = 8,
+    BASIN_REFUSED_MILLISECONDS = 9
+};
+
+/* The kinds of boundary. */
+enum basin_kind {
+    BASIN_KIND_PERIODIC = 0,
+    BASIN_KIND_CHANNEL = 1,
+    BASIN_KIND_BASIN = 2
+};
+
+/* The fields that refusals 4, 5 and 6 name. */
+enum basin_field {
+    BASIN_FIELD_DEPTH = 0,
+    BASIN_FIELD_BOTTOM = 1,
+    BASIN_FIELD_U = 2,
+    BASIN_FIELD_V = 3,
+    BASIN_FIELD_VORTICITY = 4,
+    BASIN_FIELD_INFLOW = 5,
+    BASIN_FIELD_BARRIERS = 6
+};
+
+/* The edges of a cell that a barrier closes. For both, add them: 3. */
+enum basin_barrier {
+    BASIN_BARRIER_NONE = 0,
+    BASIN_BARRIER_WEST = 1,
+    BASIN_BARRIER_SOUTH = 2
+};
+
+/* What two records are to each other: answer[1] of basin_compare. */
+enum basin_comparison {
+    BASIN_SAME = 0,
+    BASIN_FIRST_NEWER = 1,
+    BASIN_SECOND_NEWER = 2,
+    BASIN_CONFLICT = 3
+};
+
+/* The most columns or rows of a grid, its most cells, and the longest run. */
+#define BASIN_LONGEST_SIDE 64
+#define BASIN_MOST_CELLS 4096
+#define BASIN_LONGEST_RUN 10000
+
+/*
+ * Sizes for a grid of w columns and n rows: the numbers of the work space of a
+ * step or run, and the bytes of a record. They are of type size_t, and constant
+ * where w and n are. They are right for every grid that is not refused with 1;
+ * for sides above 64 they may overflow.
+ */
+#define BASIN_WORK_LEN(w, n) ((size_t)8 * (size_t)(w) * (size_t)(n))
+#define BASIN_RECORD_LEN(w, n) \
+    ((size_t)52 + (size_t)13 * (size_t)(w) * (size_t)(n))
 
 /*
  * a/b rounded to the nearest whole number, halves away from zero.
@@ -269,6 +336,144 @@ uint64_t basin_read(const uint8_t *record, size_t record_len,
 uint64_t basin_compare(const uint8_t *first, size_t first_len,
                        const uint8_t *second, size_t second_len,
                        uint64_t answer[8]);
+
+/*
+ * A state as one thing, for callers who like that better. The functions below
+ * pass its parts to the calls above, and add nothing to what is promised there.
+ *
+ * The lists h, b, u, v and barriers are the caller's: w*n numbers each. Where w
+ * or n is not 1 to 64 nothing of them is read, but none is a null pointer.
+ */
+struct basin_state {
+    size_t w, n;
+    uint8_t kind;
+    int64_t g, c, r;
+    int64_t *h, *b, *u, *v;
+    uint8_t *barriers;
+};
+
+/*
+ * w*n, which is passed as the length of each list; 0 where w or n is not 1 to
+ * 64. Every call refuses such a state with 1, whatever its lists are.
+ */
+static inline size_t basin_state_cells(const struct basin_state *s)
+{
+    if (s->w < 1 || s->w > BASIN_LONGEST_SIDE ||
+        s->n < 1 || s->n > BASIN_LONGEST_SIDE)
+        return 0;
+    return s->w * s->n;
+}
+
+/* Potential vorticity, into the w*n places of q. */
+static inline uint64_t basin_state_potential_vorticity(
+    const struct basin_state *s, int64_t *q, uint64_t answer[8])
+{
+    size_t cells = basin_state_cells(s);
+    return basin_potential_vorticity(s->w, s->n, s->kind, s->g, s->c, s->r,
+                                     s->h, cells, s->b, cells, s->u, cells,
+                                     s->v, cells, s->barriers, cells,
+                                     q, cells, answer);
+}
+
+/* Tendencies with the w*n numbers of q, into the w*n places of dh, du, dv. */
+static inline uint64_t basin_state_tendencies(
+    const struct basin_state *s, const int64_t *q,
+    int64_t *dh, int64_t *du, int64_t *dv, uint64_t answer[8])
+{
+    size_t cells = basin_state_cells(s);
+    return basin_tendencies(s->w, s->n, s->kind, s->g, s->c, s->r,
+                            s->h, cells, s->b, cells, s->u, cells,
+                            s->v, cells, s->barriers, cells, q, cells,
+                            dh, cells, du, cells, dv, cells, answer);
+}
+
+/*
+ * One step of h, u and v in place, with the w*n numbers of inflow and the
+ * BASIN_WORK_LEN(w, n) numbers of work.
+ */
+static inline uint64_t basin_state_step(
+    struct basin_state *s, const int64_t *inflow, int64_t *work,
+    uint64_t answer[8])
+{
+    size_t cells = basin_state_cells(s);
+    return basin_step(s->w, s->n, s->kind, s->g, s->c, s->r,
+                      s->h, cells, s->b, cells, s->u, cells, s->v, cells,
+                      s->barriers, cells, inflow, cells,
+                      work, 8 * cells, answer);
+}
+
+/* Up to so many steps, with inflow and work as in a step. */
+static inline uint64_t basin_state_run(
+    struct basin_state *s, const int64_t *inflow, uint64_t steps,
+    int64_t *work, uint64_t answer[8])
+{
+    size_t cells = basin_state_cells(s);
+    return basin_run(s->w, s->n, s->kind, s->g, s->c, s->r,
+                     s->h, cells, s->b, cells, s->u, cells, s->v, cells,
+                     s->barriers, cells, inflow, cells, steps,
+                     work, 8 * cells, answer);
+}
+
+/* Total depth, into *depth. */
+static inline uint64_t basin_state_total_depth(
+    const struct basin_state *s, int64_t *depth, uint64_t answer[8])
+{
+    size_t cells = basin_state_cells(s);
+    return basin_total_depth(s->w, s->n, s->kind, s->g, s->c, s->r,
+                             s->h, cells, s->b, cells, s->u, cells,
+                             s->v, cells, s->barriers, cells, depth, answer);
+}
+
+/* Four times total energy, into *energy. */
+static inline uint64_t basin_state_total_energy(
+    const struct basin_state *s, int64_t *energy, uint64_t answer[8])
+{
+    size_t cells = basin_state_cells(s);
+    return basin_total_energy(s->w, s->n, s->kind, s->g, s->c, s->r,
+                              s->h, cells, s->b, cells, s->u, cells,
+                              s->v, cells, s->barriers, cells,
+                              energy, answer);
+}
+
+/*
+ * The record of the state, into the first BASIN_RECORD_LEN(w, n) of the
+ * record_len bytes of record.
+ */
+static inline uint64_t basin_state_write(
+    const struct basin_state *s, uint64_t seconds, uint64_t milliseconds,
+    uint8_t *record, size_t record_len, uint64_t answer[8])
+{
+    size_t cells = basin_state_cells(s);
+    return basin_write(s->w, s->n, s->kind, s->g, s->c, s->r,
+                       s->h, cells, s->b, cells, s->u, cells, s->v, cells,
+                       s->barriers, cells, seconds, milliseconds,
+                       record, record_len, answer);
+}
+
+/*
+ * Reads a record into the state. Each of its five lists has room for so many
+ * cells, BASIN_MOST_CELLS for any record. Where nothing refuses, w, n, kind, g,
+ * c and r are the record's too; the timestamp is in answer[4] and answer[5].
+ * What the state was before does not count. A refused call leaves all of it.
+ */
+static inline uint64_t basin_state_read(
+    struct basin_state *s, size_t room,
+    const uint8_t *record, size_t record_len, uint64_t answer[8])
+{
+    int64_t constants[3];
+    uint64_t refusal = basin_read(record, record_len, s->h, room, s->b, room,
+                                  s->u, room, s->v, room, s->barriers, room,
+                                  constants, answer);
+    if (refusal == 0) {
+        s->w = (size_t)answer[1];
+        s->n = (size_t)answer[2];
+        s->kind = (uint8_t)answer[3];
+        s->g = constants[0];
+        s->c = constants[1];
+        s->r = constants[2];
+    }
+    return refusal;
+}
 
 #ifdef __cplusplus
 }

@@ -92,4 +92,4 @@ pub record Rounded (a b entry : ℤ) (k : ℕ) (exit : ℤ) : Type 0 where
 
 -- 0.5.0
 abbrev pub version : ℕ
-version = 500
+version = 600

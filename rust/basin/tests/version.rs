@@ -1,5 +1,5 @@
-//! The version stands in four places, which say the same: the library that is
-//! linked, the header, this package, and the citation.
+//! The version stands in five places, which say the same: the library that is
+//! linked, the header, the Python module, this package, and the citation.
 
 use std::fs;
 use std::path::Path;
@@ -35,6 +35,8 @@ fn the_version_is_said_alike_everywhere() {
     assert_eq!(basin::version(), number(package));
     let header = after("include/basin.h", "#define BASIN_VERSION ");
     assert_eq!(header.parse(), Ok(number(package)));
+    let module = after("python/basin.py", "VERSION = ");
+    assert_eq!(module.parse(), Ok(number(package)));
     assert_eq!(after("CITATION.cff", "version: "), package);
     let newest = after("CHANGELOG.md", &format!("## {package}"));
     assert_eq!(newest, "", "CHANGELOG.md has a part for it");
