@@ -1,68 +1,18 @@
-//! The arguments of a command.
+//! The arguments of a command: places (files and folders) and options.
 
 use std::ffi::OsString;
+use std::os::unix::ffi::OsStrExt;
+use std::path::{Path, PathBuf};
 use std::slice::Iter;
 use std::str::FromStr;
 use std::time::Duration;
 
-use crate::date::split_fraction;
+use basin::Timestamp;
+
+use crate::date::{from_date, split_fraction};
 use crate::failure::Failure;
-
-/// How the tool is called, and how a text description is written.
-pub const USAGE: &str = "\
-usage: forecast make TEXT RECORD
-       forecast show [--text] RECORD
-       forecast step RECORD [OUT] [--inflow I J MM]... [--seconds S[.mmm]]
-       forecast run RECORD --steps N [OUT] [--inflow I J MM]...
-                [--seconds S[.mmm]]
-       forecast compare RECORD RECORD
-       forecast draw RECORD SVG
-       forecast draw RECORD DIR --steps N [--every K] [--inflow I J MM]...
-
-make     writes the record of a text description
-show     says what a record holds; with --text, as a text description
-step     takes one step, run takes N: total depth before and after, steps done
-compare  says same, first newer, second newer or clash
-draw     draws level and current; of a run, a frame every K steps (a fifth of
-         them where not given), and all side by side in DIR/series.svg
-
-RECORD   a file, or - for standard input (TEXT too)
-OUT      gets the record after the last step; none is written after a stop
---inflow mm that come into cell I J with each step; may be repeated
---seconds added to the timestamp of OUT: 5, or to the millisecond 0.500
-
-A text description has one line for each thing it says; # starts a comment.
-
-  grid 32 20                   columns and rows; comes before the fields
-  boundary basin               walls all round; channel: in the south and
-                               north alone; periodic: none
-  gravity 9810                 mm/s²
-  coriolis 10                  Coriolis parameter times spacing, mm/s
-  spacing-per-step 40000       spacing over time step, mm/s
-  time 2026-11-16 06:00:00     or to the millisecond 06:00:00.250
-
-  bottom 0                     height of the bottom, mm: everywhere,
-  bottom 8000 box 3 2 9 6      in a box, its corner cells included,
-  bottom 900 cell 3 2          in one cell
-  depth 12000                  mm
-  level 12000                  depth becomes level less the bottom given so far
-  level columns 12300 ...      a number for each column, from west to east
-  u rows                       a line for each row, from north to south, each
-                               with a number for each column
-  u 0                          through the west edge of each cell, mm/s
-  v 0                          through the south edge of each cell, mm/s
-  barrier west 12 3            closes the west edge of a cell; south: its south
-                               edge; u or v is 0 there
-  barrier south box 4 7 9 7    the same of each cell of a box
-  barriers rows                all of them: 1 on the west edge, 2 on the south
-                               edge, 3 on both
-
-Cells are counted from 0, columns from the west and rows from the south. A later
-line goes over an earlier one, but a barrier adds to those that are there. What
-is not given of bottom, u, v and barriers is 0.
-
-Exit status: 0 a result, 1 refused by the core, 2 anything else.
-";
+use crate::gates::Gate;
+use crate::suggest::hint;
 
 /// What stands after the name of a command.
 #[derive(Debug, Default, PartialEq, Eq)]
@@ -70,9 +20,18 @@ pub struct Arguments {
     /// Files and folders.
     pub places: Vec<OsString>,
     pub text: bool,
+    pub keep: bool,
+    pub quiet: bool,
     pub steps: Option<u64>,
-    pub every: Option<u64>,
+    pub until: Option<Timestamp>,
+    pub step_ms: Option<u64>,
+    pub spacing: Option<u64>,
     pub seconds: Option<Duration>,
+    pub every: Option<u64>,
+    pub description: Option<PathBuf>,
+    pub rivers: Option<PathBuf>,
+    pub csv: Option<PathBuf>,
+    pub gates: Vec<Gate>,
     /// Cell (column, row) and mm a step.
     pub inflow: Vec<(usize, usize, i64)>,
 }
@@ -84,34 +43,107 @@ impl Arguments {
         let mut arguments = Arguments::default();
         let mut rest = given.iter();
         while let Some(argument) = rest.next() {
-            let word = argument.to_str().unwrap_or_default();
-            match word {
-                "--" => arguments.places.extend(rest.by_ref().cloned()),
-                _ if !word.starts_with('-') || word == "-" => {
-                    arguments.places.push(argument.clone());
+            match (argument.as_bytes(), argument.to_str()) {
+                (b"--", _) => arguments.places.extend(rest.by_ref().cloned()),
+                ([b'-', _, ..], Some(word)) => arguments.take_option(word, allowed, &mut rest)?,
+                ([b'-', _, ..], None) => {
+                    let word = argument.to_string_lossy();
+                    return Err(Failure::usage(format!("unknown argument {word}")));
                 }
-                _ if !allowed.contains(&word) => {
-                    return Err(Failure::Usage(format!("unknown argument {word}")));
-                }
-                _ => arguments.take(word, &mut rest)?,
+                _ => arguments.places.push(argument.clone()),
             }
         }
         Ok(arguments)
     }
 
-    /// Takes an option and its values.
+    /// The texts that are read beside the record.
+    pub fn texts(&self) -> Vec<&Path> {
+        let texts = [&self.rivers, &self.description].into_iter();
+        texts.filter_map(|text| text.as_deref()).collect()
+    }
+
+    /// Takes an option and its values: `--steps 5` or `--steps=5`.
+    fn take_option(
+        &mut self,
+        word: &str,
+        allowed: &[&str],
+        rest: &mut Iter<OsString>,
+    ) -> Result<(), Failure> {
+        let (option, joined) = match word.split_once('=') {
+            Some((option, value)) => (option, Some(value)),
+            None => (word, None),
+        };
+        if !allowed.contains(&option) {
+            let meant = hint(option, allowed.iter().copied());
+            return Err(Failure::usage(format!("unknown argument {option}{meant}")));
+        }
+        match joined {
+            None => self.take(option, rest),
+            Some(value) => {
+                let value = [OsString::from(value)];
+                let mut one = value.iter();
+                self.take(option, &mut one)?;
+                match one.next() {
+                    None => Ok(()),
+                    Some(_) => Err(Failure::usage(format!("{option} takes no value"))),
+                }
+            }
+        }
+    }
+
     fn take(&mut self, option: &str, rest: &mut Iter<OsString>) -> Result<(), Failure> {
         match option {
-            "--text" => self.text = true,
-            "--steps" => self.steps = Some(value(option, rest)?),
-            "--every" => self.every = Some(value(option, rest)?),
-            "--seconds" => self.seconds = Some(seconds(option, rest)?),
+            "--text" => once(option, &mut self.text),
+            "--keep" => once(option, &mut self.keep),
+            "--quiet" => once(option, &mut self.quiet),
+            "--steps" => only(option, &mut self.steps, value(option, rest)?),
+            "--every" => only(option, &mut self.every, positive(option, rest)?),
+            "--step-ms" => only(option, &mut self.step_ms, positive(option, rest)?),
+            "--spacing" => only(option, &mut self.spacing, positive(option, rest)?),
+            "--until" => only(option, &mut self.until, time(option, rest)?),
+            "--seconds" => only(option, &mut self.seconds, seconds(option, rest)?),
+            "--csv" => only(option, &mut self.csv, file(option, rest)?),
+            "--rivers" => only(option, &mut self.rivers, file(option, rest)?),
+            "--description" => only(option, &mut self.description, file(option, rest)?),
+            "--gate" => self.take_gate(option, rest),
             _ => {
                 let cell = (value(option, rest)?, value(option, rest)?);
                 self.inflow.push((cell.0, cell.1, value(option, rest)?));
+                Ok(())
             }
         }
+    }
+
+    fn take_gate(&mut self, option: &str, rest: &mut Iter<OsString>) -> Result<(), Failure> {
+        let name = next(option, rest, "a name and a cell, as NAME I J", |word| {
+            (!word.is_empty()).then(|| word.to_owned())
+        })?;
+        if self.gates.iter().any(|gate| gate.name == name) {
+            return Err(Failure::usage(format!("two gates have the name {name}")));
+        }
+        let cell = (value(option, rest)?, value(option, rest)?);
+        self.gates.push(Gate { name, cell });
         Ok(())
+    }
+}
+
+fn twice(option: &str) -> Failure {
+    Failure::usage(format!("{option} is given twice"))
+}
+
+/// Keeps that an option without a value is given.
+fn once(option: &str, place: &mut bool) -> Result<(), Failure> {
+    match std::mem::replace(place, true) {
+        true => Err(twice(option)),
+        false => Ok(()),
+    }
+}
+
+/// Keeps the value of an option.
+fn only<T>(option: &str, place: &mut Option<T>, value: T) -> Result<(), Failure> {
+    match place.replace(value) {
+        Some(_) => Err(twice(option)),
+        None => Ok(()),
     }
 }
 
@@ -119,6 +151,13 @@ impl Arguments {
 fn value<T: FromStr>(option: &str, rest: &mut Iter<OsString>) -> Result<T, Failure> {
     next(option, rest, "a whole number here", |word| {
         word.parse().ok()
+    })
+}
+
+/// The next argument as a whole number above 0.
+fn positive(option: &str, rest: &mut Iter<OsString>) -> Result<u64, Failure> {
+    next(option, rest, "a whole number above 0", |word| {
+        word.parse().ok().filter(|&number| number > 0)
     })
 }
 
@@ -132,6 +171,28 @@ fn seconds(option: &str, rest: &mut Iter<OsString>) -> Result<Duration, Failure>
     })
 }
 
+/// The next argument as a moment, in UTC.
+fn time(option: &str, rest: &mut Iter<OsString>) -> Result<Timestamp, Failure> {
+    let form = "a time in UTC, as 2026-11-16T06:00:00 or '2026-11-16 06:00:00.250'";
+    next(option, rest, form, |word| {
+        let word = word.strip_suffix('Z').unwrap_or(word);
+        let (date, time) = word.split_once(['T', ' '])?;
+        from_date(date, time)
+    })
+}
+
+/// The next argument as a file. One that begins with - is likely another option.
+fn file(option: &str, rest: &mut Iter<OsString>) -> Result<PathBuf, Failure> {
+    let word = rest.next().map(|word| (word, word.as_bytes()));
+    match word {
+        Some((_, [] | [b'-', ..])) | None => {
+            let words = format!("{option} takes a file (as ./-name where its name begins with -)");
+            Err(Failure::usage(words))
+        }
+        Some((word, _)) => Ok(PathBuf::from(word)),
+    }
+}
+
 /// The next argument, of which something must be made.
 fn next<T>(
     option: &str,
@@ -140,6 +201,6 @@ fn next<T>(
     made: impl Fn(&str) -> Option<T>,
 ) -> Result<T, Failure> {
     let word = rest.next().and_then(|word| word.to_str());
-    let missing = || Failure::Usage(format!("{option} takes {form}"));
+    let missing = || Failure::usage(format!("{option} takes {form}"));
     word.and_then(made).ok_or_else(missing)
 }

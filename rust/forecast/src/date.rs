@@ -1,5 +1,5 @@
 //! Timestamps as dates: seconds and milliseconds since 2000-01-01 00:00, in the
-//! calendar of today, each day with 86,400 seconds.
+//! calendar of today, each day with 86,400 seconds. Times are UTC.
 
 use std::time::Duration;
 
@@ -17,15 +17,24 @@ const PAST_LAST: u64 = 600_000_000_000;
 /// `2026-11-16 06:00:00`, or `2026-11-16 06:00:00.250` where there are
 /// milliseconds. The year has as many digits as it needs.
 pub fn to_date(timestamp: Timestamp) -> String {
-    let (year, month, day) = date_of(timestamp.seconds / DAY);
-    let second = timestamp.seconds % DAY;
+    match timestamp.milliseconds {
+        0 => to_second(timestamp.seconds),
+        _ => to_date_ms(timestamp),
+    }
+}
+
+/// The same with milliseconds, 0 too: one form for a table.
+pub fn to_date_ms(timestamp: Timestamp) -> String {
+    let date = to_second(timestamp.seconds);
+    format!("{date}.{:03}", timestamp.milliseconds)
+}
+
+fn to_second(seconds: u64) -> String {
+    let (year, month, day) = date_of(seconds / DAY);
+    let second = seconds % DAY;
     let (hour, minute) = (second / 3600, second / 60 % 60);
     let second = second % 60;
-    let date = format!("{year:04}-{month:02}-{day:02} {hour:02}:{minute:02}:{second:02}");
-    match timestamp.milliseconds {
-        0 => date,
-        milliseconds => format!("{date}.{milliseconds:03}"),
-    }
+    format!("{year:04}-{month:02}-{day:02} {hour:02}:{minute:02}:{second:02}")
 }
 
 /// The timestamp of a date such as `2026-11-16` and a time such as `06:00`,

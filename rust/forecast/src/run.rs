@@ -2,12 +2,10 @@
 
 use std::io::Write;
 
-use basin::{Ran, Refusal};
+use basin::{Ran, Refusal, LONGEST_RUN};
 
+use crate::commands::Surroundings;
 use crate::state::State;
-
-/// The longest run that the core takes in one call.
-const LONGEST_RUN: u64 = 10_000;
 
 /// Takes one step, by the core's step. A refusal 6 is an end after no step.
 pub fn step(state: &mut State, inflow: &[i64]) -> Result<Ran, Refusal> {
@@ -64,45 +62,42 @@ pub fn part_of(steps: u64) -> u64 {
     steps.div_ceil(100)
 }
 
-/// Tells how many steps are done: on a terminal in one line that is written
-/// over, otherwise in ten lines at most.
+/// Tells a terminal how many steps are done, in one line that is written over. Nobody
+/// else is told: what is kept in a file is results.
 pub struct Progress<'a> {
-    to: &'a mut dyn Write,
-    terminal: bool,
+    to: Option<&'a mut dyn Write>,
     steps: u64,
-    /// Tenths of the steps that have been told.
-    tenths: u128,
+    /// Hundredths of the steps that have been told.
+    hundredths: u128,
 }
 
 impl<'a> Progress<'a> {
-    pub fn new(to: &'a mut dyn Write, terminal: bool, steps: u64) -> Self {
+    pub fn new(around: &'a mut Surroundings, quiet: bool, steps: u64) -> Self {
+        let told = around.terminal && !quiet && steps > 0;
         Progress {
-            to,
-            terminal,
+            to: told.then_some(&mut *around.progress),
             steps,
-            tenths: 0,
+            hundredths: 0,
         }
     }
 
     /// So many steps are done. Where nobody can be told, the run goes on.
     pub fn tell(&mut self, done: u64) {
-        let steps = self.steps;
-        if self.terminal {
-            let _ = write!(self.to, "\rstep {done} of {steps} ");
-            let _ = self.to.flush();
+        let hundredths = 100 * u128::from(done) / u128::from(self.steps.max(1));
+        if hundredths == self.hundredths {
             return;
         }
-        let tenths = 10 * u128::from(done) / u128::from(steps.max(1));
-        if tenths > self.tenths {
-            self.tenths = tenths;
-            let _ = writeln!(self.to, "step {done} of {steps}");
+        self.hundredths = hundredths;
+        if let Some(to) = &mut self.to {
+            let _ = write!(to, "\rstep {done} of {} ", self.steps);
+            let _ = to.flush();
         }
     }
 
-    /// Ends the line on a terminal, so that what comes next starts a new one.
+    /// Ends the line, so that what comes next starts a new one.
     pub fn end(self) {
-        if self.terminal {
-            let _ = writeln!(self.to);
+        if let Some(to) = self.to {
+            let _ = writeln!(to);
         }
     }
 }

@@ -1,6 +1,6 @@
 //! What a record says, for a person.
 
-use basin::Refusal;
+use basin::{Parameters, Refusal};
 
 use crate::date::to_date;
 use crate::describe::table;
@@ -29,6 +29,7 @@ pub fn shown(state: &State) -> Result<String, Refusal> {
     text += &range("level", &level, "mm", p.w);
     text += &range("u", &state.u, "mm/s", p.w);
     text += &range("v", &state.v, "mm/s", p.w);
+    text += &step_reach(state);
     if state.has_barriers() {
         let on = |bit: u8| state.barriers.iter().filter(|&z| z & bit != 0).count();
         let (west, south) = (on(1), on(2));
@@ -49,6 +50,29 @@ pub fn shown(state: &State) -> Result<String, Refusal> {
         }
     }
     Ok(text)
+}
+
+/// What a step can do: how far a wave goes in it, and what is too little to be moved
+/// by it. Velocities are whole mm/s and flows whole mm a step, so less than a half of
+/// one is nothing.
+fn step_reach(state: &State) -> String {
+    let Parameters { g, r, .. } = state.parameters;
+    let h = state.h.iter().copied().max().unwrap_or(0);
+    // √(G·h)/R in thousandths, rounded up.
+    let wave = (0..).find(|wave| wave * wave * r * r >= 1_000_000 * g * h);
+    let wave = wave.unwrap_or(0);
+    let advice = match wave {
+        ..=350 => "to be kept below 0.35",
+        _ => "above 0.35, where refusal 6 may stop a run",
+    };
+    let half = |of: i64| (r + 2 * of - 1) / (2 * of);
+    let (slope, current) = (half(g), half(h));
+    let (whole, part) = (wave / 1000, wave % 1000);
+    format!(
+        "wave speed over spacing-per-step {whole}.{part:03} ({advice})\n\
+         smallest slope that moves still water {slope} mm a cell\n\
+         smallest current that carries water {current} mm/s, where it is deepest\n"
+    )
 }
 
 /// A boundary's name, and what it closes.

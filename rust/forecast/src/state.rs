@@ -3,7 +3,7 @@
 use basin::{Parameters, Read, Refusal, Timestamp};
 
 /// Columns and rows of the largest grid that the core knows.
-const LONGEST_SIDE: usize = 64;
+const LONGEST_SIDE: usize = *Parameters::SIDE.end();
 /// Its cells: room for any record.
 const MOST_CELLS: usize = LONGEST_SIDE * LONGEST_SIDE;
 

@@ -5,47 +5,73 @@
 //! to what is there. Bounds are not looked at here: the core tests the state when
 //! its record is written.
 
-use std::fmt::Display;
-use std::iter::Enumerate;
-use std::str::{FromStr, Lines};
-
 use basin::{total_depth, Parameters, Refusal, Timestamp};
 
-use crate::date::{from_date, split_fraction};
+use crate::clock::Lengths;
+use crate::lines::{as_text, fault, index, number, once, take_length, time, Fault, Said};
 use crate::state::State;
+use crate::suggest::hint;
 
 /// The words for the kinds of boundary, by 01's number.
 pub const BOUNDARIES: [&str; 3] = ["periodic", "channel", "basin"];
+
+/// The words that begin a line.
+const WORDS: [&str; 15] = [
+    "grid",
+    "boundary",
+    "gravity",
+    "coriolis",
+    "spacing-per-step",
+    "spacing",
+    "step-ms",
+    "time",
+    "depth",
+    "level",
+    "bottom",
+    "u",
+    "v",
+    "barriers",
+    "barrier",
+];
 
 /// Why a text gave no state.
 #[derive(Debug, PartialEq, Eq)]
 pub enum Unread {
     /// A fault in a line, counted from 1.
     Fault { line: usize, message: String },
-    /// A grid that the core refuses, so that it has no fields.
-    Refused(Refusal),
+    /// A grid of these sides that the core refuses, so that it has no fields.
+    Refused {
+        refusal: Refusal,
+        sides: (usize, usize),
+    },
+}
+
+impl From<Fault> for Unread {
+    fn from(Fault { line, message }: Fault) -> Self {
+        Unread::Fault { line, message }
+    }
+}
+
+/// What a text description says.
+#[derive(Debug, PartialEq, Eq)]
+pub struct Described {
+    pub state: State,
+    /// Spacing and step, where the text has them; a record does not.
+    pub lengths: Lengths,
 }
 
 /// The state of a text description.
 pub fn from_text(text: &[u8]) -> Result<State, Unread> {
-    let text = match std::str::from_utf8(text) {
-        Ok(text) => text.trim_start_matches('\u{feff}'),
-        Err(error) => {
-            let good = &text[..error.valid_up_to()];
-            let line = 1 + good.iter().filter(|&&byte| byte == b'\n').count();
-            return fault(line, "not text (UTF-8)");
-        }
-    };
-    let mut reader = Reader::new(text);
-    while let Some((line, words)) = reader.next_line() {
+    described(text).map(|described| described.state)
+}
+
+/// What a text description says.
+pub fn described(text: &[u8]) -> Result<Described, Unread> {
+    let mut reader = Reader::new(as_text(text)?);
+    while let Some((line, words)) = reader.said.next() {
         reader.take(line, &words)?;
     }
     reader.finish()
-}
-
-fn fault<T>(line: usize, message: impl Display) -> Result<T, Unread> {
-    let message = message.to_string();
-    Err(Unread::Fault { line, message })
 }
 
 /// What a line of a field gives numbers to.
@@ -61,13 +87,15 @@ enum Named {
 
 /// The lines, and what they have said so far.
 struct Reader<'a> {
-    lines: Enumerate<Lines<'a>>,
-    last_line: usize,
+    said: Said<'a>,
     grid: Option<(usize, usize)>,
     boundary: Option<u8>,
     gravity: Option<i64>,
     coriolis: Option<i64>,
     spacing_per_step: Option<i64>,
+    lengths: Lengths,
+    /// The last line that said something of these.
+    lengths_line: usize,
     time: Option<Timestamp>,
     depth_given: bool,
     /// h, b, u and v, and the barriers, empty until the grid is known.
@@ -78,31 +106,19 @@ struct Reader<'a> {
 impl<'a> Reader<'a> {
     fn new(text: &'a str) -> Self {
         Reader {
-            lines: text.lines().enumerate(),
-            last_line: 1,
+            said: Said::new(text),
             grid: None,
             boundary: None,
             gravity: None,
             coriolis: None,
             spacing_per_step: None,
+            lengths: Lengths::default(),
+            lengths_line: 1,
             time: None,
             depth_given: false,
             fields: Default::default(),
             barriers: Vec::new(),
         }
-    }
-
-    /// The next line that says something, with its number and its words.
-    fn next_line(&mut self) -> Option<(usize, Vec<&'a str>)> {
-        for (number, line) in self.lines.by_ref() {
-            self.last_line = number + 1;
-            let said = line.split('#').next().unwrap_or_default();
-            let words: Vec<&str> = said.split_whitespace().collect();
-            if !words.is_empty() {
-                return Some((number + 1, words));
-            }
-        }
-        None
     }
 
     /// Takes a line, and for a block of rows the lines after it.
@@ -113,10 +129,7 @@ impl<'a> Reader<'a> {
             "boundary" => once(line, word, &mut self.boundary, boundary(line, rest)?),
             "gravity" => once(line, word, &mut self.gravity, constant(line, word, rest)?),
             "coriolis" => once(line, word, &mut self.coriolis, constant(line, word, rest)?),
-            "spacing-per-step" => {
-                let value = constant(line, word, rest)?;
-                once(line, word, &mut self.spacing_per_step, value)
-            }
+            "spacing-per-step" | "spacing" | "step-ms" => self.take_length(line, word, rest),
             "time" => once(line, word, &mut self.time, time(line, rest)?),
             "depth" => self.take_field(line, word, Named::Depth, rest),
             "level" => self.take_field(line, word, Named::Level, rest),
@@ -125,7 +138,46 @@ impl<'a> Reader<'a> {
             "v" => self.take_field(line, word, Named::V, rest),
             "barriers" => self.take_field(line, word, Named::Barriers, rest),
             "barrier" => self.take_barrier(line, rest),
-            _ => fault(line, format!("unknown word `{word}`")),
+            _ => {
+                let meant = hint(word, WORDS);
+                fault(line, format!("unknown word `{word}`{meant}"))
+            }
+        }
+    }
+
+    /// Takes spacing, step, or the one over the other.
+    fn take_length(&mut self, line: usize, word: &str, rest: &[&str]) -> Result<(), Unread> {
+        self.lengths_line = line;
+        if word != "spacing-per-step" {
+            return Ok(take_length(&mut self.lengths, line, word, rest)?);
+        }
+        let ratio = constant(line, word, rest)?;
+        once(line, word, &mut self.spacing_per_step, ratio)
+    }
+
+    /// Spacing over step, given as such or by the two.
+    fn ratio(&self) -> Result<i64, Unread> {
+        let line = self.lengths_line;
+        let Lengths { spacing, step_ms } = self.lengths;
+        match (self.spacing_per_step, spacing, step_ms) {
+            (Some(ratio), ..) => match self.lengths.fit(ratio) {
+                Ok(()) => Ok(ratio),
+                Err(message) => fault(line, message),
+            },
+            (None, Some(_), Some(_)) => match self.lengths.ratio() {
+                Ok(ratio) => Ok(ratio),
+                Err(message) => fault(line, message),
+            },
+            (None, Some(_), None) => Err(self.missing("step-ms")),
+            (None, None, Some(_)) => Err(self.missing("spacing")),
+            (None, None, None) => Err(self.missing("spacing-per-step")),
+        }
+    }
+
+    fn missing(&self, word: &str) -> Unread {
+        Unread::Fault {
+            line: self.said.last_line,
+            message: format!("the text ends without `{word}`"),
         }
     }
 
@@ -136,7 +188,7 @@ impl<'a> Reader<'a> {
             return fault(line, "`grid` takes two numbers: columns and rows");
         };
         let (w, n) = (number(line, w)?, number(line, n)?);
-        once(line, "grid", &mut self.grid, (w, n))?;
+        once::<_, Unread>(line, "grid", &mut self.grid, (w, n))?;
         // Without fields the next test refuses, but the grid is tested first.
         let (kind, g, c, r) = (0, 0, 0, 0);
         let p = Parameters {
@@ -148,7 +200,8 @@ impl<'a> Reader<'a> {
             r,
         };
         if let Err(refusal @ Refusal::Grid) = total_depth(&p, &[], &[], &[], &[], &[]) {
-            return Err(Unread::Refused(refusal));
+            let sides = (w, n);
+            return Err(Unread::Refused { refusal, sides });
         }
         self.fields = [(); 4].map(|()| vec![0; w * n]);
         self.barriers = vec![0; w * n];
@@ -227,13 +280,13 @@ impl<'a> Reader<'a> {
     /// A column of the grid.
     fn column(&self, line: usize, word: &str) -> Result<usize, Unread> {
         let w = self.grid.map_or(0, |(w, _)| w);
-        index(line, "column", word, w)
+        Ok(index(line, "column", word, w)?)
     }
 
     /// A row of the grid.
     fn row(&self, line: usize, word: &str) -> Result<usize, Unread> {
         let n = self.grid.map_or(0, |(_, n)| n);
-        index(line, "row", word, n)
+        Ok(index(line, "row", word, n)?)
     }
 
     /// One number for all cells of a box, its last column and row included.
@@ -269,7 +322,7 @@ impl<'a> Reader<'a> {
     fn put_rows(&mut self, line: usize, named: Named) -> Result<(), Unread> {
         let n = self.grid.map_or(0, |(_, n)| n);
         for row in (0..n).rev() {
-            let Some((line, words)) = self.next_line() else {
+            let Some((line, words)) = self.said.next() else {
                 let given = n - 1 - row;
                 return fault(line, format!("{given} of {n} rows before the text ends"));
             };
@@ -284,9 +337,8 @@ impl<'a> Reader<'a> {
         let w = self.grid.map_or(0, |(w, _)| w);
         // A word that is none comes first: it is likely the start of the next
         // part, and a row is missing.
-        let values: Result<Vec<i64>, Unread> =
-            words.iter().map(|word| number(line, word)).collect();
-        let values = values?;
+        let values = words.iter().map(|word| number(line, word));
+        let values = values.collect::<Result<Vec<i64>, Fault>>()?;
         match values.len() {
             given if given == w => Ok(values),
             given => fault(line, format!("{given} numbers for {w} columns")),
@@ -327,30 +379,23 @@ impl<'a> Reader<'a> {
         Ok(())
     }
 
-    /// The state, once all has been said.
-    fn finish(self) -> Result<State, Unread> {
-        let line = self.last_line;
-        let missing = |word: &str| Unread::Fault {
-            line,
-            message: format!("the text ends without `{word}`"),
-        };
-        let (w, n) = self.grid.ok_or_else(|| missing("grid"))?;
+    /// What the text says, once all has been said.
+    fn finish(self) -> Result<Described, Unread> {
+        let (w, n) = self.grid.ok_or_else(|| self.missing("grid"))?;
         let parameters = Parameters {
             w,
             n,
-            kind: self.boundary.ok_or_else(|| missing("boundary"))?,
-            g: self.gravity.ok_or_else(|| missing("gravity"))?,
-            c: self.coriolis.ok_or_else(|| missing("coriolis"))?,
-            r: self
-                .spacing_per_step
-                .ok_or_else(|| missing("spacing-per-step"))?,
+            kind: self.boundary.ok_or_else(|| self.missing("boundary"))?,
+            g: self.gravity.ok_or_else(|| self.missing("gravity"))?,
+            c: self.coriolis.ok_or_else(|| self.missing("coriolis"))?,
+            r: self.ratio()?,
         };
-        let timestamp = self.time.ok_or_else(|| missing("time"))?;
+        let timestamp = self.time.ok_or_else(|| self.missing("time"))?;
         if !self.depth_given {
-            return Err(missing("depth` or `level"));
+            return Err(self.missing("depth` or `level"));
         }
         let [h, b, u, v] = self.fields;
-        Ok(State {
+        let state = State {
             parameters,
             timestamp,
             h,
@@ -358,47 +403,17 @@ impl<'a> Reader<'a> {
             u,
             v,
             barriers: self.barriers,
+        };
+        Ok(Described {
+            state,
+            lengths: self.lengths,
         })
-    }
-}
-
-/// Keeps what a line says, which no other line may say again.
-fn once<T>(line: usize, word: &str, place: &mut Option<T>, value: T) -> Result<(), Unread> {
-    match place.replace(value) {
-        Some(_) => fault(line, format!("`{word}` is given twice")),
-        None => Ok(()),
-    }
-}
-
-/// A whole number. One that is whole but too large for its type is told as
-/// such; the core's own bounds are far below.
-fn number<T: FromStr>(line: usize, word: &str) -> Result<T, Unread> {
-    match word.parse() {
-        Ok(number) => Ok(number),
-        Err(_) => fault(
-            line,
-            format!("`{word}` is no whole number, or none that fits"),
-        ),
-    }
-}
-
-/// A column or row below the number of them.
-fn index(line: usize, of: &str, word: &str, count: usize) -> Result<usize, Unread> {
-    match number(line, word)? {
-        index if index < count => Ok(index),
-        index => fault(
-            line,
-            format!(
-                "{of} {index} is outside the grid, 0 to {}",
-                count.saturating_sub(1)
-            ),
-        ),
     }
 }
 
 fn constant(line: usize, word: &str, rest: &[&str]) -> Result<i64, Unread> {
     match rest {
-        [value] => number(line, value),
+        [value] => Ok(number(line, value)?),
         _ => fault(line, format!("`{word}` takes one number")),
     }
 }
@@ -413,18 +428,4 @@ fn boundary(line: usize, rest: &[&str]) -> Result<u8, Unread> {
         || fault(line, "`boundary` is one of periodic, channel and basin"),
         Ok,
     )
-}
-
-fn time(line: usize, rest: &[&str]) -> Result<Timestamp, Unread> {
-    let timestamp = match rest {
-        [date] => from_date(date, "00:00"),
-        [_, time] if split_fraction(time).is_none() => {
-            let form = "milliseconds are three digits after the point, as 06:00:00.250";
-            return fault(line, format!("`{time}` is no time: {form}"));
-        }
-        [date, time] => from_date(date, time),
-        _ => None,
-    };
-    let form = "`time` is a date and a time from 2000 on, as 2026-11-16 06:00:00 or 06:00:00.250";
-    timestamp.map_or_else(|| fault(line, form), Ok)
 }

@@ -1,10 +1,8 @@
 //! The examples: records and texts belong together, and runs of them go well.
 
-mod common;
-
 use std::fs;
 
-use common::{example, folder, given, repository, said, state, tool, words, EXAMPLES};
+use crate::common::{example, folder, given, repository, said, state, tool, words, EXAMPLES};
 
 #[test]
 fn each_record_is_made_from_its_text() {
@@ -64,7 +62,8 @@ fn each_runs_a_thousand_steps_and_keeps_total_depth() {
         assert_eq!(
             said(&["run", &record, "--steps", "1000"]),
             format!(
-                "total depth before {total} mm\ntotal depth after {total} mm\nsteps done 1000\n"
+                "total depth before {total} mm\nentered 0 mm\ntotal depth after {total} mm\n\
+                 steps done 1000\n"
             )
         );
     }
@@ -81,6 +80,9 @@ fn what_is_shown_of_the_dock() {
         "total depth 6289500 mm",
         "level 11700 (cell 31 0) to 12300 (cell 0 0) mm",
         "v 0 mm/s everywhere",
+        "wave speed over spacing-per-step 0.275 (to be kept below 0.35)",
+        "smallest slope that moves still water 3 mm a cell",
+        "smallest current that carries water 2 mm/s, where it is deepest",
     ] {
         assert!(text.lines().any(|shown| shown == line), "{line}\n{text}");
     }
@@ -112,6 +114,41 @@ fn a_small_grid_is_shown_cell_by_cell() {
     assert!(text.ends_with(table), "{text}");
 }
 
+/// What a step can do is told by the deepest cell, at both sides of the bound.
+#[test]
+fn what_a_step_can_do() {
+    let line = |g: i64, h: i64, r: i64| {
+        let mut state = state("one_cell");
+        (state.parameters.g, state.parameters.r) = (g, r);
+        state.h = vec![h];
+        let text = given(&state.write().unwrap(), &["show", "-"]).out;
+        let lines = text
+            .lines()
+            .filter(|line| line.starts_with("wave") || line.starts_with("sm"));
+        lines.map(str::to_owned).collect::<Vec<_>>()
+    };
+    let kept = "to be kept below 0.35";
+    let above = "above 0.35, where refusal 6 may stop a run";
+    for (g, h, r, wave, slope, current) in [
+        // √(10,000·1,000) = 3,162.3 mm/s over R
+        (10_000, 1_000, 10_000, format!("0.317 ({kept})"), 1, 5),
+        (10_000, 1_000, 9_061, format!("0.349 ({kept})"), 1, 5),
+        (10_000, 1_000, 9_060, format!("0.350 ({kept})"), 1, 5),
+        (10_000, 1_000, 9_036, format!("0.350 ({kept})"), 1, 5),
+        (10_000, 1_000, 9_035, format!("0.351 ({above})"), 1, 5),
+        (10_000, 100_000, 1_000, format!("31.623 ({above})"), 1, 1),
+        (1, 1_000, 1_000_000, format!("0.001 ({kept})"), 500_000, 500),
+        (9_810, 12_300, 40_000, format!("0.275 ({kept})"), 3, 2),
+    ] {
+        let expected = [
+            format!("wave speed over spacing-per-step {wave}"),
+            format!("smallest slope that moves still water {slope} mm a cell"),
+            format!("smallest current that carries water {current} mm/s, where it is deepest"),
+        ];
+        assert_eq!(line(g, h, r), expected);
+    }
+}
+
 /// The pictures that the pages show are those that the tool draws today.
 #[test]
 fn the_pictures_of_the_dock_and_the_jetty() {
@@ -139,8 +176,14 @@ fn a_refused_record_is_told_by_number() {
     assert_eq!(answer.status, 1);
     // The last field, of the barriers, has a byte for each of 640 cells.
     let offset = record.len() - 3 - 640;
-    let words = format!("refused 7: the record is damaged at byte {offset}\n");
+    let why = "the value of tag 9 has 640 bytes, and 639 are left";
+    let words = format!("refused 7: the record is damaged at byte {offset}: {why}\n");
     assert_eq!(answer.out, words);
+    // A text in the place of a record.
+    let text = tool(&["show", &example("dock.txt")]);
+    let words = "refused 7: the record is damaged at byte 0: \
+                 this is a text; make writes the record of a description\n";
+    assert_eq!((text.status, &text.out[..]), (1, words));
     let missing = tool(&["show", &example("no such record")]);
     assert_eq!((missing.status, &missing.out[..]), (2, ""));
 }

@@ -1,11 +1,9 @@
 //! Steps and runs of the tool against the core's own step, and what is told.
 
-mod common;
-
 use std::fs;
 
+use crate::common::{call, example, folder, said, state, tool, words};
 use basin::{Ran, Timestamp};
-use common::{call, example, folder, said, state, tool, words};
 use forecast::{run, State};
 
 /// A single step of the core.
@@ -69,7 +67,10 @@ fn total_depth_goes_up_by_the_inflow_exactly() {
     let after = total + 300 * (7 + 1 - 3);
     assert_eq!(
         text,
-        format!("total depth before {total} mm\ntotal depth after {after} mm\nsteps done 300\n")
+        format!(
+            "total depth before {total} mm\nentered 1500 mm\ntotal depth after {after} mm\n\
+             steps done 300\n"
+        )
     );
 }
 
@@ -122,7 +123,7 @@ fn milliseconds_are_added_and_full_seconds_carried() {
     let add = |by: String| tool(&["step", &half, &sum, "--seconds", &by]);
     assert_eq!(add(format!("{seconds}.499")).status, 0);
     let full = add(format!("{seconds}.500"));
-    let words = "forecast: a timestamp has no room for so many --seconds\n";
+    let words = "forecast: a timestamp has no room for so long a time\n";
     assert_eq!((full.status, full.trouble.starts_with(words)), (2, true));
     let last = timestamp_in(&sum);
     assert_eq!((last.seconds, last.milliseconds), (u64::MAX, 999));
@@ -139,8 +140,9 @@ fn a_run_that_is_stopped() {
         &[&cell, &out],
     ));
     assert_eq!((stopped.status, fs::exists(&out).unwrap()), (1, false));
-    let totals = "total depth before 2000 mm\ntotal depth after 100000 mm\n";
-    let end = "stopped after 98 steps: refused 6, pass 1, field depth, cell 0 0\n";
+    let totals = "total depth before 2000 mm\nentered 98000 mm\ntotal depth after 100000 mm\n";
+    let why = "refused 6: pass 1 takes depth at cell 0 0, now 100000, out of 1,000 to 100,000 mm";
+    let end = format!("stopped after 98 steps: {why}\n");
     assert_eq!(stopped.out, format!("{totals}{end}"));
     // So many steps go.
     let line = "run @ --steps 98 --inflow 0 0 1000";
@@ -155,16 +157,15 @@ fn a_run_that_is_stopped() {
     );
     said(&words(line, &[&cell, &full]));
     let step = tool(&words("step @ --inflow 0 0 1", &[&full]));
-    assert!(step
-        .out
-        .ends_with("stopped after 0 steps: refused 6, pass 1, field depth, cell 0 0\n"));
+    let end = format!("stopped after 0 steps: {why}\n");
+    assert!(step.out.ends_with(&end), "{}", step.out);
 }
 
 #[test]
 fn an_inflow_that_is_refused_or_outside() {
     let dock = example("dock.rec");
     let refused = tool(&["run", &dock, "--steps", "0", "--inflow", "1", "2", "1001"]);
-    let words = "refused 4: inflow at cell 1 2 is outside its bounds\n";
+    let words = "refused 4: inflow at cell 1 2 is 1001, outside -1,000 to 1,000 mm a step\n";
     assert_eq!((refused.status, &refused.out[..]), (1, words));
     let outside = tool(&["step", &dock, "--inflow", "32", "2", "1"]);
     assert_eq!(outside.status, 2);
@@ -173,13 +174,21 @@ fn an_inflow_that_is_refused_or_outside() {
         .contains("cell 32 2 is outside the grid, 32 by 20"));
 }
 
+/// A terminal is told in one line that is written over. A file is not, nor is
+/// anybody who wants quiet.
 #[test]
-fn progress_on_a_terminal_and_in_a_file() {
+fn progress_is_for_a_terminal() {
     let dock = example("dock.rec");
-    for (steps, lines) in [("0", 0), ("1", 1), ("7", 7), ("250", 10), ("1000", 10)] {
-        let (_, told) = call(&["run", &dock, "--steps", steps], &[], false);
-        assert_eq!(told.lines().count(), lines, "{steps}");
-        let (_, told) = call(&["run", &dock, "--steps", steps], &[], true);
+    let (_, none) = call(&["run", &dock, "--steps", "0"], &[], true);
+    assert_eq!(none, "");
+    for steps in ["1", "7", "250", "1000"] {
+        let told = |more: &[&str], terminal| {
+            let words = [&["run", &dock, "--steps", steps][..], more].concat();
+            call(&words, &[], terminal).1
+        };
+        assert_eq!(told(&[], false), "");
+        assert_eq!(told(&["--quiet"], true), "");
+        let told = told(&[], true);
         assert_eq!(told.lines().count(), 1, "{steps}");
         assert!(
             told.ends_with(&format!("\rstep {steps} of {steps} \n")),

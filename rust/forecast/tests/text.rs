@@ -1,11 +1,9 @@
 //! Text descriptions: what each form gives, and faults with their lines.
 
-mod common;
-
 use std::fs;
 
+use crate::common::{folder, given, repository, tool};
 use basin::Timestamp;
-use common::{folder, given, repository, tool};
 use forecast::describe::to_text;
 use forecast::text::{from_text, Unread};
 use forecast::State;
@@ -202,10 +200,10 @@ fn faults_of_the_head() {
         ("grid 3 2\nboundary ring", 2, "periodic, channel and basin"),
         ("grid 3 2\nboundary", 2, "periodic, channel and basin"),
         ("grid 3 2\ngravity 1 2", 2, "`gravity` takes one number"),
-        ("grid 3 2\ntime 2026-02-30 00:00", 2, "`time` is a date"),
-        ("time 2026-02-28 06:00.250", 1, "`time` is a date"),
-        ("time 2026-02-28 06:00:00,250", 1, "`time` is a date"),
-        ("time 2026-02-28 06:00:00 .250", 1, "`time` is a date"),
+        ("grid 3 2\ntime 2026-02-30 00:00", 2, "a time is a date"),
+        ("time 2026-02-28 06:00.250", 1, "a time is a date"),
+        ("time 2026-02-28 06:00:00,250", 1, "a time is a date"),
+        ("time 2026-02-28 06:00:00 .250", 1, "a time is a date"),
         ("\ntime 2026-02-28 06:00:00.5", 2, "`06:00:00.5` is no time"),
         (
             "time 2026-02-28 06:00:00.",
@@ -249,19 +247,19 @@ fn a_fault_and_a_refusal_as_the_tool_tells_them() {
     for (fields, words) in [
         (
             "depth 2000\ndepth 999 cell 2 1",
-            "refused 4: depth at cell 2 1 is outside its bounds\n",
+            "refused 4: depth at cell 2 1 is 999, outside 1,000 to 100,000 mm\n",
         ),
         (
             "depth 2000\nv 5001 cell 0 1",
-            "refused 4: v at cell 0 1 is outside its bounds\n",
+            "refused 4: v at cell 0 1 is 5001, outside -5,000 to 5,000 mm/s\n",
         ),
         (
             "depth 2000\nbarriers 4 cell 2 1",
-            "refused 4: barrier at cell 2 1 is outside its bounds\n",
+            "refused 4: barrier at cell 2 1 is 4, outside 0 to 3\n",
         ),
         (
             "depth 2000\nv 7\nbarrier south 1 1",
-            "refused 5: v at cell 1 1 is on a closed edge and must be 0\n",
+            "refused 5: v at cell 1 1 is 7, on a closed edge, where it must be 0\n",
         ),
     ] {
         let refused = make(fields);
@@ -279,20 +277,149 @@ fn refusals_of_grid_constants_and_walls() {
         )
     };
     for (text, words) in [
-        (text("65 1", "basin", "9810"), "refused 1: "),
+        (
+            text("65 1", "basin", "9810"),
+            "refused 1: the columns are 65, outside 1 to 64\n",
+        ),
         (
             text("18446744073709551615 18446744073709551615", "basin", "9810"),
-            "refused 1: ",
+            "refused 1: the columns are 18446744073709551615, outside 1 to 64\n",
         ),
-        (text("0 4", "basin", "9810"), "refused 1: "),
-        (text("2 2", "basin", "10001"), "refused 3: "),
+        (
+            text("4 0", "basin", "9810"),
+            "refused 1: the rows are 0, outside 1 to 64\n",
+        ),
+        (
+            text("2 2", "basin", "10001"),
+            "refused 3: gravity is 10001, outside 1 to 10,000 mm/s²\n",
+        ),
         (
             text("2 2", "basin", "9810"),
-            "refused 5: u at cell 0 0 is on a closed edge and must be 0\n",
+            "refused 5: u at cell 0 0 is 5, on a closed edge, where it must be 0\n",
         ),
     ] {
         let answer = given(text.as_bytes(), &["make", "-", &record]);
         assert_eq!(answer.status, 1, "{text}{}", answer.trouble);
-        assert!(answer.out.starts_with(words), "{text}{}", answer.out);
+        assert_eq!(answer.out, words, "{text}");
     }
+}
+
+/// Spacing and step in place of their quotient, or beside it where they agree.
+#[test]
+fn spacing_and_step_in_place_of_their_quotient() {
+    let head = HEAD.replace("spacing-per-step 1000\n", "");
+    let ratio = |lines: &str| {
+        let text = format!("{head}depth 2000\n{lines}");
+        from_text(text.as_bytes()).map(|state| state.parameters.r)
+    };
+    for (lines, r) in [
+        ("spacing-per-step 40000", 40_000),
+        ("spacing 20000\nstep-ms 500", 40_000),
+        ("step-ms 1\nspacing 1", 1_000),
+        ("step-ms 3\nspacing 3", 1_000),
+        ("spacing-per-step 40000\nspacing 20000\nstep-ms 500", 40_000),
+        ("spacing-per-step 40000\nspacing 7", 40_000),
+        // Far outside the bounds, which are the core's to test.
+        ("spacing 1\nstep-ms 1000", 1),
+    ] {
+        assert_eq!(ratio(lines), Ok(r), "{lines}");
+    }
+    for (lines, line, words) in [
+        ("spacing 20000\nstep-ms 300", 8, "between 66666 and 66667"),
+        (
+            "spacing-per-step 40001\nspacing 20000\nstep-ms 500",
+            9,
+            "is not the spacing-per-step",
+        ),
+        ("spacing 20000", 7, "ends without `step-ms`"),
+        ("step-ms 500", 7, "ends without `spacing`"),
+        ("", 6, "ends without `spacing-per-step`"),
+        ("spacing 0\nstep-ms 500", 7, "above 0"),
+        ("spacing 20000\nstep-ms 0", 8, "above 0"),
+        ("spacing 20000\nstep-ms 500 ms", 8, "takes one number"),
+        ("spacing 18446744073709551615\nstep-ms 1", 8, "too large"),
+        (
+            "spacing 20000\nspacing 20000\nstep-ms 500",
+            8,
+            "given twice",
+        ),
+        ("spacing -20000\nstep-ms 500", 7, "no whole number"),
+    ] {
+        let Err(Unread::Fault { line: at, message }) = ratio(lines) else {
+            panic!("{lines}");
+        };
+        assert!(
+            at == line && message.contains(words),
+            "{lines}: {at}: {message}"
+        );
+    }
+}
+
+/// Which of the sides, the boundary, the constants, and which field.
+#[test]
+fn what_is_refused_of_a_record_says_which() {
+    let record = described("depth 2000").write().unwrap();
+    // Tag 1 has w, n and kind in bytes 3 to 5, tag 2 its constants from byte 9 on;
+    // the depths, 24 bytes, come after the timestamp.
+    for (byte, value, words) in [
+        (3, 65, "refused 1: the columns are 65, outside 1 to 64\n"),
+        (4, 0, "refused 1: the rows are 0, outside 1 to 64\n"),
+        (
+            5,
+            3,
+            "refused 1: the boundary is of kind 3, none of 0, 1 and 2\n",
+        ),
+        (
+            3,
+            4,
+            "refused 2: depth has 24 bytes, and the cells of this grid need 32\n",
+        ),
+        (
+            9,
+            1,
+            "refused 3: gravity is 16787026, outside 1 to 10,000 mm/s²\n",
+        ),
+        (
+            13,
+            255,
+            "refused 3: coriolis is -16777206, outside -10,000 to 10,000 mm/s\n",
+        ),
+        (
+            17,
+            128,
+            "refused 3: spacing-per-step is -2147482648, outside 1,000 to 1,000,000 mm/s\n",
+        ),
+        (
+            35,
+            255,
+            "refused 4: depth at cell 0 0 is -16775216, outside 1,000 to 100,000 mm\n",
+        ),
+    ] {
+        let mut damaged = record.clone();
+        damaged[byte] = value;
+        let answer = given(&damaged, &["show", "-"]);
+        assert_eq!((answer.status, &answer.out[..]), (1, words), "byte {byte}");
+    }
+    for (offset, bytes, words) in [
+        (0, &[12, 0, 0][..], "tag 12 is unknown"),
+        (
+            0,
+            &[9, 255, 255],
+            "the value of tag 9 has 65535 bytes, and ",
+        ),
+        (
+            0,
+            &[2, 0, 0],
+            "the value of tag 2 has 0 bytes, a wrong length",
+        ),
+        (6, &[1, 0, 3, 1, 1, 1], "tag 1 is there twice"),
+    ] {
+        let mut damaged = record.clone();
+        damaged.splice(offset..offset, bytes.iter().copied());
+        let answer = given(&damaged, &["show", "-"]);
+        let start = format!("refused 7: the record is damaged at byte {offset}: {words}");
+        assert!(answer.out.starts_with(&start), "{}", answer.out);
+    }
+    let missing = given(&record[..6], &["show", "-"]);
+    assert!(missing.out.ends_with("at byte 6: it ends without tag 2\n"));
 }

@@ -2,26 +2,35 @@
 
 use basin::Parameters;
 
+use super::frame::Frame;
 use super::panel::{arrow, Panel};
 use super::scale::{colour, Scale, COLOUR_COUNT};
 use super::svg::{grouped, Svg, GREY, INK};
-use super::{Frame, Series};
+use super::Series;
 
 const MARGIN: f64 = 20.0;
 const GAP: f64 = 18.0;
-/// For the title of the page, and for that of each map of a series.
+/// For the title of the page, and for a line above each map of a series.
 const TITLE: f64 = 44.0;
 const CAPTION: f64 = 22.0;
+const CAPTION_LINE: f64 = 16.0;
+/// For the numbers of rows at the left of a map, and of columns below it.
+const NUMBERS: (f64, f64) = (20.0, 16.0);
 const LEGEND: f64 = 66.0;
 /// The colour bar: how wide and how high.
 const BAR: (f64, f64) = (300.0, 12.0);
 /// The narrowest page that has room for the legend, and the narrowest place for
 /// a map with a caption.
-const NARROWEST: f64 = 660.0;
+const NARROWEST: f64 = 740.0;
 const NARROWEST_MAP: f64 = 210.0;
 
-/// What stands above a map of a series: the steps done, and total depth.
-pub type Caption = (String, String);
+/// What stands above a map of a series: the steps done, total depth, and above
+/// them the time where it is known.
+pub struct Caption {
+    pub time: Option<String>,
+    pub steps: String,
+    pub total: String,
+}
 
 /// How maps stand on a page.
 pub struct Page {
@@ -40,17 +49,22 @@ impl Page {
         Page::new(p, (1, 1), (800.0, 560.0), 0.0)
     }
 
-    /// So many maps, in rows of up to four.
-    pub fn of_many(p: &Parameters, count: usize) -> Self {
+    /// So many maps, in rows of up to four, with a time above each or without.
+    pub fn of_many(p: &Parameters, count: usize, timed: bool) -> Self {
         let columns = match count {
             0..=3 => count.max(1),
             4 => 2,
             5..=9 => 3,
             _ => 4,
         };
-        let width = (960.0 - (columns - 1) as f64 * GAP) / columns as f64;
+        let width = (960.0 - (columns - 1) as f64 * GAP) / columns as f64 - NUMBERS.0;
         let rows = count.div_ceil(columns);
-        Page::new(p, (columns, rows), (width, width), CAPTION)
+        let caption = if timed {
+            CAPTION + CAPTION_LINE
+        } else {
+            CAPTION
+        };
+        Page::new(p, (columns, rows), (width, width), caption)
     }
 
     fn new(
@@ -69,7 +83,7 @@ impl Page {
             cell,
             caption,
             map: (w * cell, n * cell),
-            pitch: (w * cell).max(caption.min(1.0) * NARROWEST_MAP) + GAP,
+            pitch: NUMBERS.0 + (w * cell).max(caption.min(1.0) * NARROWEST_MAP) + GAP,
         }
     }
 
@@ -83,32 +97,57 @@ impl Page {
         let (columns, rows) = (self.columns as f64, self.rows as f64);
         let maps = columns * self.pitch - GAP;
         let width = (2.0 * MARGIN + maps).max(NARROWEST).ceil();
-        let below = TITLE + rows * (self.caption + self.map.1) + (rows - 1.0) * GAP;
-        let height = (below + LEGEND).ceil();
-        let mut svg = Svg::new(width, height);
+        let below = TITLE + rows * self.row() - GAP;
+        let mut svg = Svg::new(width, (below + LEGEND).ceil());
         svg.words((MARGIN, 28.0), 17.0, INK, "start", title);
-        let mut longest = 0.0;
+        north(&mut svg, width - MARGIN - 8.0);
         for (place, (frame, caption)) in panels.iter().enumerate() {
-            let (column, row) = (place % self.columns, place / self.columns);
-            let left = MARGIN + column as f64 * self.pitch;
-            let top = TITLE + row as f64 * (self.caption + self.map.1 + GAP) + self.caption;
-            if let Some((steps, total)) = caption {
-                let right = left + self.pitch - GAP;
-                svg.words((left, top - 7.0), 13.5, INK, "start", steps);
-                svg.words((right, top - 7.0), 13.5, GREY, "end", total);
+            let panel = self.panel(series, place);
+            if let Some(caption) = caption {
+                self.caption(&mut svg, &panel, caption);
             }
-            let panel = Panel {
-                parameters: &series.parameters,
-                left,
-                top,
-                cell: self.cell,
-            };
             panel.draw(&mut svg, frame, series);
-            longest = panel.longest();
         }
+        let longest = self.panel(series, 0).longest();
         legend(&mut svg, below + 22.0, &series.scale, longest);
         svg.end()
     }
+
+    /// From one row of maps to the next.
+    fn row(&self) -> f64 {
+        self.caption + self.map.1 + NUMBERS.1 + GAP
+    }
+
+    /// Where the map with this number stands.
+    fn panel<'a>(&self, series: &'a Series, place: usize) -> Panel<'a> {
+        let (column, row) = (place % self.columns, place / self.columns);
+        Panel {
+            parameters: &series.parameters,
+            left: MARGIN + NUMBERS.0 + column as f64 * self.pitch,
+            top: TITLE + row as f64 * self.row() + self.caption,
+            cell: self.cell,
+        }
+    }
+
+    /// The words above a map.
+    fn caption(&self, svg: &mut Svg, panel: &Panel, caption: &Caption) {
+        let right = panel.left + self.pitch - NUMBERS.0 - GAP;
+        let line = panel.top - 7.0;
+        svg.words((panel.left, line), 13.5, INK, "start", &caption.steps);
+        svg.words((right, line), 13.5, GREY, "end", &caption.total);
+        if let Some(time) = &caption.time {
+            let above = (panel.left, line - CAPTION_LINE);
+            svg.words(above, 13.5, INK, "start", time);
+        }
+    }
+}
+
+/// An arrow to the north with its letter, at the top of the page.
+fn north(svg: &mut Svg, x: f64) {
+    svg.put(format_args!(
+        "<path id=\"north\" d=\"M{x:.1} 8l5 15l-5 -4l-5 4z\" fill=\"{INK}\"/>\n"
+    ));
+    svg.words((x, 35.0), 12.0, INK, "middle", "N");
 }
 
 /// What colours, arrows and contours stand for.

@@ -4,12 +4,18 @@ use std::fmt::Write;
 
 use basin::Parameters;
 
-use super::scale::{length, Scale};
+use super::frame::Frame;
+use super::scale::{length, numbers_apart, Scale};
 use super::svg::{Svg, GREY, INK};
-use super::{Frame, Series};
+use super::Series;
 
 /// Between two arrows at least, in points.
 const ARROWS_APART: f64 = 17.0;
+/// Between two numbers of columns or rows at least, in points.
+const NUMBERS_APART: f64 = 20.0;
+/// Between an arrow and a side of the map, in points: half a wall, and half the
+/// arrow's own line.
+const ARROW_CLEAR: f64 = 2.1;
 /// How thick what closes edges is, in points, and how its lines end.
 const CLOSED: f64 = 3.0;
 const CLOSED_END: &str = " stroke-linecap=\"square\"";
@@ -42,6 +48,22 @@ impl Panel<'_> {
         self.walls(svg);
         let barriers = self.barriers(&series.barriers);
         svg.line(&barriers, INK, CLOSED, CLOSED_END);
+        self.numbers(svg);
+    }
+
+    /// The numbers of columns below the map and of rows at its left, as many as
+    /// have room.
+    fn numbers(&self, svg: &mut Svg) {
+        let apart = numbers_apart(NUMBERS_APART / self.cell);
+        let below = self.y(0.0) + 13.0;
+        for i in (0..self.parameters.w).step_by(apart) {
+            let at = (self.x(i as f64 + 0.5), below);
+            svg.words(at, 10.5, GREY, "middle", i);
+        }
+        for j in (0..self.parameters.n).step_by(apart) {
+            let at = (self.left - 5.0, self.y(j as f64 + 0.5) + 3.7);
+            svg.words(at, 10.5, GREY, "end", j);
+        }
     }
 
     fn width(&self) -> f64 {
@@ -116,10 +138,33 @@ impl Panel<'_> {
                 let per_speed = self.longest() / scale.fastest.max(1.0);
                 let along = (east * per_speed, -north * per_speed);
                 let centre = (self.x(i as f64 + 0.5), self.y(j as f64 + 0.5));
-                path.push_str(&arrow(centre, along));
+                path.push_str(&self.arrow(centre, along));
             }
         }
         path
+    }
+
+    /// An arrow that stays inside the map: what would leave it is moved in, and
+    /// made shorter where the map is too small for it. Its direction is kept.
+    fn arrow(&self, centre: (f64, f64), along: (f64, f64)) -> String {
+        let Some(points) = arrow_points(along) else {
+            return String::new();
+        };
+        let (across, upright) = (
+            span(points.map(|point| point.0)),
+            span(points.map(|point| point.1)),
+        );
+        let (width, height) = (self.width(), self.height());
+        let clear = ARROW_CLEAR.min(width.min(height) / 4.0);
+        let fits = |room: f64, (least, most): (f64, f64)| (room - 2.0 * clear) / (most - least);
+        let part = fits(width, across).min(fits(height, upright)).min(1.0);
+        let inside = |at: f64, from: f64, room: f64, (least, most): (f64, f64)| {
+            at.min(from + room - clear - part * most)
+                .max(from + clear - part * least)
+        };
+        let x = inside(centre.0, self.left, width, across);
+        let y = inside(centre.1, self.top, height, upright);
+        path_of(points.map(|point| (x + part * point.0, y + part * point.1)))
     }
 
     /// How long the arrow of the fastest current is.
@@ -185,31 +230,41 @@ fn first(count: usize, apart: usize) -> usize {
     (count - 1).saturating_sub(taken) / 2
 }
 
+/// The least and the largest of some numbers.
+fn span(numbers: [f64; 5]) -> (f64, f64) {
+    let least = numbers.into_iter().fold(f64::INFINITY, f64::min);
+    let most = numbers.into_iter().fold(f64::NEG_INFINITY, f64::max);
+    (least, most)
+}
+
 /// An arrow about a centre; none where there is hardly any current.
-pub fn arrow((x, y): (f64, f64), (east, down): (f64, f64)) -> String {
+pub fn arrow((x, y): (f64, f64), along: (f64, f64)) -> String {
+    let points = arrow_points(along);
+    let moved = points.map(|points| points.map(|point| (x + point.0, y + point.1)));
+    moved.map(path_of).unwrap_or_default()
+}
+
+/// Tail, tip, one side of the head, tip and the other side, seen from the middle
+/// of the shaft; none where there is hardly any current.
+fn arrow_points((east, down): (f64, f64)) -> Option<[(f64, f64); 5]> {
     let length = length(east, down);
     if length < 2.2 {
-        return String::new();
+        return None;
     }
-    let tip = (x + east / 2.0, y + down / 2.0);
+    let tip = (east / 2.0, down / 2.0);
     let head = (0.34 * length).clamp(1.3, 5.0) / length;
     // The sides of the head: back from the tip, and to the left or right.
     let side = |turn: f64| {
         let back = (-east - turn * down, -down + turn * east);
         (tip.0 + head * back.0, tip.1 + head * back.1)
     };
-    let (a, b) = (side(0.6), side(-0.6));
+    Some([(-tip.0, -tip.1), tip, side(0.6), tip, side(-0.6)])
+}
+
+/// A path along the points of an arrow.
+fn path_of([tail, tip, a, _, b]: [(f64, f64); 5]) -> String {
     format!(
         "M{:.1} {:.1}L{:.1} {:.1}M{:.1} {:.1}L{:.1} {:.1}L{:.1} {:.1}",
-        x - east / 2.0,
-        y - down / 2.0,
-        tip.0,
-        tip.1,
-        a.0,
-        a.1,
-        tip.0,
-        tip.1,
-        b.0,
-        b.1
+        tail.0, tail.1, tip.0, tip.1, a.0, a.1, tip.0, tip.1, b.0, b.1
     )
 }

@@ -3,7 +3,7 @@
 
 use basin::Parameters;
 
-use super::Frame;
+use super::frame::Frame;
 
 /// How many colours the scale passes through.
 pub const COLOUR_COUNT: usize = 5;
@@ -14,6 +14,15 @@ const COLOURS: [[f64; 3]; COLOUR_COUNT] = [
     [248.0, 246.0, 240.0],
     [156.0, 194.0, 214.0],
     [73.0, 138.0, 179.0],
+];
+
+/// The same for a dark page, where the middle is as dark as the page.
+const DARK_COLOURS: [[f64; 3]; COLOUR_COUNT] = [
+    [176.0, 108.0, 44.0],
+    [102.0, 72.0, 44.0],
+    [27.0, 36.0, 44.0],
+    [38.0, 84.0, 114.0],
+    [52.0, 133.0, 184.0],
 ];
 
 /// The scales of a series.
@@ -84,10 +93,24 @@ pub fn colour(part: f64) -> String {
     let last = COLOURS.len() - 1;
     let place = (part.clamp(-1.0, 1.0) + 1.0) / 2.0 * last as f64;
     let below = (place as usize).min(last - 1);
-    let [red, green, blue] = [0, 1, 2].map(|k| {
+    written([0, 1, 2].map(|k| {
         let (from, to) = (COLOURS[below][k], COLOURS[below + 1][k]);
-        (from + (to - from) * (place - below as f64)).round() as u8
-    });
+        (from + (to - from) * (place - below as f64)).round()
+    }))
+}
+
+/// The colours that the scale passes through.
+pub fn colours() -> Vec<String> {
+    COLOURS.map(written).to_vec()
+}
+
+/// The same for a dark page.
+pub fn dark_colours() -> Vec<String> {
+    DARK_COLOURS.map(written).to_vec()
+}
+
+fn written(colour: [f64; 3]) -> String {
+    let [red, green, blue] = colour.map(|part| part as u8);
     format!("#{red:02x}{green:02x}{blue:02x}")
 }
 
@@ -95,6 +118,12 @@ pub fn colour(part: f64) -> String {
 /// read.
 const COARSE: [i64; 3] = [1, 2, 5];
 const FINE: [i64; 10] = [10, 12, 15, 20, 25, 30, 40, 50, 60, 80];
+
+/// Between two numbers of columns or rows: a round number that is not below what
+/// keeps them from touching.
+pub fn numbers_apart(least: f64) -> usize {
+    round_up(least.ceil() as i64, &COARSE).max(1) as usize
+}
 
 /// The least round number that is not below a number.
 fn round_up(number: i64, round: &[i64]) -> i64 {

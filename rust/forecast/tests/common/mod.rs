@@ -1,11 +1,10 @@
 //! What the tests share: the tool called in this process, files, random numbers.
 
-// Each file of tests uses a part.
-#![allow(dead_code, unused_imports)]
-
 // The generator is shared with the independent version's tests.
+pub mod json;
 #[path = "../../../reference/tests/common/random.rs"]
 mod random;
+pub mod series;
 
 pub use random::Random;
 
