@@ -3,7 +3,7 @@
 //! has nothing of the core or of the independent version. With all roundings it is
 //! the core, number for number, which the tests see.
 
-use crate::dock::Dock;
+use forecast::State;
 
 /// Which numbers become whole in each pass.
 #[derive(Clone, Copy, Debug)]
@@ -88,7 +88,7 @@ struct Work {
 }
 
 impl Doubles {
-    pub fn new(dock: &Dock, rounding: Rounding) -> Self {
+    pub fn new(dock: &State, rounding: Rounding) -> Self {
         let field = |numbers: &[i64]| numbers.iter().map(|&x| x as f64).collect();
         let now = Fields {
             h: field(&dock.h),
@@ -98,9 +98,9 @@ impl Doubles {
         Doubles {
             dock: Fixed {
                 rounding,
-                g: dock.p.g as f64,
-                c: dock.p.c as f64,
-                r: dock.p.r as f64,
+                g: dock.parameters.g as f64,
+                c: dock.parameters.c as f64,
+                r: dock.parameters.r as f64,
                 b: field(&dock.b),
                 cells: (0..dock.h.len()).map(|k| Cell::new(dock, k)).collect(),
             },
@@ -129,8 +129,8 @@ impl Doubles {
 }
 
 impl Cell {
-    fn new(dock: &Dock, k: usize) -> Self {
-        let (w, n) = (dock.p.w, dock.p.n);
+    fn new(dock: &State, k: usize) -> Self {
+        let (w, n) = (dock.parameters.w, dock.parameters.n);
         let (i, j) = (k % w, k / w);
         let at = |right: usize, up: usize| (j + up) % n * w + (i + right) % w;
         Cell {
@@ -142,8 +142,8 @@ impl Cell {
             nw: at(w - 1, 1),
             sw: at(w - 1, n - 1),
             se: at(1, n - 1),
-            west_open: !(dock.p.kind == 2 && i == 0) && dock.barriers[k] & 1 == 0,
-            south_open: !(dock.p.kind >= 1 && j == 0) && dock.barriers[k] & 2 == 0,
+            west_open: !(dock.parameters.kind == 2 && i == 0) && dock.barriers[k] & 1 == 0,
+            south_open: !(dock.parameters.kind >= 1 && j == 0) && dock.barriers[k] & 2 == 0,
         }
     }
 }

@@ -1,6 +1,8 @@
 //! How far a run of the core comes from one in doubles.
 
-use crate::dock::Dock;
+use forecast::State;
+
+use crate::dock::{at, example, run_on};
 use crate::doubles::{Doubles, Rounding};
 
 /// Half-second steps of the example dock.
@@ -87,13 +89,13 @@ impl Spread {
 /// Both versions of a dock, stepped together.
 pub struct Pair {
     steps: u64,
-    core: Dock,
+    core: State,
     doubles: Doubles,
 }
 
 impl Pair {
     /// What the version in doubles rounds, if anything, is as one likes.
-    pub fn new(dock: Dock, rounding: Rounding) -> Self {
+    pub fn new(dock: State, rounding: Rounding) -> Self {
         Pair {
             steps: 0,
             doubles: Doubles::new(&dock, rounding),
@@ -103,7 +105,7 @@ impl Pair {
 
     /// Panics where the core refuses.
     pub fn run(&mut self, steps: u64) {
-        let ran = self.core.run(steps);
+        let ran = run_on(&mut self.core, steps);
         assert!(matches!(ran, Ok(ran) if ran.steps == steps), "{ran:?}");
         self.doubles.run(steps);
         self.steps += steps;
@@ -115,7 +117,7 @@ impl Pair {
         for _ in 0..STEPS_AN_HOUR / WINDOWS_AN_HOUR / STEPS_A_SAMPLE {
             self.run(STEPS_A_SAMPLE);
             for k in 0..self.core.h.len() {
-                let (a, b) = (self.core.at(k), self.doubles.at(k));
+                let (a, b) = (at(&self.core, k), self.doubles.at(k));
                 core.add(a);
                 doubles.add(b);
                 difference.add([a[0] - b[0], a[1] - b[1], a[2] - b[2]]);
@@ -131,10 +133,10 @@ impl Pair {
 
     /// Level in the middle of the west wall, where the swing is greatest.
     fn swing(&self) -> Swing {
-        let k = self.core.p.n / 2 * self.core.p.w;
+        let k = self.core.parameters.n / 2 * self.core.parameters.w;
         Swing {
             hours: self.steps as f64 / STEPS_AN_HOUR as f64,
-            core: self.core.at(k)[2],
+            core: at(&self.core, k)[2],
             doubles: self.doubles.at(k)[2],
         }
     }
@@ -151,7 +153,7 @@ pub struct Swing {
 /// The first hour and a half of the example dock, beside the same unrounded.
 pub fn swings() -> Vec<Swing> {
     const EVERY: u64 = 15;
-    let mut pair = Pair::new(Dock::example("dock"), Rounding::NONE);
+    let mut pair = Pair::new(example("dock"), Rounding::NONE);
     let mut swings = vec![pair.swing()];
     for _ in 0..STEPS_AN_HOUR * 3 / 2 / EVERY {
         pair.run(EVERY);

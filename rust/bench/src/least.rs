@@ -2,8 +2,9 @@
 //! formula, and by trying with the core.
 
 use basin::{Parameters, Refusal};
+use forecast::State;
 
-use crate::dock::Dock;
+use crate::dock::{run_on, still};
 
 /// The smallest difference of level between two neighbours, in mm, that sets
 /// water at rest in motion along a straight front. A step adds rnd(G·s/R) to the
@@ -52,9 +53,9 @@ pub const WAYS: [Way; 4] = [Way::East, Way::West, Way::North, Way::South];
 
 const SIDE: usize = 8;
 
-fn basin(r: i64, g: i64, c: i64) -> Dock {
+fn basin(r: i64, g: i64, c: i64) -> State {
     let (w, n) = (SIDE, SIDE);
-    Dock::still(Parameters {
+    still(Parameters {
         w,
         n,
         kind: 2,
@@ -111,9 +112,9 @@ pub fn current_moves(
 }
 
 /// Whether a step leaves something other than before. Leaving a bound is a change.
-fn step_changes<T: PartialEq>(mut dock: Dock, of: impl Fn(&Dock) -> T) -> bool {
+fn step_changes<T: PartialEq>(mut dock: State, of: impl Fn(&State) -> T) -> bool {
     let before = of(&dock);
-    match dock.run(1) {
+    match run_on(&mut dock, 1) {
         Ok(ran) => matches!(ran.stopped, Some(Refusal::OutOfBounds { .. })) || of(&dock) != before,
         Err(refusal) => panic!("{refusal}"),
     }

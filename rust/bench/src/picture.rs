@@ -2,10 +2,10 @@
 
 use std::fmt::Write;
 
+use forecast::draw::svg::{grouped, Svg, GREY, INK};
+
 use crate::drift::{Swing, Window};
 
-const INK: &str = "#22303c";
-const GREY: &str = "#66737f";
 const PALE: &str = "#e3e6e8";
 const CORE: &str = "#b4552d";
 const UNROUNDED: &str = "#2f74a3";
@@ -28,7 +28,7 @@ pub fn picture(day: &[Window], swing: &[Swing]) -> String {
     currents(&mut page, day);
     levels(&mut page, day);
     start(&mut page, swing);
-    page.end()
+    page.svg.end()
 }
 
 fn currents(page: &mut Page, day: &[Window]) {
@@ -109,14 +109,6 @@ fn points<'a>(
         .map(move |window| (window.hours(), value(window)))
 }
 
-/// A number of up to six digits, its thousands apart: 12,300.
-fn grouped(number: f64) -> String {
-    match number as u32 {
-        number @ 0..=999 => number.to_string(),
-        number => format!("{},{:03}", number / 1000, number % 1000),
-    }
-}
-
 /// A diagram: how far down it begins, its last hour and the hours between two
 /// marks, its lowest and highest value and what is between two marks.
 struct Panel {
@@ -134,40 +126,20 @@ impl Panel {
     }
 }
 
-/// SVG as text.
+/// A page of diagrams.
 struct Page {
-    text: String,
+    svg: Svg,
 }
 
 impl Page {
-    /// An empty page of a light colour, whatever is behind it.
     fn new() -> Self {
-        let mut page = Page {
-            text: String::new(),
-        };
-        page.put(format_args!(
-            "<svg xmlns=\"http://www.w3.org/2000/svg\" width=\"{WIDTH}\" height=\"{HEIGHT}\" \
-             viewBox=\"0 0 {WIDTH} {HEIGHT}\" font-family=\"system-ui, 'Segoe UI', Helvetica, \
-             Arial, sans-serif\">\n<path d=\"M0 0H{WIDTH}V{HEIGHT}H0Z\" fill=\"#fdfdfb\"/>\n"
-        ));
-        page
-    }
-
-    fn put(&mut self, text: std::fmt::Arguments) {
-        // A String takes any text.
-        let _ = self.text.write_fmt(text);
+        let svg = Svg::new(WIDTH, HEIGHT);
+        Page { svg }
     }
 
     /// Words that begin at a place.
     fn words(&mut self, at: (f64, f64), size: f64, colour: &str, words: &str) {
-        self.anchored(at, size, colour, "start", words);
-    }
-
-    fn anchored(&mut self, (x, y): (f64, f64), size: f64, colour: &str, anchor: &str, words: &str) {
-        self.put(format_args!(
-            "<text x=\"{x:.1}\" y=\"{y:.1}\" font-size=\"{size}\" fill=\"{colour}\" \
-             text-anchor=\"{anchor}\">{words}</text>\n"
-        ));
+        self.svg.words(at, size, colour, "start", words);
     }
 
     /// Title, marks and numbers of a diagram.
@@ -179,24 +151,25 @@ impl Page {
         };
         for value in marks(from, to, step) {
             let (x, y) = panel.at(0.0, value);
-            self.put(format_args!(
+            self.svg.put(format_args!(
                 "<path d=\"M{x} {y:.1}H{RIGHT}\" stroke=\"{PALE}\"/>\n"
             ));
-            self.anchored((x - 8.0, y + 4.0), 12.0, GREY, "end", &grouped(value));
+            self.svg
+                .words((x - 8.0, y + 4.0), 12.0, GREY, "end", grouped(value as i64));
         }
         let (last, every) = panel.hours;
         for hours in marks(0.0, last, every) {
             let (x, y) = panel.at(hours, from);
-            self.put(format_args!(
+            self.svg.put(format_args!(
                 "<path d=\"M{x:.1} {y}v5\" stroke=\"{GREY}\"/>\n"
             ));
             let unit = if hours == last { " h" } else { "" };
-            self.anchored(
+            self.svg.words(
                 (x, y + 19.0),
                 12.0,
                 GREY,
                 "middle",
-                &format!("{hours}{unit}"),
+                format!("{hours}{unit}"),
             );
         }
     }
@@ -215,14 +188,7 @@ impl Page {
             let letter = if path.is_empty() { "M" } else { " " };
             let _ = write!(path, "{letter}{x:.1} {y:.1}");
         }
-        self.put(format_args!(
-            "<path d=\"{path}\" fill=\"none\" stroke=\"{colour}\" stroke-width=\"{width}\" \
-             stroke-linejoin=\"round\"/>\n"
-        ));
-    }
-
-    fn end(mut self) -> String {
-        self.text.push_str("</svg>\n");
-        self.text
+        let round = " stroke-linejoin=\"round\"";
+        self.svg.line(&path, colour, width, round);
     }
 }

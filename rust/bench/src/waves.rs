@@ -1,8 +1,9 @@
 //! How fast a wave may be, by trying: at which wave speed over R a run is refused.
 
 use basin::Parameters;
+use forecast::State;
 
-use crate::dock::Dock;
+use crate::dock::{example, run_on, still, wave_speed_over_r};
 use crate::random::Random;
 
 /// Steps of a run that is tried, the most that one call takes.
@@ -11,7 +12,7 @@ pub const STEPS: u64 = basin::LONGEST_RUN;
 /// A dock that is tried with one R after the other.
 pub struct Trial {
     pub name: String,
-    pub dock: Dock,
+    pub dock: State,
 }
 
 /// The smallest ratio, in thousandths, at which the run is refused, and the
@@ -26,7 +27,7 @@ impl Trial {
     pub fn example(name: &str) -> Self {
         Trial {
             name: format!("examples/{name}.rec"),
-            dock: Dock::example(name),
+            dock: example(name),
         }
     }
 
@@ -36,7 +37,7 @@ impl Trial {
         let (w, n) = size;
         let (g, c, r) = (9_810, 2, 1_000_000);
         let mut random = Random::new();
-        let mut dock = Dock::still(Parameters {
+        let mut dock = still(Parameters {
             w,
             n,
             kind: 2,
@@ -59,9 +60,9 @@ impl Trial {
     /// greatest at the start; all of them where nothing refuses.
     pub fn steps_at(&self, thousandths: i64) -> u64 {
         let mut dock = self.dock.clone();
-        let speed = dock.wave_speed_over_r() * dock.p.r as f64;
-        dock.p.r = (1000.0 * speed / thousandths as f64).round() as i64;
-        let ran = dock.run(STEPS);
+        let speed = wave_speed_over_r(&dock) * dock.parameters.r as f64;
+        dock.parameters.r = (1000.0 * speed / thousandths as f64).round() as i64;
+        let ran = run_on(&mut dock, STEPS);
         ran.unwrap_or_else(|refusal| panic!("{}: {refusal}", self.name))
             .steps
     }

@@ -1,7 +1,7 @@
 //! What the README says of the core's limits stays true.
 
 use basin::Parameters;
-use bench::dock::Dock;
+use bench::dock::{at, example, run_on, still};
 use bench::doubles::{Doubles, Rounding};
 use bench::drift::{rises, swings, Pair, WINDOWS_AN_HOUR};
 use bench::least::{current, current_moves, slope, slope_moves, STEEPEST, WAYS};
@@ -53,7 +53,7 @@ fn flatter_water_stays() {
         let (w, n) = (9, 7);
         let (r, g, c) = (random.between(R.0, R.1), random.between(1_000, G.1), 50);
         let kind = random.to(2) as u8;
-        let mut dock = Dock::still(Parameters {
+        let mut dock = still(Parameters {
             w,
             n,
             kind,
@@ -65,7 +65,7 @@ fn flatter_water_stays() {
             *h = random.between(20_000, 20_000 + slope(r, g) - 1);
         }
         let before = dock.clone();
-        let ran = dock.run(50).expect("within the bounds");
+        let ran = run_on(&mut dock, 50).expect("within the bounds");
         assert_eq!((ran.steps, dock), (50, before));
     }
 }
@@ -75,7 +75,7 @@ fn flatter_water_stays() {
 #[test]
 fn a_pit_may_stay() {
     let (w, n, kind, g, c, r) = (5, 5, 2, 9_810, 0, 39_240);
-    let mut dock = Dock::still(Parameters {
+    let mut dock = still(Parameters {
         w,
         n,
         kind,
@@ -86,10 +86,10 @@ fn a_pit_may_stay() {
     dock.h.fill(12_000);
     dock.h[12] -= slope(r, g);
     let before = dock.clone();
-    assert!(dock.run(1).is_ok());
+    assert!(run_on(&mut dock, 1).is_ok());
     assert_eq!(dock, before);
     dock.h[12] -= 1;
-    assert!(dock.run(1).is_ok());
+    assert!(run_on(&mut dock, 1).is_ok());
     assert_ne!(dock.u, before.u);
 }
 
@@ -117,14 +117,14 @@ fn smallest_current() {
 #[test]
 fn with_all_roundings_the_doubles_are_the_core() {
     for name in ["dock", "channel", "eddies", "jetty"] {
-        let mut dock = Dock::example(name);
+        let mut dock = example(name);
         let mut doubles = Doubles::new(&dock, Rounding::ALL);
         for _ in 0..4 {
-            let ran = dock.run(50);
+            let ran = run_on(&mut dock, 50);
             assert!(matches!(ran, Ok(ran) if ran.steps == 50), "{name}: {ran:?}");
             doubles.run(50);
             for k in 0..dock.h.len() {
-                assert_eq!(dock.at(k), doubles.at(k), "{name}, cell {k}");
+                assert_eq!(at(&dock, k), doubles.at(k), "{name}, cell {k}");
             }
         }
     }
@@ -133,7 +133,7 @@ fn with_all_roundings_the_doubles_are_the_core() {
 /// The README's numbers of the first hour.
 #[test]
 fn an_hour_of_the_example_dock() {
-    let mut pair = Pair::new(Dock::example("dock"), Rounding::NONE);
+    let mut pair = Pair::new(example("dock"), Rounding::NONE);
     let hour: Vec<_> = (0..WINDOWS_AN_HOUR).map(|_| pair.window()).collect();
     let near = |number: f64, said: f64| {
         let range = 0.75 * said..1.3 * said;

@@ -9,7 +9,7 @@
 
 use std::process::ExitCode;
 
-use bench::dock::Dock;
+use bench::dock::example;
 use bench::doubles::Rounding;
 use bench::drift::{rises, swings, Pair, Swing, Window, WINDOWS_AN_HOUR};
 use bench::least::{current, current_moves, slope, slope_moves, smallest, Way, STEEPEST};
@@ -83,7 +83,7 @@ fn currents() {
 
 /// A day of the example dock.
 fn drift() -> Vec<Window> {
-    let mut pair = Pair::new(Dock::example("dock"), Rounding::NONE);
+    let mut pair = Pair::new(example("dock"), Rounding::NONE);
     let day: Vec<Window> = (0..24 * WINDOWS_AN_HOUR).map(|_| pair.window()).collect();
     println!("\nexamples/dock.rec without forcing: the core, the same scheme unrounded, and");
     println!("core less unrounded, each over the ten minutes up to the time; mm/s and mm\n");
@@ -141,7 +141,7 @@ fn causes() {
         ("velocities", only_velocities),
         ("all, as in the core", Rounding::ALL),
     ] {
-        let mut pair = Pair::new(Dock::example("dock"), rounding);
+        let mut pair = Pair::new(example("dock"), rounding);
         let rms: Vec<f64> = (0..12).map(|_| pair.window().doubles.u.rms()).collect();
         println!("{name:<26}{:>8.1}", rms[11]);
     }

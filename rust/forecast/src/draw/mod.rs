@@ -9,7 +9,7 @@ mod json;
 mod page;
 mod panel;
 mod scale;
-mod svg;
+pub mod svg;
 
 use std::fs;
 use std::path::Path;
