@@ -27,7 +27,7 @@ command -v "$forecast" >/dev/null || {
 cd "$1"
 # What a run leaves has a name of this job's own until all is done: one that was killed may still be writing its own.
 next=next.$$
-trap 'rm -f "$next.rec" "$next.csv" "$next.txt"' EXIT
+trap 'rm -f "$next.rec" "$next.csv" "$next.txt" "$next.old"' EXIT
 options=$(cat options) || exit 2
 set -- last.rec "$next.rec" --until "$2" --csv "$next.csv"
 # one that is there and cannot be read is told by the tool
@@ -62,7 +62,7 @@ line=$(awk '/^total depth before/ { before = $4 } /^entered/ { entered = $2 } /^
     /^time/ { time = $5 " " $6 } END { print time, before, "+", entered, "=", after }' "$next.txt")
 {
     { grep -qsxF "$line" totals.log || echo "$line" >>totals.log; } &&
-        mv "$next.csv" gates.csv && mv "$next.txt" run.txt && cp last.rec before.rec &&
+        mv "$next.csv" gates.csv && mv "$next.txt" run.txt && cp last.rec "$next.old" && mv "$next.old" before.rec &&
         # From here on the job is done.
         mv "$next.rec" last.rec
 } || exit 2

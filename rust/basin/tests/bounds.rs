@@ -25,24 +25,23 @@ fn ends(bounds: RangeInclusive<i64>) -> [(i64, bool); 4] {
     ]
 }
 
+const FIELDS: [Field; 7] = [
+    Field::Depth,
+    Field::Bottom,
+    Field::VelocityU,
+    Field::VelocityV,
+    Field::Vorticity,
+    Field::Inflow,
+    Field::Barriers,
+];
+
 /// What a call says of one number in a field of one cell, where all else is good.
 fn with(field: Field, x: i64) -> Result<(), Refusal> {
-    let [mut h, b, mut u, mut v, q, s] = [
-        Field::Depth,
-        Field::Bottom,
-        Field::VelocityU,
-        Field::VelocityV,
-        Field::Vorticity,
-        Field::Inflow,
-    ]
-    .map(|one| {
-        [if one == field {
-            x
-        } else {
-            *one.bounds().start().max(&0)
-        }]
+    let [mut h, b, mut u, mut v, q, s, z] = FIELDS.map(|one| match one == field {
+        true => [x],
+        false => [*one.bounds().start().max(&0)],
     });
-    let barriers = [if field == Field::Barriers { x as u8 } else { 0 }];
+    let barriers = [z[0] as u8];
     if field == Field::Inflow {
         let mut work = [0; 8];
         let ran = run(&P, &mut h, &b, &mut u, &mut v, &barriers, &s, 0, &mut work);
@@ -54,15 +53,7 @@ fn with(field: Field, x: i64) -> Result<(), Refusal> {
 
 #[test]
 fn the_bounds_of_each_field() {
-    for field in [
-        Field::Depth,
-        Field::Bottom,
-        Field::VelocityU,
-        Field::VelocityV,
-        Field::Vorticity,
-        Field::Inflow,
-        Field::Barriers,
-    ] {
+    for field in FIELDS {
         for (x, taken) in ends(field.bounds()) {
             let refused = Err(Refusal::Value { field, cell: 0 });
             // A barrier closes the edges, which are at rest. A byte has no -1: it

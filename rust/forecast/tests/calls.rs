@@ -279,18 +279,23 @@ fn help_is_given() {
     let unknown = tool(&["help", "rnu"]);
     assert_eq!(unknown.status, 2);
     assert!(unknown.trouble.contains("did you mean run?"));
-    // Every option that a page names is one that the command takes.
+}
+
+/// A page names the options that its command takes, and no others.
+#[test]
+fn every_option_is_on_its_page() {
     let record = example("dock.rec");
-    for (command, option) in [
-        ("step", "--inflow"),
-        ("run", "--rivers"),
-        ("draw", "--gate"),
-    ] {
-        let bare = tool(&[command, &record, option]);
-        assert!(
-            bare.trouble.contains(&format!("{option} takes ")),
-            "{option}"
-        );
+    let options = "--text --keep --quiet --steps --until --step-ms --spacing --seconds --every \
+                   --csv --rivers --description --gate --inflow";
+    for command in ["make", "show", "step", "run", "compare", "draw"] {
+        let page = said(&["help", command]);
+        let words = |sign: char| !sign.is_ascii_lowercase() && sign != '-';
+        let named: Vec<&str> = page.split(words).collect();
+        for option in options.split(' ') {
+            let answer = tool(&[command, &record, option]);
+            let taken = !answer.trouble.contains("unknown argument");
+            assert_eq!(named.contains(&option), taken, "{command} {option}");
+        }
     }
 }
 
