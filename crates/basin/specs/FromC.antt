@@ -90,6 +90,6 @@ pub record Rounded (a b entry : ℤ) (k : ℕ) (exit : ℤ) : Type 0 where
 
 -- ---- version
 
--- 0.5.0
+-- 0.6.0
 abbrev pub version : ℕ
 version = 600
