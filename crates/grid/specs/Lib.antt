@@ -7,6 +7,7 @@ pub mod Cells
 pub mod Stencils
 pub mod CellFields
 pub mod Parts
+pub mod Places
 pub mod WritingLoops
 pub mod Banks
 pub mod Scanning

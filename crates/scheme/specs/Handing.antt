@@ -7,7 +7,6 @@ use native.Mathlib.Omega.{arith}
 use lib.Dec.{eqb}
 use lib.IntN.{ℤ, pos}
 use lib.ListN.{length, getD, set, length-set}
-use lib.Seq.{getD-set-same, getD-set-other}
 use mir.Syntax.{w64}
 use borrow.Author.Tests.{eqb-true, eqb-false}
 use Rattle.model.specs.Grid.{previous}
@@ -15,6 +14,7 @@ use Rattle.model.specs.State.{State, closedWest, closedSouth}
 use Rattle.model.specs.Scheme.{toWest, toSouth}
 use Rattle.integers.specs.Bounds.{abs-as, held}
 use Rattle.grid.specs.Cells.{previous-lt, previous-after, previous-only}
+use Rattle.grid.specs.Places.{Each, each-none, each-more, each-past, each-all}
 use Rattle.scheme.specs.Ready.{TendenciesReady}
 use Rattle.scheme.specs.Shares.{eastShareAt, northShareAt}
 use Rattle.scheme.specs.SchemeSizes.{share-held, north-size, fit-in}
@@ -54,34 +54,16 @@ module _ {s : State} {q : List ℤ} {i j : ℕ} {x : ℤ} where
 -- ---- a row
 
 -- places a to e of l have what row j needs of the row to its south
-pub record Handed (s : State) (q : List ℤ) (j a e : ℕ) (l : List ℤ) : Type 0 where
-  pub each : (i : ℕ) → a ≤ i → i < e → FromSouth s q i j (getD l i (pos 0))
+abbrev pub Handed : State → List ℤ → (j a e : ℕ) → List ℤ → Type 0
+Handed s q j a e l = Each (λ i x. FromSouth s q i j x) a e l
 
 -- the first w places have it
 pub record HandedNorth (s : State) (q : List ℤ) (j : ℕ) (l : List ℤ) : Type 0 where
   pub long : s .w ≤ length l
   pub all : Handed s q j 0 (s .w) l
 
-pub handed-none : {s : State} {q : List ℤ} {j : ℕ} {l : List ℤ} → Handed s q j 0 0 l
-handed-none = record { each = λ k a e. absurd (omega arith) }
-
-module _ {s : State} {q : List ℤ} {j i : ℕ} {l : List ℤ} where
-  -- a store at place i
-  pub handed-more : {x : ℤ} → Handed s q j 0 i l → i < length l → FromSouth s q i j x → Handed s q j 0 (i + 1) (set l i x)
-  handed-more {x} h p r = record { each = λ k a e. by k (eqb k i) refl e }
-    where
-      by : (k : ℕ) (here : Bool) → eqb k i ≡ here → k < i + 1 → FromSouth s q k j (getD (set l i x) k (pos 0))
-      by k true z e = subst (λ (k : ℕ). FromSouth s q k j (getD (set l i x) k (pos 0))) (sym (eqb-true k i z)) (subst (FromSouth s q i j) (sym (getD-set-same l i x (pos 0) p)) r)
-      by k false z e = subst (FromSouth s q k j) (sym (getD-set-other l i k x (pos 0) (eqb-false k i z))) (h .each k zero-le (omega (arith, eqb-false k i z)))
-
-  handed-past : (x : ℤ) {e : ℕ} → Handed s q j i e l → Handed s q j (i + 1) e (set l i x)
-  handed-past x h = record { each = λ k a e. subst (FromSouth s q k j) (sym (getD-set-other l i k x (pos 0) (above k a))) (h .each k (omega arith) e) }
-    where
-      above : (k : ℕ) → i + 1 ≤ k → k ≡ i → ⊥
-      above k a z = omega arith
-
-  pub handed-all : Handed s q j 0 i l → s .w ≤ i → s .w ≤ length l → HandedNorth s q j l
-  handed-all h p r = record { long = r; all = record { each = λ k a e. h .each k a (omega arith) } }
+pub handed-all : {s : State} {q : List ℤ} {j i : ℕ} {l : List ℤ} → Handed s q j 0 i l → s .w ≤ i → s .w ≤ length l → HandedNorth s q j l
+handed-all h p r = record { long = r; all = each-all h p }
 
 -- a loop over row j that found l₀ and has passed i columns: there stands what the row to the north needs, and further on what row j does
 pub record Handing (s : State) (q : List ℤ) (j : ℕ) (l₀ : List ℤ) (i : ℕ) (l : List ℤ) : Type 0 where
@@ -91,11 +73,11 @@ pub record Handing (s : State) (q : List ℤ) (j : ℕ) (l₀ : List ℤ) (i : �
 
 module _ {s : State} {q : List ℤ} {j : ℕ} {l₀ : List ℤ} where
   pub handing-none : HandedNorth s q j l₀ → Handing s q j l₀ 0 l₀
-  handing-none h = record { long = refl; given = handed-none; ahead = h .all }
+  handing-none h = record { long = refl; given = each-none; ahead = h .all }
 
   module _ {i : ℕ} {l : List ℤ} (h : Handing s q j l₀ i l) where
     pub handing-more : {x : ℤ} → i < length l → j < s .n → x ≡ northShareAt s q i j → Handing s q j l₀ (i + 1) (set l i x)
-    handing-more {x} p r e = record { long = length-set l i x ∙ h .long; given = handed-more (h .given) p (to-north r e); ahead = handed-past x (h .ahead) }
+    handing-more {x} p r e = record { long = length-set l i x ∙ h .long; given = each-more (h .given) p (to-north r e); ahead = each-past x (h .ahead) }
 
     pub handing-all : s .w ≤ i → s .w ≤ length l₀ → HandedNorth s q (j + 1) l
     handing-all p r = handed-all (h .given) p (omega (arith, h .long))
@@ -105,6 +87,6 @@ module _ {s : State} {q : List ℤ} {j : ℕ} {l₀ : List ℤ} where
     handing-south t p r =
         record {
           share = λ o m.
-              let e = h .ahead .each i (omega arith) p .share o m in
+              let e = h .ahead .at (pos 0) i (omega arith) p .share o m in
               share-held (abs-as e (north-size (fit-in t p (previous-lt (s .n) j (t .state .rows .some))))) ∙ e;
         }

@@ -1,2 +1,2 @@
--- the room of the destinations
-pub mod Rooms
+-- from the tests of a call that fills to its promise; the room of the destinations
+pub mod CallLaws

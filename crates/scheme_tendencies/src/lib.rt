@@ -16,10 +16,9 @@ ghost use Rattle.grid.specs.WritingLoops.{RowWriting};
 ghost use Rattle.scheme.specs.Ready.{VorticityReady, TendenciesReady, walled, walledBefore};
 ghost use Rattle.scheme.specs.Handing.{HandedNorth};
 ghost use Rattle.tests.specs.Links.{after};
-ghost use Rattle.scheme_tendencies.specs.Rooms.{Room};
+ghost use Rattle.scheme_tendencies.specs.CallLaws.{Room};
 use grid::Edge;
 use model::Answer;
-use model::Field;
 use model::Parameters;
 
 // ---- potential vorticity
@@ -180,40 +179,6 @@ fn fill_tendencies(
     grid::clear_barred(dv, 0, barriers, Edge::South);
 }
 
-// Tests 1 to 5 of a state and of q, the potential vorticity lent.
-fn test_vorticity(
-    p: Parameters,
-    h: &[i64],
-    b: &[i64],
-    u: &[i64],
-    v: &[i64],
-    barriers: &[u8],
-    q: &[i64],
-) -> Answer
-    ensures { λ r. ⌜
-        (let s = before p h b u v barriers in
-        r ≡ answerOf (firstFound (stateTests s (taken s Vorticity (now (q .entry)) ∷ []) [] [])))
-        ⌝ }
-{
-    let m = tests::cells_of(p);
-    let grid = tests::then_grid(Answer::Accepted, p);
-    let own = tests::then_lengths(grid, m, h, b, u, v, barriers);
-    let lengths = tests::then_length(own, m, q.len());
-    let constants = tests::then_constants(lengths, p);
-    let fields = tests::then_fields(constants, p, h, b, u, v, barriers);
-    let values = tests::then_field(fields, p, q, Field::Vorticity);
-    tests::then_edges(values, p, u, v, barriers)
-}
-
-// Test 8 of three destinations for m numbers each, by their lengths.
-fn then_rooms(earlier: Answer, m: usize, dh: usize, du: usize, dv: usize) -> Answer
-    ensures { λ r. ⌜ r ≡ after earlier (roomTests m (dh ∷ du ∷ dv ∷ [])) ⌝ }
-{
-    let first = tests::then_room(earlier, m, dh);
-    let second = tests::then_room(first, m, du);
-    tests::then_room(second, m, dv)
-}
-
 // The tendencies of a state with a lent potential vorticity q: -D, Tu and Tv, into the first w·n places of dh, du and dv.
 // Refusals: 1, 2, 3, 4, 5, 8. It rules out, for instance: β's share from the edge's own cell; 8 told before 4; always refusing.
 pub fn tendencies(
@@ -234,8 +199,8 @@ pub fn tendencies(
         ⌝ }
 {
     let m = tests::cells_of(p);
-    let state = test_vorticity(p, h, b, u, v, barriers, q);
-    let answer = then_rooms(state, m, dh.len(), du.len(), dv.len());
+    let state = tests::test_vorticity(p, h, b, u, v, barriers, q);
+    let answer = tests::then_rooms(state, m, dh.len(), du.len(), dv.len());
     let Answer::Accepted = answer else {
         return answer;
     };

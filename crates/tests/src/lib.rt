@@ -13,9 +13,11 @@ ghost use Rattle.model.specs.State.{State, stateOf, lent, before, barrierAt};
 ghost use Rattle.model.specs.Fields.{fieldNumber, limitsOf};
 ghost use Rattle.model.specs.Tests.{asks, firstFound};
 ghost use Rattle.model.specs.Refusals.{taken, fieldsOf, gridKnown, gridTest, runLengthTest, lengthTest, workTest};
-ghost use Rattle.model.specs.Refusals.{constantsWithin, constantsTest, timeTest, valueTest, valueTests, edgeTests, roomTest, stateTests};
+ghost use Rattle.model.specs.Refusals.{constantsWithin, constantsTest, timeTest, valueTest, valueTests, edgeTests, roomTest, roomTests};
+ghost use Rattle.model.specs.Refusals.{stateTests};
 ghost use Rattle.model.specs.Promises.{answerOf};
 ghost use Rattle.model.specs.declared.Answer.the-variants.{Accepted};
+ghost use Rattle.model.specs.declared.Field.the-variants.{Vorticity};
 ghost use Rattle.model.specs.declared.Refusal.the-variants.{Value, ClosedEdge};
 ghost use Rattle.integers.specs.Ranges.{between};
 ghost use Rattle.tests.specs.Sought.{bare, edgesOf, foundBy, answerBy, outsideIn, movingAt, badIn, barriersTest, stillTest};
@@ -415,7 +417,17 @@ pub fn then_room(earlier: Answer, m: usize, room: usize) -> Answer
     then_asks(earlier, m <= room, Refusal::Destination)
 }
 
-// ---- a state alone
+// Test 8 of three destinations for m numbers each, by their lengths. It rules out, for instance: the third
+// untested; one untested where another has room.
+pub fn then_rooms(earlier: Answer, m: usize, dh: usize, du: usize, dv: usize) -> Answer
+    ensures { λ r. ⌜ r ≡ after earlier (roomTests m (dh ∷ du ∷ dv ∷ [])) ⌝ }
+{
+    let first = then_room(earlier, m, dh);
+    let second = then_room(first, m, du);
+    then_room(second, m, dv)
+}
+
+// ---- a state alone, and with a potential vorticity
 
 // Tests 1, 2 and 3 of a state: its grid, the lengths of its fields and its constants. It rules out, for instance: 3 told before 2; a
 // field's length left out.
@@ -450,4 +462,29 @@ pub fn test_state(
     let outline = test_outline(p, h, b, u, v, barriers);
     let values = then_fields(outline, p, h, b, u, v, barriers);
     then_edges(values, p, u, v, barriers)
+}
+
+// The same of a state and of q, the potential vorticity lent. It rules out, for instance: q before the barriers; its length untested.
+pub fn test_vorticity(
+    p: Parameters,
+    h: &[i64],
+    b: &[i64],
+    u: &[i64],
+    v: &[i64],
+    barriers: &[u8],
+    q: &[i64],
+) -> Answer
+    ensures { λ r. ⌜
+        (let s = before p h b u v barriers in
+        r ≡ answerOf (firstFound (stateTests s (taken s Vorticity (now (q .entry)) ∷ []) [] [])))
+        ⌝ }
+{
+    let m = cells_of(p);
+    let grid = then_grid(Answer::Accepted, p);
+    let own = then_lengths(grid, m, h, b, u, v, barriers);
+    let lengths = then_length(own, m, q.len());
+    let constants = then_constants(lengths, p);
+    let fields = then_fields(constants, p, h, b, u, v, barriers);
+    let corners = then_field(fields, p, q, Field::Vorticity);
+    then_edges(corners, p, u, v, barriers)
 }

@@ -7,7 +7,8 @@ use lib.ListN.{length, length-set}
 use mir.Syntax.{w64}
 use Rattle.model.specs.State.{State, stateOf}
 use Rattle.integers.specs.Bounds.{held-is}
-use Rattle.scheme.specs.Handing.{FromSouth, Handed, handed-none, handed-more, handed-all}
+use Rattle.grid.specs.Places.{each-none, each-more}
+use Rattle.scheme.specs.Handing.{FromSouth, Handed, handed-all}
 use Rattle.scheme.proofs.hand_north.Statement.{statement}
 use Rattle.scheme.proofs.hand_north.Tie as tie
 
@@ -29,7 +30,7 @@ loop-again c =
     let s = i .before .before in
     let inv = i .before .loop .inv in
     let x = c .from-south in
-    (handed-more (inv .0) (in-slice i) (subst (FromSouth (state s) (s .args .q .now) (i .before .loop .i) 0) (sym (held-is w64 (x .ok) refl)) (x .ensures)), rw length-set (inv .1))
+    (each-more (inv .0) (in-slice i) (subst (FromSouth (state s) (s .args .q .now) (i .before .loop .i) 0) (sym (held-is w64 (x .ok) refl)) (x .ensures)), rw length-set (inv .1))
 
 pub hand-north-spec : {M : Type 1} → statement M
 hand-north-spec =
@@ -37,7 +38,7 @@ hand-north-spec =
     (tie.spec
     Inv-loop
     μ-loop
-    (λ c. (handed-none, refl))
+    (λ c. (each-none, refl))
     (λ c κs. let s = c .before .before in (s .pre .0, c .loop-test .taken, s .pre .0 .state .rows .some))
     (λ c. omega (arith, c .before .loop-test .taken, c .before .before .before .pre .0 .state .columns .most))
     (λ c. in-slice (c .before))

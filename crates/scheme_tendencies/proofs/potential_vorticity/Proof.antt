@@ -7,13 +7,14 @@ use lib.ListN.{length}
 use borrow.Author.Needs.{needs}
 use Rattle.model.specs.Grid.{filled}
 use Rattle.model.specs.State.{State, stateOf, cells}
+use Rattle.model.specs.Answers.{toldAnswer}
 use Rattle.model.specs.Scheme.{Z, H, vorticityAt, vorticity}
 use Rattle.model.specs.Refusals.{stateTests, roomTests}
 use Rattle.model.specs.Promises.{answerOf, _into_, vorticityTest}
 use Rattle.model.specs.declared.Parameters.{Parameters}
 use Rattle.model.specs.declared.Answer.the-variants.{Accepted}
-use Rattle.tests.specs.Links.{start, counted, passed}
-use Rattle.scheme_tendencies.proofs.CallLaws.{fill-done, fill-refused, vorticity-passed}
+use Rattle.tests.specs.Links.{start, counted, passed, accepted-none, refused-some}
+use Rattle.scheme_tendencies.specs.CallLaws.{fill-done, fill-refused, vorticity-passed}
 use Rattle.scheme_tendencies.proofs.potential_vorticity.Statement.{statement}
 use Rattle.scheme_tendencies.proofs.potential_vorticity.Tie as tie
 
@@ -49,7 +50,8 @@ refused : tie.Need-returns
 refused c =
     let t = c .before .before in
     let b = t .before .before .before .before in
-    fill-refused _ (cells (state b)) (vorticity (state b) into b .args .d .now ∷ []) _ (c .enum-told2 .given .1) (tested t)
+    let h = c .enum-told2 .given .1 in
+    fill-refused answerOf toldAnswer (cells (state b)) (vorticity (state b) into b .args .d .now ∷ []) _ (refused-some _ _ (sym h ∙ tested t)) h
 
 done : tie.Need-returns-2
 done c =
@@ -58,7 +60,7 @@ done c =
     let b = e .before .before .before .before .before .before in
     let a = b .args in
     let m = cells (state b) in
-    fill-done _ m (vorticity (state b) into a .d .now ∷ []) (accepted e)
+    fill-done answerOf toldAnswer m (vorticity (state b) into a .d .now ∷ []) (accepted-none _ (accepted e)) refl
     (ap (λ l. l ∷ []) (f .fill-vorticity .ensures ∙ ap (λ l. filled m l (a .d .now)) (bottomless (a .p) (a .h .now) (a .b .now) (a .u .now) (a .v .now) (a .barriers .now))))
 
 pub potential-vorticity-spec : {M : Type 1} → statement M

@@ -1,21 +1,27 @@
 -- `scheme_tendencies::tendencies` meets its contract. Assumes nothing.
-use mathlib.Core.Path.{_≡_, sym, _∙_}
-use mathlib.Core.List.{[], _∷_}
+use mathlib.Core.Path.{_≡_, refl, sym, _∙_}
+use mathlib.Core.List.{List, [], _∷_}
+use lib.IntN.{ℤ}
 use lib.ListN.{length}
 use borrow.Author.Needs.{needs}
 use Rattle.model.specs.State.{State, stateOf, cells}
+use Rattle.model.specs.Answers.{toldAnswer}
 use Rattle.model.specs.Refusals.{taken, stateTests, roomTests}
 use Rattle.model.specs.declared.Field.the-variants.{Vorticity}
 use Rattle.model.specs.Scheme.{hTendencies, uTendencies, vTendencies}
-use Rattle.model.specs.Promises.{answerOf, _into_, tendenciesTest}
+use Rattle.model.specs.Promises.{answerOf, Filling, _into_, tendenciesTest}
 use Rattle.model.specs.declared.Answer.the-variants.{Accepted}
-use Rattle.tests.specs.Links.{start, counted, passed}
-use Rattle.scheme_tendencies.proofs.CallLaws.{fill-done, fill-refused, tendencies-passed}
+use Rattle.tests.specs.Links.{start, counted, passed, accepted-none, refused-some}
+use Rattle.scheme_tendencies.specs.CallLaws.{fill-done, fill-refused, tendencies-passed}
 use Rattle.scheme_tendencies.proofs.tendencies.Statement.{statement}
 use Rattle.scheme_tendencies.proofs.tendencies.Tie as tie
 
 abbrev state : tie.Start → State
 state c = let a = c .args in stateOf (a .p) (a .h .now) (a .b .now) (a .u .now) (a .v .now) (a .barriers .now)
+
+-- what belongs into the destinations, and what they hold before
+abbrev fillings : tie.Start → List (Filling ℤ)
+fillings c = let a = c .args in hTendencies (state c) into a .dh .now ∷ uTendencies (state c) (a .q .now) into a .du .now ∷ vTendencies (state c) (a .q .now) into a .dv .now ∷ []
 
 -- what the tests have found, once all are made
 tested : (c : tie.After-then-rooms)
@@ -46,19 +52,18 @@ refused : tie.Need-returns
 refused c =
     let t = c .before .before in
     let b = t .before .before .before .before in
-    let a = b .args in
     let s = state b in
-    fill-refused _ (cells s) (hTendencies s into a .dh .now ∷ uTendencies s (a .q .now) into a .du .now ∷ vTendencies s (a .q .now) into a .dv .now ∷ []) _ (c .enum-told2 .given .1) (tested t)
+    let h = c .enum-told2 .given .1 in
+    fill-refused answerOf toldAnswer (cells s) (fillings b) _ (refused-some _ _ (sym h ∙ tested t)) h
 
 done : tie.Need-returns-2
 done c =
     let f = c .before .before .before in
     let e = f .before .before .before .before in
     let b = e .before .before .before .before .before .before in
-    let a = b .args in
     let s = state b in
     let l = f .fill-tendencies .ensures in
-    fill-done _ (cells s) (hTendencies s into a .dh .now ∷ uTendencies s (a .q .now) into a .du .now ∷ vTendencies s (a .q .now) into a .dv .now ∷ []) (accepted e) (λ i. l .0 i ∷ l .1 i ∷ l .2 i ∷ [])
+    fill-done answerOf toldAnswer (cells s) (fillings b) (accepted-none _ (accepted e)) refl (λ i. l .0 i ∷ l .1 i ∷ l .2 i ∷ [])
 
 pub tendencies-spec : {M : Type 1} → statement M
 tendencies-spec =

@@ -1,4 +1,4 @@
--- `scheme_tendencies::test_vorticity` meets its contract: link by link, the chain is the model's list. Assumes nothing.
+-- `tests::test_vorticity` meets its contract: link by link, the chain is the model's list. Assumes nothing.
 use mathlib.Core.List.{List, [], _∷_, _++_}
 use lib.Dec.{eqb→eq}
 use lib.ListN.{length}
@@ -10,9 +10,9 @@ use Rattle.model.specs.declared.Answer.the-variants.{Accepted}
 use Rattle.model.specs.declared.Field.the-variants.{Vorticity}
 use Rattle.model.specs.declared.Refusal.{Refusal}
 use Rattle.model.specs.declared.Refusal.the-variants.{Value}
 use Rattle.tests.specs.Links.{Chain, start, more, counted, passed, ownLengths, fields-long-after}
-use Rattle.scheme_tendencies.proofs.test_vorticity.Statement.{statement}
-use Rattle.scheme_tendencies.proofs.test_vorticity.Tie as tie
+use Rattle.tests.proofs.test_vorticity.Statement.{statement}
+use Rattle.tests.proofs.test_vorticity.Tie as tie
 
 abbrev state : tie.Start → State
 state c = let a = c .args in stateOf (a .p) (a .h .now) (a .b .now) (a .u .now) (a .v .now) (a .barriers .now)

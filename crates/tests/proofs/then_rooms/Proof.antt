@@ -1,10 +1,10 @@
--- `scheme_tendencies::then_rooms` meets its contract. Assumes nothing.
+-- `tests::then_rooms` meets its contract. Assumes nothing.
 use mathlib.Core.List.{[], _∷_}
 use borrow.Author.Needs.{needs}
 use Rattle.model.specs.Refusals.{roomTests}
 use Rattle.tests.specs.Links.{start, more}
-use Rattle.scheme_tendencies.proofs.then_rooms.Statement.{statement}
-use Rattle.scheme_tendencies.proofs.then_rooms.Tie as tie
+use Rattle.tests.proofs.then_rooms.Statement.{statement}
+use Rattle.tests.proofs.then_rooms.Tie as tie
 
 returns : tie.Need-returns
 returns c =
