@@ -43,6 +43,9 @@ module _ {A : Type 0} where
   pub drop-filled : (m : ℕ) (l d : List A) → length l ≡ m → drop m (filled m l d) ≡ drop m d
   drop-filled m l d e = drop-at l (drop m d) m e
 
+  pub getD-filled : (m : ℕ) (l d : List A) (k : ℕ) (z : A) → length l ≡ m → k < m → getD (filled m l d) k z ≡ getD l k z
+  getD-filled m l d k z e h = List·getD-append l (drop m d) z k (rw e h)
+
   -- a field of any elements, filled cell by cell
   pub length-byCell : (w n : ℕ) (f : ℕ → ℕ → A) → length (byCell w n f) ≡ w * n
   unfolding byCell
@@ -59,10 +62,6 @@ getD-byCell w n f k l = any-byCell w n f k (pos 0) l
 pub at-byCell : (w n : ℕ) (f : ℕ → ℕ → ℤ) (i j : ℕ) → i < w → j < n → at w (byCell w n f) i j ≡ f i j
 at-byCell w n f i j p q =
     getD-byCell w n f (j * w + i) (cell-lt p q) ∙ by-index f j p
-
--- the first places of a list are what stands there in a longer one
-pub at-filled : (w n : ℕ) (l d : List ℤ) (i j : ℕ) → length l ≡ w * n → i < w → j < n → at w (filled (w * n) l d) i j ≡ at w l i j
-at-filled w n l d i j e p q = List·getD-append l (drop (w * n) d) (pos 0) (j * w + i) (rw e (cell-lt p q))
 
 -- an index has its row
 pub row-lt : {w n k : ℕ} → 0 < w → k < w * n → k / w < n

@@ -7,7 +7,7 @@ use mathlib.Core.List.{List, [], _∷_}
 use Prim.Native.Nat.{ℕ, zero, suc, _+_, _-_, _*_, _^_, _<_, _≤_, max, zero-le}
 use native.Mathlib.Nat.{le-refl, le-trans, le-of-eq, le-suc, lt-of-le-of-lt, mul-le-mul, add-le-add}
 use native.Mathlib.Omega.{arith}
-use lib.Dec.{T, leb, leb→le, ltb, ltb→lt, eqb}
+use lib.Dec.{T, leb, leb→le, le→leb, ltb, ltb→lt, eqb}
 use lib.ListN.{getD}
 use lib.Signed.{mag, nonNeg, _≤ℤ_}
 use lib.IntN.{ℤ, pos, negsuc, negℤ, natAbs, _+ℤ_, _-ℤ_, _*ℤ_}
@@ -15,7 +15,7 @@ use borrow.Author.Tests.{ne-eqb}
 use mir.Syntax.{Width, w64}
 use mir.Val.{Fits, SFits, hbits, toZ, ofZ}
 use mir.Facts.{toZ-ofZ}
-use Rattle.model.specs.Numbers.{Limits, Within, eqℤ}
+use Rattle.model.specs.Numbers.{Limits, _to_, Within, eqℤ}
 use Rattle.integers.specs.Laws.{abs-neg, abs-add, abs-mul}
 use Rattle.integers.specs.Ring.{Expr, var, con, _⊕_, _⊖_, _⊗_, den, _and_, and-l, and-r}
 
@@ -60,7 +60,7 @@ below w A (a ⊕ b) = small w A (a ⊕ b) and below w A a and below w A b
 below w A (a ⊖ b) = small w A (a ⊖ b) and below w A a and below w A b
 below w A (a ⊗ b) = small w A (a ⊗ b) and below w A a and below w A b
 
-split : (a b c : Bool) → T (a and b and c) → T a × T b × T c
+pub split : (a b c : Bool) → T (a and b and c) → T a × T b × T c
 split a b c t = (and-l a (b and c) t, and-l b c (and-r a (b and c) t), and-r b c (and-r a (b and c) t))
 
 mag-le : (x : ℤ) → mag x ≤ natAbs x
@@ -123,7 +123,7 @@ valued zs n = getD zs n (pos 0)
 abbrev pub sized : List ℕ → ℕ → ℕ
 sized bs n = getD bs n 0
 
-each : {zs : List ℤ} {bs : List ℕ} → Sizes zs bs → (n : ℕ) → natAbs (valued zs n) ≤ sized bs n
+pub each : {zs : List ℤ} {bs : List ℕ} → Sizes zs bs → (n : ℕ) → natAbs (valued zs n) ≤ sized bs n
 each ∎ n = zero-le
 each (p ◂ ps) zero = p .abs
 each (p ◂ ps) (suc n) = each ps n
@@ -151,6 +151,11 @@ abs-between (negsuc a) hi (negsuc n) p q = omega (arith, leb→le n a (p .le))
 
 pub abs-within : {l : Limits} {z : ℤ} {b : ℕ} → Within l z → T (leb (max (natAbs (l .least)) (natAbs (l .most))) b) → Abs z b
 abs-within {l} {z} {b} p t = record { abs = le-trans (abs-between (l .least) (l .most) z (p .low) (p .high)) (leb→le (max (natAbs (l .least)) (natAbs (l .most))) b t) }
+
+-- and the other way round, where they are the same from 0
+pub within-abs : (k : ℕ) (x : ℤ) → natAbs x ≤ suc k → Within (negℤ (pos (suc k)) to pos (suc k)) x
+within-abs k (pos n) h = record { low = record { le = tt }; high = record { le = le→leb n (suc k) h } }
+within-abs k (negsuc n) h = record { low = record { le = le→leb n k (omega arith) }; high = record { le = tt } }
 
 -- a number that is another has its size
 pub abs-as : {x y : ℤ} {b : ℕ} → x ≡ y → Abs y b → Abs x b

@@ -4,10 +4,13 @@ use mathlib.Core.List.{List, [], _∷_, _++_, map}
 use Prim.Native.Nat.{ℕ}
 use lib.IntN.{ℤ, pos}
 use lib.ListN.{getD, drop}
+use lib.Ieee.{Float}
 use Rattle.model.specs.Fields.{fieldNumber}
 use Rattle.model.specs.declared.Refusal.{Refusal}
-use Rattle.model.specs.declared.Refusal.the-variants.{Grid, Lengths, Constants, Value, ClosedEdge, Record, Destination, Milliseconds}
+use Rattle.model.specs.declared.Refusal.the-variants.{Grid, Lengths, Constants, Value, ClosedEdge, Record, Destination, Milliseconds, NoSuchCell}
 use Rattle.model.specs.declared.Answer.{Answer}
+use Rattle.model.specs.declared.ProbeAnswer.{ProbeAnswer}
+use Rattle.model.specs.declared.ProbeGridAnswer.{ProbeGridAnswer}
 use Rattle.model.specs.declared.StepAnswer.{StepAnswer}
 use Rattle.model.specs.declared.RunAnswer.{RunAnswer}
 use Rattle.model.specs.declared.TotalAnswer.{TotalAnswer}
@@ -15,6 +18,8 @@ use Rattle.model.specs.declared.WriteAnswer.{WriteAnswer}
 use Rattle.model.specs.declared.ReadAnswer.{ReadAnswer}
 use Rattle.model.specs.declared.CompareAnswer.{CompareAnswer}
 use Rattle.model.specs.declared.Answer.the-variants as Answer
+use Rattle.model.specs.declared.ProbeAnswer.the-variants as ProbeAnswer
+use Rattle.model.specs.declared.ProbeGridAnswer.the-variants as ProbeGridAnswer
 use Rattle.model.specs.declared.StepAnswer.the-variants as StepAnswer
 use Rattle.model.specs.declared.RunAnswer.the-variants as RunAnswer
 use Rattle.model.specs.declared.TotalAnswer.the-variants as TotalAnswer
@@ -33,6 +38,7 @@ refusalNumbers (ClosedEdge f k) = 5 ∷ fieldNumber f ∷ k ∷ []
 refusalNumbers (Record k) = 7 ∷ k ∷ []
 refusalNumbers Destination = 8 ∷ []
 refusalNumbers Milliseconds = 9 ∷ []
+refusalNumbers NoSuchCell = 10 ∷ []
 
 abbrev pub number : Refusal → ℕ
 number r = getD (refusalNumbers r) 0 0
@@ -56,6 +62,28 @@ answerNumbers (Answer.Refused r) = refusalNumbers r
 
 abbrev pub toldAnswer : Answer → List ℤ
 toldAnswer a = whole (answerNumbers a)
+
+-- of a probe: after the 0, 0 for exact and 1 for near. Its doubles stand beside the numbers
+abbrev pub probeNumbers : ProbeAnswer → List ℕ
+probeNumbers (ProbeAnswer.Exact a b c) = 0 ∷ 0 ∷ []
+probeNumbers (ProbeAnswer.Near a b c) = 0 ∷ 1 ∷ []
+probeNumbers (ProbeAnswer.Refused r) = refusalNumbers r
+
+abbrev pub doublesIn : ProbeAnswer → List Float
+doublesIn (ProbeAnswer.Exact a b c) = a ∷ b ∷ c ∷ []
+doublesIn (ProbeAnswer.Near a b c) = a ∷ b ∷ c ∷ []
+doublesIn (ProbeAnswer.Refused r) = []
+
+abbrev pub toldProbe : ProbeAnswer → List ℤ × List Float
+toldProbe a = (whole (probeNumbers a), doublesIn a)
+
+abbrev pub probeGridNumbers : ProbeGridAnswer → List ℕ
+probeGridNumbers ProbeGridAnswer.Exact = 0 ∷ 0 ∷ []
+probeGridNumbers ProbeGridAnswer.Near = 0 ∷ 1 ∷ []
+probeGridNumbers (ProbeGridAnswer.Refused r) = refusalNumbers r
+
+abbrev pub toldProbeGrid : ProbeGridAnswer → List ℤ
+toldProbeGrid a = whole (probeGridNumbers a)
 
 -- refusal 6: pass, field, cell
 abbrev pub stepNumbers : StepAnswer → List ℕ

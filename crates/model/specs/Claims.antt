@@ -9,6 +9,7 @@ use lib.Dec.{T}
 use lib.IntN.{ℤ, pos, negℤ, natAbs, _+ℤ_, _-ℤ_, _*ℤ_}
 use lib.ListN.{length, getD, take, drop, replicate}
 use lib.Signed.{_≤ℤ_}
+use lib.Ieee.{Float, nan}
 use Rattle.model.specs.Numbers.{rnd, vorticityLimits, inflowLimits, longestRun, mostMilliseconds, tendencyScale, divergenceScale}
 use Rattle.model.specs.Grid.{at, byCell, firstFrom}
 use Rattle.model.specs.State.{State, Fields, stateFrom, parametersOf, withFlow, cells, WithinLimits, FieldWithin, OpenEverywhere}
@@ -16,12 +17,13 @@ use Rattle.model.specs.Answers.{number}
 use Rattle.model.specs.Tests.{Test, asks, seeks, firstFound}
 use Rattle.model.specs.Refusals.{Taken, workLength, stateTests, callTests}
 use Rattle.model.specs.Scheme.{vorticityAt, vorticity, D, tendencyU, tendencyV}
+use Rattle.model.specs.Doubles.{IsWhole, IsNear}
 use Rattle.model.specs.Rates.{energyRate, enstrophyRate}
 use Rattle.model.specs.Totals.{totalDepth, energy4}
 use Rattle.model.specs.Step.{Place, place, pass, leaves, moved, stuck, twoPass, stepTests, stepTest, runTests, stepAnswer, cleared, workLeft}
 use Rattle.model.specs.Record.{bytes, Part, joined, valueOf, tagAt, sizeAt, partAt, stateIn, timestampIn, recordLength, rising, restored, kept, recordTests, decode, accepted, refused}
 use Rattle.model.specs.Program.{programCells, programWork, outputRoom, programOutput}
-use Rattle.model.specs.Promises.{Filling, Fills, vorticityTests, tendenciesTests, totalTests, writeTests, VorticityPromise, TendenciesPromise, StepPromise, RunPromise, TotalDepthPromise, TotalEnergyPromise, WritePromise, roomsIn, put, ReadPromise, ComparePromise}
+use Rattle.model.specs.Promises.{Filling, Fills, vorticityTests, tendenciesTests, probeTests, totalTests, writeTests, VorticityPromise, TendenciesPromise, ProbePromise, ProbeGridPromise, StepPromise, RunPromise, TotalDepthPromise, TotalEnergyPromise, WritePromise, roomsIn, put, ReadPromise, ComparePromise}
 use Rattle.model.specs.Histories.{Call, step, History, inflowDue, runCount}
 use Rattle.model.specs.declared.Parameters.{Parameters}
 use Rattle.model.specs.declared.Timestamp.{Timestamp}
@@ -29,6 +31,8 @@ use Rattle.model.specs.declared.Field.{Field}
 use Rattle.model.specs.declared.Refusal.{Refusal}
 use Rattle.model.specs.declared.Refusal.the-variants.{Record}
 use Rattle.model.specs.declared.Answer.{Answer}
+use Rattle.model.specs.declared.ProbeAnswer.{ProbeAnswer}
+use Rattle.model.specs.declared.ProbeGridAnswer.{ProbeGridAnswer}
 use Rattle.model.specs.declared.StepAnswer.{StepAnswer}
 use Rattle.model.specs.declared.RunAnswer.{RunAnswer}
 use Rattle.model.specs.declared.TotalAnswer.{TotalAnswer}
@@ -36,6 +40,8 @@ use Rattle.model.specs.declared.WriteAnswer.{WriteAnswer}
 use Rattle.model.specs.declared.ReadAnswer.{ReadAnswer}
 use Rattle.model.specs.declared.CompareAnswer.{CompareAnswer}
 use Rattle.model.specs.declared.Answer.the-variants as Answer
+use Rattle.model.specs.declared.ProbeAnswer.the-variants as ProbeAnswer
+use Rattle.model.specs.declared.ProbeGridAnswer.the-variants as ProbeGridAnswer
 use Rattle.model.specs.declared.StepAnswer.the-variants as StepAnswer
 use Rattle.model.specs.declared.RunAnswer.the-variants as RunAnswer
 use Rattle.model.specs.declared.TotalAnswer.the-variants as TotalAnswer
@@ -109,6 +115,10 @@ pub record CausesClaim : Type 0 where
       → VorticityPromise s d (Answer.Refused r) d′ ↔ (Cause (vorticityTests s (length d)) r × (d′ ≡ d))
   pub tendencies : (s : State) (q dh du dv dh′ du′ dv′ : List ℤ) (r : Refusal)
       → TendenciesPromise s q dh du dv (Answer.Refused r) dh′ du′ dv′
+      ↔ (Cause (tendenciesTests s q (length dh) (length du) (length dv)) r × (dh′ ≡ dh) × (du′ ≡ du) × (dv′ ≡ dv))
+  pub probe : (s : State) (q : List ℤ) (k : ℕ) (r : Refusal) → ProbePromise s q k (ProbeAnswer.Refused r) ↔ Cause (probeTests s q k) r
+  pub probe-grid : (s : State) (q : List ℤ) (dh du dv dh′ du′ dv′ : List Float) (r : Refusal)
+      → ProbeGridPromise s q dh du dv (ProbeGridAnswer.Refused r) dh′ du′ dv′
       ↔ (Cause (tendenciesTests s q (length dh) (length du) (length dv)) r × (dh′ ≡ dh) × (du′ ≡ du) × (dv′ ≡ dv))
   pub write : (s : State) (t : Timestamp) (d d′ : List ℕ) (r : Refusal)
       → WritePromise s t d (WriteAnswer.Refused r) d′ ↔ (Cause (writeTests s t (length d)) r × (d′ ≡ d))
@@ -210,6 +220,8 @@ FillMet B A = (by : Option Refusal → B) (tell : B → List ℤ) (test : Option
 
 pub record MetClaim : Type 0 where
   pub fill : FillMet Answer ℤ
+  pub probe-grid : FillMet ProbeGridAnswer Float
+  pub probe : (s : State) (q : List ℤ) (k : ℕ) → (a : ProbeAnswer) × ProbePromise s q k a
   pub write : FillMet WriteAnswer ℕ
   pub step : (s : State) (inflow work : List ℤ) → (a : StepAnswer) × (s′ : State) × (work′ : List ℤ) × StepPromise s inflow work a s′ work′
   pub run : (s : State) (inflow : List ℤ) (m : ℕ) (work : List ℤ)
@@ -228,6 +240,8 @@ FillFixed B A = (by : Option Refusal → B) (tell : B → List ℤ) (test : Opti
 
 pub record FixedClaim : Type 0 where
   pub fill : FillFixed Answer ℤ
+  pub probe-grid : FillFixed ProbeGridAnswer Float
+  pub probe : (s : State) (q : List ℤ) (k : ℕ) (a b : ProbeAnswer) → ProbePromise s q k a → ProbePromise s q k b → a ≡ b
   pub write : FillFixed WriteAnswer ℕ
   pub step : (s x y : State) (inflow work k l : List ℤ) (a b : StepAnswer) → StepPromise s inflow work a x k
       → StepPromise s inflow work b y l → (a ≡ b) × (x ≡ y) × (k ≡ l)
@@ -251,6 +265,7 @@ FillRefused B A = (by : Option Refusal → B) (tell : B → List ℤ) (test : Op
 
 pub record RefusedClaim : Type 0 where
   pub fill : FillRefused Answer ℤ
+  pub probe-grid : FillRefused ProbeGridAnswer Float
   pub write : FillRefused WriteAnswer ℕ
   pub step : (s s′ : State) (inflow work work′ : List ℤ) (r : Refusal) → StepPromise s inflow work (StepAnswer.Refused r) s′ work′ → s′ ≡ s
   pub step-6 : (s s′ : State) (inflow work work′ : List ℤ) (p k : ℕ) (f : Field)
@@ -312,7 +327,79 @@ TendenciesClaim = (s : State) (q dh du dv dh′ du′ dv′ : List ℤ) → Tend
     → Holds s dh′ (λ i j. negℤ (D s i j)) × Holds s du′ (tendencyU s q) × Holds s dv′ (tendencyV s q)
     × (drop (cells s) dh′ ≡ drop (cells s) dh) × (drop (cells s) du′ ≡ drop (cells s) du) × (drop (cells s) dv′ ≡ drop (cells s) dv)
 
--- a pass moves the velocities of its base by what the two calls above fill in for the state that it is given: its own q, and the
+-- ---- the same in doubles (02, U3)
+
+-- a grid is narrow: every h and b is at most 10,000, every velocity within 500 and every q within 1,000,000
+pub record Narrow (s : State) (q : List ℤ) : Type 0 where
+  pub depths : (k : ℕ) → k < cells s → getD (s .h) k (pos 0) ≤ℤ pos 10000
+  pub bottoms : (k : ℕ) → k < cells s → getD (s .b) k (pos 0) ≤ℤ pos 10000
+  pub us : (k : ℕ) → k < cells s → natAbs (getD (s .u) k (pos 0)) ≤ 500
+  pub vs : (k : ℕ) → k < cells s → natAbs (getD (s .v) k (pos 0)) ≤ 500
+  pub corners : (k : ℕ) → k < cells s → natAbs (getD q k (pos 0)) ≤ 1000000
+
+-- what a probe takes, with nothing wrong
+abbrev pub ProbeTaken : State → List ℤ → Type 0
+ProbeTaken s q = WithinLimits s × FieldWithin vorticityLimits (cells s) q
+
+-- three doubles, and the whole numbers that the tendency call has filled in at index k: -D is the same; Tu and Tv too, or they are whole
+-- numbers at most 64 away
+pub record Equal (k : ℕ) (a b c : Float) (dh du dv : List ℤ) : Type 0 where
+  pub h : IsWhole a (getD dh k (pos 0))
+  pub u : IsWhole b (getD du k (pos 0))
+  pub v : IsWhole c (getD dv k (pos 0))
+
+pub record Close (k : ℕ) (a b c : Float) (dh du dv : List ℤ) : Type 0 where
+  pub h : IsWhole a (getD dh k (pos 0))
+  pub u : IsNear 64 b (getD du k (pos 0))
+  pub v : IsNear 64 c (getD dv k (pos 0))
+
+-- the probe marks its doubles exact where all is taken and narrow, near where all is taken and not narrow, and nowhere else; against the
+-- tendency call on the same state and q, exact ones are equal and near ones close
+pub record ProbeClaim : Type 0 where
+  pub exact : (s : State) (q : List ℤ) (k : ℕ) (answer : ProbeAnswer) → ProbePromise s q k answer
+      → ((a : Float) × (b : Float) × (c : Float) × (answer ≡ ProbeAnswer.Exact a b c)) ↔ (ProbeTaken s q × (k < cells s) × Narrow s q)
+  pub near : (s : State) (q : List ℤ) (k : ℕ) (answer : ProbeAnswer) → ProbePromise s q k answer
+      → ((a : Float) × (b : Float) × (c : Float) × (answer ≡ ProbeAnswer.Near a b c))
+      ↔ (ProbeTaken s q × (k < cells s) × (Narrow s q → ⊥))
+  pub equal : (s : State) (q dh du dv dh′ du′ dv′ : List ℤ) (k : ℕ) (a b c : Float) → ProbePromise s q k (ProbeAnswer.Exact a b c)
+      → TendenciesPromise s q dh du dv Answer.Accepted dh′ du′ dv′
+      → Equal k a b c dh′ du′ dv′
+  pub close : (s : State) (q dh du dv dh′ du′ dv′ : List ℤ) (k : ℕ) (a b c : Float) → ProbePromise s q k (ProbeAnswer.Near a b c)
+      → TendenciesPromise s q dh du dv Answer.Accepted dh′ du′ dv′
+      → Close k a b c dh′ du′ dv′
+
+-- destinations of doubles: w·n places in each
+abbrev pub DoublesRoom : State → (dh du dv : List Float) → Type 0
+DoublesRoom s dh du dv = (cells s ≤ length dh) × (cells s ≤ length du) × (cells s ≤ length dv)
+
+-- the same of the grid, at every cell; at each cell it fills in what the probe of that cell answers, and the places past them keep their
+-- values
+pub record ProbeGridClaim : Type 0 where
+  pub exact : (s : State) (q : List ℤ) (dh du dv dh′ du′ dv′ : List Float) (answer : ProbeGridAnswer)
+      → ProbeGridPromise s q dh du dv answer dh′ du′ dv′
+      → (answer ≡ ProbeGridAnswer.Exact) ↔ (ProbeTaken s q × DoublesRoom s dh du dv × Narrow s q)
+  pub near : (s : State) (q : List ℤ) (dh du dv dh′ du′ dv′ : List Float) (answer : ProbeGridAnswer)
+      → ProbeGridPromise s q dh du dv answer dh′ du′ dv′
+      → (answer ≡ ProbeGridAnswer.Near) ↔ (ProbeTaken s q × DoublesRoom s dh du dv × (Narrow s q → ⊥))
+  pub exact-cell : (s : State) (q : List ℤ) (dh du dv dh′ du′ dv′ : List Float) (k : ℕ) → k < cells s
+      → ProbeGridPromise s q dh du dv ProbeGridAnswer.Exact dh′ du′ dv′
+      → ProbePromise s q k (ProbeAnswer.Exact (getD dh′ k nan) (getD du′ k nan) (getD dv′ k nan))
+  pub near-cell : (s : State) (q : List ℤ) (dh du dv dh′ du′ dv′ : List Float) (k : ℕ) → k < cells s
+      → ProbeGridPromise s q dh du dv ProbeGridAnswer.Near dh′ du′ dv′
+      → ProbePromise s q k (ProbeAnswer.Near (getD dh′ k nan) (getD du′ k nan) (getD dv′ k nan))
+  pub rest : (s : State) (q : List ℤ) (dh du dv dh′ du′ dv′ : List Float) (answer : ProbeGridAnswer)
+      → ProbeGridPromise s q dh du dv answer dh′ du′ dv′
+      → (drop (cells s) dh′ ≡ drop (cells s) dh) × (drop (cells s) du′ ≡ drop (cells s) du) × (drop (cells s) dv′ ≡ drop (cells s) dv)
+  pub equal : (s : State) (q th tu tv th′ tu′ tv′ : List ℤ) (dh du dv dh′ du′ dv′ : List Float) (k : ℕ) → k < cells s
+      → ProbeGridPromise s q dh du dv ProbeGridAnswer.Exact dh′ du′ dv′
+      → TendenciesPromise s q th tu tv Answer.Accepted th′ tu′ tv′
+      → Equal k (getD dh′ k nan) (getD du′ k nan) (getD dv′ k nan) th′ tu′ tv′
+  pub close : (s : State) (q th tu tv th′ tu′ tv′ : List ℤ) (dh du dv dh′ du′ dv′ : List Float) (k : ℕ) → k < cells s
+      → ProbeGridPromise s q dh du dv ProbeGridAnswer.Near dh′ du′ dv′
+      → TendenciesPromise s q th tu tv Answer.Accepted th′ tu′ tv′
+      → Close k (getD dh′ k nan) (getD du′ k nan) (getD dv′ k nan) th′ tu′ tv′
+
+-- a pass moves the velocities of its base by what the calls of potential vorticity and tendencies fill in for the state that it is given: its own q, and the
 -- tendencies with that q
 pub record Given (s : State) (du dv : List ℤ) : Type 0 where
   pub d : List ℤ

@@ -1,22 +1,25 @@
 -- Worked examples (01: soundings), as one table that the checker computes from the definitions.
 use mathlib.Core.Bool.{Bool, _&&_}
-use mathlib.Core.List.{List, [], _∷_, _++_}
+use mathlib.Core.List.{List, [], _∷_, _++_, map}
 use Prim.Native.Nat.{ℕ}
 use Prim.Native.String.{String}
 use lib.Dec.{T, eqb}
 use lib.IntN.{ℤ, pos, negℤ}
 use lib.ListN.{length, take, drop, replicate}
+use lib.Ieee as Ieee
+use lib.Ieee.{Float, binary64, toBits}
 use Rattle.model.specs.Numbers.{rnd, eqℤ, sameBy, all}
 use Rattle.model.specs.Grid.{filled}
 use Rattle.model.specs.State.{State, Fields, withFlow, cells}
-use Rattle.model.specs.Answers.{toldAnswer, toldStep, toldRun, toldTotal, toldWrite, toldRead, toldCompare}
+use Rattle.model.specs.Answers.{toldAnswer, toldProbe, toldProbeGrid, toldStep, toldRun, toldTotal, toldWrite, toldRead, toldCompare}
 use Rattle.model.specs.Scheme.{vorticity, hTendencies, uTendencies, vTendencies}
+use Rattle.model.specs.Doubles.{double, narrow, hDoubles, uDoubles, vDoubles}
 use Rattle.model.specs.Rates.{energyRate, enstrophyRate}
 use Rattle.model.specs.Totals.{totalDepth, energy4}
 use Rattle.model.specs.Step.{stepTest, stepAnswer, stepState, Ran, runTest, runOf, workLeft}
 use Rattle.model.specs.Record.{bytes, Decoded, sameState, encode, recordLength, restored, kept, compareAnswer}
 use Rattle.model.specs.Program.{text, programOutput}
-use Rattle.model.specs.Promises.{answerOf, leftBy, totalTest, totalAnswer, writeAnswer, readAnswer, readInto, vorticityTest, tendenciesTest, writeTest, readOf}
+use Rattle.model.specs.Promises.{answerOf, leftBy, probeOf, probeGridAnswer, totalTest, totalAnswer, writeAnswer, readAnswer, readInto, vorticityTest, tendenciesTest, writeTest, readOf}
 use Rattle.model.specs.declared.Timestamp.{Timestamp}
 use Rattle.model.specs.Opened.{everything}
 
@@ -26,6 +29,9 @@ pub data Example : Type 0 where
   rounds : (a b r : ℤ) → Example
   vorticities : State → (d : List ℤ) → (answer d′ : List ℤ) → Example
   tends : State → (q dh du dv : List ℤ) → (answer dh′ du′ dv′ : List ℤ) → Example
+  probes : State → (q : List ℤ) (k : ℕ) → (answer doubles : List ℤ) (bits : List ℕ) → Example
+  marks : State → (q : List ℤ) (k : ℕ) → (answer : List ℤ) → Example
+  probesGrid : State → (q dh du dv : List ℤ) → (answer : List ℤ) (dh′ du′ dv′ : List ℕ) → Example
   rates : State → (q dh du dv : List ℤ) → (energy enstrophy : ℤ) → Example
   steps : State → (inflow work : List ℤ) → (answer h′ u′ v′ work′ : List ℤ) → Example
   runs : State → (inflow : List ℤ) (m : ℕ) (work : List ℤ) → (answer h′ u′ v′ work′ : List ℤ) → Example
@@ -40,6 +46,13 @@ pub data Example : Type 0 where
 infix 40 _is_
 abbrev _is_ : List ℤ → List ℤ → Bool
 a is b = sameBy eqℤ a b
+
+-- doubles by their bits, which tell the sign of a zero too, and by their numbers
+abbrev bitsAre : List Float → List ℕ → Bool
+bitsAre d bits = sameBy eqb (map (toBits binary64) d) bits
+
+abbrev numbersAre : List Float → List ℤ → Bool
+numbersAre d z = sameBy Ieee.eq d (map double z)
 
 -- t has s's parameters, bottom and barriers, and these depths and velocities
 abbrev stateIs : State → State → List ℤ → List ℤ → List ℤ → Bool
@@ -64,6 +77,14 @@ holds (tends s q dh du dv a dh′ du′ dv′) =
     && leftBy t (filled (cells s) (hTendencies s) dh) dh is dh′
     && leftBy t (filled (cells s) (uTendencies s q) du) du is du′
     && leftBy t (filled (cells s) (vTendencies s q) dv) dv is dv′
+holds (probes s q k a d bits) = let t = toldProbe (probeOf s q k) in t .0 is a && numbersAre (t .1) d && bitsAre (t .1) bits
+holds (marks s q k a) = toldProbe (probeOf s q k) .0 is a
+holds (probesGrid s q dh du dv a dh′ du′ dv′) =
+    let t = tendenciesTest s q (length dh) (length du) (length dv) in
+    toldProbeGrid (probeGridAnswer (narrow s q) t) is a
+    && bitsAre (leftBy t (filled (cells s) (hDoubles s) (map double dh)) (map double dh)) dh′
+    && bitsAre (leftBy t (filled (cells s) (uDoubles s q) (map double du)) (map double du)) du′
+    && bitsAre (leftBy t (filled (cells s) (vDoubles s q) (map double dv)) (map double dv)) dv′
 holds (rates s q dh du dv e z) = eqℤ (energyRate s dh du dv) e && eqℤ (enstrophyRate s dh du dv q) z
 holds (steps s inflow work a h u v work′) =
     toldStep (stepAnswer s inflow (length work)) is a
@@ -558,6 +579,111 @@ barriers =
     ∷ prints (dock ++ tag9 (1 ∷ [])) "refused 5\n"
     ∷ []
 
+-- ---- 02's U3: the probe
+
+-- -0.0, and 7.0
+abbrev minusZero : ℕ
+minusZero = 9223372036854775808
+
+abbrev seven : ℕ
+seven = 4619567317775286272
+
+-- the told numbers of an exact probe, and of a near one
+abbrev exact : List ℤ
+exact = pos 0 ∷ pos 0 ∷ []
+
+abbrev near : List ℤ
+near = pos 0 ∷ pos 1 ∷ []
+
+-- two cells, side by side or one above the other
+abbrev twoCells : (w n : ℕ) (G : ℤ) (h b u v : List ℤ) → State
+twoCells w n G h b u v = record { w = w; n = n; kind = 0; G = G; c = pos 0; R = pos 1000; h = h; b = b; u = u; v = v; barriers = unbarred 2 }
+
+-- at the ends of the narrow bounds, but for the depth of the second
+abbrev narrowest : ℤ → State
+narrowest h = twoCells 2 1 (pos 10000) (pair (pos 10000) h) (pair (pos 10000) (pos 0)) (pair (pos 500) (minus 500)) (pair (pos 500) (minus 500))
+
+-- of two cells the far one has this number, and the near one is probed
+abbrev farDepth : ℤ → State
+farDepth x = twoCells 2 1 (pos 1) (pair (pos 1000) x) (zeros 2) (zeros 2) (zeros 2)
+
+abbrev farBottom : ℤ → State
+farBottom x = twoCells 2 1 (pos 1) (pair (pos 1000) (pos 1000)) (pair (pos 0) x) (zeros 2) (zeros 2)
+
+abbrev farU : ℤ → State
+farU x = twoCells 2 1 (pos 1) (pair (pos 1000) (pos 1000)) (zeros 2) (pair (pos 0) x) (zeros 2)
+
+abbrev farV : ℤ → State
+farV x = twoCells 2 1 (pos 1) (pair (pos 1000) (pos 1000)) (zeros 2) (zeros 2) (pair (pos 0) x)
+
+abbrev lend : ℤ → List ℤ
+lend x = pair (pos 0) x
+
+-- a channel of three columns and two rows
+abbrev channelVorticity : List ℤ
+channelVorticity = pos 1000 ∷ minus 2000 ∷ pos 3000 ∷ minus 4000 ∷ pos 5000 ∷ minus 6000 ∷ []
+
+abbrev pub probed : List Example
+probed =
+    -- 01's case 2: -D of a flow that goes round is -0.0
+    probes (one (pos 2000)) (just (pos 328)) 0 exact (pos 0 ∷ minus 1574400000 ∷ minus 3148800000 ∷ []) (minusZero ∷ 13967762357066137600 ∷ 13972265956693508096 ∷ [])
+    -- each narrow bound reached, and one depth past it
+    ∷ probes (narrowest (pos 10000)) (pair (pos 1000000) (minus 1000000)) 0 exact (pos 20000000 ∷ minus 314572800000000 ∷ pos 0 ∷ []) (4716133919349538816 ∷ 14047256802941206528 ∷ 0 ∷ [])
+    ∷ probes (narrowest (pos 10001)) (pair (pos 1000000) (minus 1000000)) 0 near (pos 20001000 ∷ minus 314541342720000 ∷ pos 0 ∷ []) (4716134187784994816 ∷ 14047256299624726528 ∷ 0 ∷ [])
+    -- rounded: the whole numbers are 41965184222088228 and 44646748085517588, then 36016112248688268 and -18212927894737506
+    ∷ probes (twoCells 1 2 (pos 9810) (pair (pos 99999) (pos 87654)) (pair (pos 0) (pos 1)) (pair (minus 4999) (minus 4999)) (pair (pos 4997) (pos 4321))) (pair (pos 2000000) (pos 1999997)) 0 near
+    (pos 126853428 ∷ pos 41965184222088240 ∷ pos 44646748085517584 ∷ []) (4728285398931865600 ∷ 4855622446705785222 ∷ 4855957642188713890 ∷ [])
+    ∷ tends (twoCells 1 2 (pos 9810) (pair (pos 99999) (pos 87654)) (pair (pos 0) (pos 1)) (pair (minus 4999) (minus 4999)) (pair (pos 4997) (pos 4321))) (pair (pos 2000000) (pos 1999997)) (zeros 2) (zeros 2) (zeros 2) done
+    (pair (pos 126853428) (minus 126853428)) (pair (pos 41965184222088228) (pos 41965184222088228)) (pair (pos 44646748085517588) (pos 45408609684913428))
+    ∷ probes (twoCells 2 1 (pos 10000) (pair (pos 99999) (pos 87654)) (pair (pos 1) (pos 1)) (pair (pos 1) (pos 5000)) (pair (pos 4999) (pos 4997))) (pair (pos 2000000) (pos 1234567)) 0 near
+    (minus 938077347 ∷ pos 36016112248688272 ∷ minus 18212927894737504 ∷ []) (13964524408358830080 ∷ 4854877227112825764 ∷ 14073798467879113880 ∷ [])
+    -- closed edges have +0.0: a wall, and a barrier
+    ∷ probes (record { w = 2; n = 1; kind = 2; G = pos 9810; c = pos 0; R = pos 1000; h = pair (pos 2000) (pos 3000); b = zeros 2; u = pair (pos 0) (pos 10); v = zeros 2; barriers = unbarred 2 }) (pair (pos 1000) (pos 2000)) 0 exact
+    (minus 50000 ∷ pos 0 ∷ pos 0 ∷ []) (13900476798111580160 ∷ 0 ∷ 0 ∷ [])
+    ∷ probes (barred (pair (pos 10) (pos 0)) (zeros 2) (0 ∷ 1 ∷ [])) (pair (pos 1000) (pos 2000)) 1 exact
+    (minus 50000 ∷ pos 0 ∷ minus 900000000 ∷ []) (13900476798111580160 ∷ 0 ∷ 13964204992421167104 ∷ [])
+    -- the last cell of a channel
+    ∷ probes sixState channelVorticity 5 exact (pos 31090 ∷ pos 45949523790064 ∷ pos 61317903193648 ∷ []) (4674275168082722816 ∷ 4811222341449447424 ∷ 4813189494013106176 ∷ [])
+    -- narrow at both ends and one past, in the cell that is not probed
+    ∷ marks (farDepth (pos 9999)) (zeros 2) 0 exact
+    ∷ marks (farDepth (pos 10000)) (zeros 2) 0 exact
+    ∷ marks (farDepth (pos 10001)) (zeros 2) 0 near
+    ∷ marks (farBottom (pos 10000)) (zeros 2) 0 exact
+    ∷ marks (farBottom (pos 10001)) (zeros 2) 0 near
+    ∷ marks (farU (pos 500)) (zeros 2) 0 exact
+    ∷ marks (farU (pos 501)) (zeros 2) 0 near
+    ∷ marks (farU (minus 500)) (zeros 2) 0 exact
+    ∷ marks (farU (minus 501)) (zeros 2) 0 near
+    ∷ marks (farV (pos 500)) (zeros 2) 0 exact
+    ∷ marks (farV (pos 501)) (zeros 2) 0 near
+    ∷ marks (farV (minus 500)) (zeros 2) 0 exact
+    ∷ marks (farV (minus 501)) (zeros 2) 0 near
+    ∷ marks (farU (pos 0)) (lend (pos 1000000)) 0 exact
+    ∷ marks (farU (pos 0)) (lend (pos 1000001)) 0 near
+    ∷ marks (farU (pos 0)) (lend (minus 1000000)) 0 exact
+    ∷ marks (farU (pos 0)) (lend (minus 1000001)) 0 near
+    -- 10: the cell w·n, and any past it; after 1 to 5
+    ∷ marks (farU (pos 0)) (zeros 2) 1 exact
+    ∷ marks (farU (pos 0)) (zeros 2) 2 (just (pos 10))
+    ∷ marks (farU (pos 0)) (zeros 2) 18446744073709551615 (just (pos 10))
+    ∷ marks (two 2 (pos 1000)) (zeros 2) 2 (pos 5 ∷ pos 2 ∷ pos 0 ∷ [])
+    ∷ marks (farU (pos 0)) (lend (pos 2000001)) 2 (pos 4 ∷ pos 4 ∷ pos 1 ∷ [])
+    ∷ marks (farU (pos 5001)) (lend (pos 2000001)) 2 (pos 4 ∷ pos 2 ∷ pos 1 ∷ [])
+    ∷ marks (cell 0 (pos 0) (pos 0) (pos 1000) (pos 999) (pos 0) (pos 0) (pos 0)) (zeros 1) 1 (just (pos 3))
+    ∷ marks (cell 0 (pos 0) (pos 0) (pos 1000) (pos 999) (pos 0) (pos 0) (pos 0)) (zeros 2) 1 (just (pos 2))
+    ∷ marks (cell 3 (pos 0) (pos 0) (pos 1000) (pos 999) (pos 0) (pos 0) (pos 0)) (zeros 2) 1 (just (pos 1))
+    -- the grid, into destinations of which one is longer
+    ∷ probesGrid (narrowest (pos 10000)) (pair (pos 1000000) (minus 1000000)) (zeros 2) (zeros 2) (sevens 3) exact
+    (4716133919349538816 ∷ 13939505956204314624 ∷ []) (14047256802941206528 ∷ 4823884766086430720 ∷ []) (0 ∷ 0 ∷ seven ∷ [])
+    ∷ probesGrid (narrowest (pos 10001)) (pair (pos 1000000) (minus 1000000)) (zeros 2) (zeros 2) (zeros 2) near
+    (4716134187784994816 ∷ 13939506224639770624 ∷ []) (14047256299624726528 ∷ 4823884262769950720 ∷ []) (0 ∷ 0 ∷ [])
+    -- 8 of each destination, after 1 to 5; nothing is filled in
+    ∷ probesGrid (farU (pos 0)) (zeros 2) (sevens 1) (sevens 2) (sevens 2) (just (pos 8)) (seven ∷ []) (replicate 2 seven) (replicate 2 seven)
+    ∷ probesGrid (farU (pos 0)) (zeros 2) (sevens 2) (sevens 1) (sevens 2) (just (pos 8)) (replicate 2 seven) (seven ∷ []) (replicate 2 seven)
+    ∷ probesGrid (farU (pos 0)) (zeros 2) (sevens 2) (sevens 2) (sevens 1) (just (pos 8)) (replicate 2 seven) (replicate 2 seven) (seven ∷ [])
+    ∷ probesGrid (two 2 (pos 1000)) (zeros 2) [] [] [] (pos 5 ∷ pos 2 ∷ pos 0 ∷ []) [] [] []
+    ∷ []
+
 -- ---- each bound at both ends, and one past
 
 abbrev pub bounds : List Example
@@ -612,6 +738,6 @@ bounds =
     ∷ steps (cell 0 (pos 1) (pos 0) (pos 1000) (pos 50000) (pos 0) (pos 0) (pos 0)) (just (pos 1001)) (sevens 8) (pos 4 ∷ pos 5 ∷ pos 0 ∷ []) (just (pos 50000)) (zeros 1) (zeros 1) (zeros 8)
     ∷ []
 
-pub all-hold : T (all holds (workedExamples ++ (timestamps ++ (barriers ++ (bounds ++ orders)))))
+pub all-hold : T (all holds (workedExamples ++ (timestamps ++ (barriers ++ (probed ++ (bounds ++ orders))))))
 unfolding everything
 all-hold = tt

@@ -9,9 +9,10 @@ pub mod Fields
 pub mod Answers
 pub mod Tests
 pub mod Refusals
--- the scheme: weights, potential vorticity, tendencies; the rates that the theorems speak of; totals
+-- the scheme: weights, potential vorticity, tendencies; the tendencies in doubles; the rates that the theorems speak of; totals
 pub mod Weights
 pub mod Scheme
+pub mod Doubles
 pub mod Rates
 pub mod Totals
 -- two-pass step, run and work space; record

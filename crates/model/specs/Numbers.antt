@@ -60,6 +60,19 @@ vorticityLimits = negℤ (pos 2000000) to pos 2000000
 unfoldable pub barrierLimits : Limits
 barrierLimits = pos 0 to pos 3
 
+-- 02's narrow bounds (U3): within these, doubles hold every step of the tendencies
+unfoldable pub narrowDepthLimits : Limits
+narrowDepthLimits = pos 1000 to pos 10000
+
+unfoldable pub narrowBottomLimits : Limits
+narrowBottomLimits = pos 0 to pos 10000
+
+unfoldable pub narrowVelocityLimits : Limits
+narrowVelocityLimits = negℤ (pos 500) to pos 500
+
+unfoldable pub narrowVorticityLimits : Limits
+narrowVorticityLimits = negℤ (pos 1000000) to pos 1000000
+
 -- columns or rows, from 1 on
 abbrev pub longestSide : ℕ
 longestSide = 64

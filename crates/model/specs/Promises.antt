@@ -1,21 +1,24 @@
 -- The promises of the public calls, which their `ensures` cite. Each says, for any numbers and any lengths, what the call answers
 -- (`answers`), what that means in 01's numbers and values (`tells`), and what each lent slice holds afterwards, refused calls too.
 -- A prime marks what stands in a lent slice as the call returns. No call changes any other slice.
--- The public calls are the nine of 01 (potential vorticity, tendencies, step, run, two totals, write, read, compare). Their promises are
--- here; that of the step program is in Program.antt. Every other `pub fn` serves a crate above it.
+-- The public calls are the nine of 01 (potential vorticity, tendencies, step, run, two totals, write, read, compare) and the two probes of
+-- 02. Their promises are here; that of the step program is in Program.antt. Every other `pub fn` serves a crate above it.
 -- A call's tests stand as a list (`…Tests`); its test (`…Test`) is what this list finds first.
 use mathlib.Core.Path.{_≡_}
+use mathlib.Core.Bool.{Bool, true, false}
 use mathlib.Core.List.{List, [], _∷_, _++_}
 use mathlib.Core.Option.{Option, none, some}
-use Prim.Native.Nat.{ℕ}
+use Prim.Native.Nat.{ℕ, _/_, _%_}
 use lib.IntN.{ℤ}
 use lib.ListN.{length}
+use lib.Ieee.{Float}
 use Rattle.model.specs.Grid.{filled}
 use Rattle.model.specs.State.{State, parametersOf, cells, Fields}
-use Rattle.model.specs.Answers.{toldAnswer, toldStep, toldRun, toldTotal, toldWrite, toldRead, toldCompare}
+use Rattle.model.specs.Answers.{toldAnswer, toldProbe, toldProbeGrid, toldStep, toldRun, toldTotal, toldWrite, toldRead, toldCompare}
 use Rattle.model.specs.Tests.{Test, firstFound}
-use Rattle.model.specs.Refusals.{taken, roomTests, stateTests, timedTests, callTests}
+use Rattle.model.specs.Refusals.{taken, cellTest, roomTests, stateTests, timedTests, callTests}
 use Rattle.model.specs.Scheme.{vorticity, hTendencies, uTendencies, vTendencies}
+use Rattle.model.specs.Doubles.{tendencyH, tendencyU, tendencyV, hDoubles, uDoubles, vDoubles, narrow}
 use Rattle.model.specs.Totals.{totalDepth, energy4}
 use Rattle.model.specs.Step.{stepTest, stepAnswer, stepState, runTest, runOf, workLeft}
 use Rattle.model.specs.Record.{Decoded, accepted, refused, decode, encode, recordLength, compareAnswer}
@@ -23,6 +26,8 @@ use Rattle.model.specs.declared.Timestamp.{Timestamp}
 use Rattle.model.specs.declared.Field.the-variants.{Vorticity}
 use Rattle.model.specs.declared.Refusal.{Refusal}
 use Rattle.model.specs.declared.Answer.{Answer}
+use Rattle.model.specs.declared.ProbeAnswer.{ProbeAnswer}
+use Rattle.model.specs.declared.ProbeGridAnswer.{ProbeGridAnswer}
 use Rattle.model.specs.declared.StepAnswer.{StepAnswer}
 use Rattle.model.specs.declared.RunAnswer.{RunAnswer}
 use Rattle.model.specs.declared.TotalAnswer.{TotalAnswer}
@@ -30,6 +35,8 @@ use Rattle.model.specs.declared.WriteAnswer.{WriteAnswer}
 use Rattle.model.specs.declared.ReadAnswer.{ReadAnswer}
 use Rattle.model.specs.declared.CompareAnswer.{CompareAnswer}
 use Rattle.model.specs.declared.Answer.the-variants as Answer
+use Rattle.model.specs.declared.ProbeAnswer.the-variants as ProbeAnswer
+use Rattle.model.specs.declared.ProbeGridAnswer.the-variants as ProbeGridAnswer
 use Rattle.model.specs.declared.TotalAnswer.the-variants as TotalAnswer
 use Rattle.model.specs.declared.WriteAnswer.the-variants as WriteAnswer
 use Rattle.model.specs.declared.ReadAnswer.the-variants as ReadAnswer
@@ -90,6 +97,50 @@ abbrev pub TendenciesPromise : State → (q dh du dv : List ℤ) (answer : Answe
 TendenciesPromise s q dh du dv answer dh′ du′ dv′ =
     Fills answerOf toldAnswer (tendenciesTest s q (length dh) (length du) (length dv)) (cells s)
     (hTendencies s into dh ∷ uTendencies s q into du ∷ vTendencies s q into dv ∷ []) answer (dh′ ∷ du′ ∷ dv′ ∷ [])
+
+-- ---- the same in doubles (02, U3)
+
+-- the probe of the cell with index k: 1, 2, 3, 4, 5, 10
+abbrev pub probeTests : State → (q : List ℤ) (k : ℕ) → List (Test Refusal)
+probeTests s q k = stateTests s (taken s Vorticity q ∷ []) [] [] ++ (cellTest (cells s) k ∷ [])
+
+unfoldable pub probeTest : State → List ℤ → ℕ → Option Refusal
+probeTest s q k = firstFound (probeTests s q k)
+
+-- exact where the grid is narrow, near where it is not
+abbrev pub marked : Bool → (a b c : Float) → ProbeAnswer
+marked true a b c = ProbeAnswer.Exact a b c
+marked false a b c = ProbeAnswer.Near a b c
+
+abbrev pub probeAnswer : Option Refusal → Bool → (a b c : Float) → ProbeAnswer
+probeAnswer none exact a b c = marked exact a b c
+probeAnswer (some r) exact a b c = ProbeAnswer.Refused r
+
+unfoldable pub probeOf : State → List ℤ → ℕ → ProbeAnswer
+probeOf s q k =
+    let i = k % s .w in
+    let j = k / s .w in
+    probeAnswer (probeTest s q k) (narrow s q) (tendencyH s i j) (tendencyU s q i j) (tendencyV s q i j)
+
+-- It rules out: narrow judged at the probed cell alone; products summed from the right; the double of a whole tendency in its place.
+pub record ProbePromise (s : State) (q : List ℤ) (k : ℕ) (answer : ProbeAnswer) : Type 0 where
+  pub answers : answer ≡ probeOf s q k
+  pub tells : toldProbe answer ≡ toldProbe (probeOf s q k)
+
+-- the probe of the grid, into dh, du and dv: 1, 2, 3, 4, 5, 8, as the tendency call
+abbrev pub markedGrid : Bool → ProbeGridAnswer
+markedGrid true = ProbeGridAnswer.Exact
+markedGrid false = ProbeGridAnswer.Near
+
+abbrev pub probeGridAnswer : Bool → Option Refusal → ProbeGridAnswer
+probeGridAnswer exact none = markedGrid exact
+probeGridAnswer exact (some r) = ProbeGridAnswer.Refused r
+
+-- It rules out: a closed edge's double that is not 0; near told as exact; 8 told before 4.
+abbrev pub ProbeGridPromise : State → (q : List ℤ) (dh du dv : List Float) (answer : ProbeGridAnswer) (dh′ du′ dv′ : List Float) → Type 0
+ProbeGridPromise s q dh du dv answer dh′ du′ dv′ =
+    Fills (probeGridAnswer (narrow s q)) toldProbeGrid (tendenciesTest s q (length dh) (length du) (length dv)) (cells s)
+    (hDoubles s into dh ∷ uDoubles s q into du ∷ vDoubles s q into dv ∷ []) answer (dh′ ∷ du′ ∷ dv′ ∷ [])
 
 -- ---- step and run: 1 to 6. s is the state before, s′ the state after (its parameters, b and barriers are s's).
 

@@ -1,12 +1,12 @@
--- The table of refusals, as tests: 01's 1 to 5 and 8, and 02's 9. Test 6 is in Step.antt, test 7 in Record.antt.
+-- The table of refusals, as tests: 01's 1 to 5 and 8, and 02's 9 and 10. Test 6 is in Step.antt, test 7 in Record.antt.
 use mathlib.Core.Bool.{Bool, not, _&&_}
 use mathlib.Core.List.{List, [], _∷_, _++_}
 use Prim.Native.Nat.{ℕ, _*_, _/_, _%_}
-use lib.Dec.{eqb, leb}
+use lib.Dec.{eqb, leb, ltb}
 use lib.IntN.{ℤ, pos}
 use lib.ListN.{length, getD}
 use Rattle.model.specs.Numbers.{Limits, within, eqℤ, gravityLimits, coriolisLimits, ratioLimits, longestSide, longestRun, mostMilliseconds}
-use Rattle.model.specs.Fields.{limitsOf}
+use Rattle.model.specs.Fields.{limitsOf, narrowOf}
 use Rattle.model.specs.State.{State, parametersOf, cells, barrierNumbers, known, boundaryOf, closedWest, closedSouth}
 use Rattle.model.specs.Tests.{Test, asks, seeks}
 use Rattle.model.specs.declared.Parameters.{Parameters}
@@ -14,7 +14,7 @@ use Rattle.model.specs.declared.Timestamp.{Timestamp}
 use Rattle.model.specs.declared.Field.{Field}
 use Rattle.model.specs.declared.Field.the-variants.{Depth, Bottom, VelocityU, VelocityV, Barriers}
 use Rattle.model.specs.declared.Refusal.{Refusal}
-use Rattle.model.specs.declared.Refusal.the-variants.{Grid, Lengths, Constants, Value, ClosedEdge, Destination, Milliseconds}
+use Rattle.model.specs.declared.Refusal.the-variants.{Grid, Lengths, Constants, Value, ClosedEdge, Destination, Milliseconds, NoSuchCell}
 
 -- ---- fields that a call takes
 
@@ -28,6 +28,10 @@ pub record Taken : Type 0 where
 -- a field with 01's bounds, one number a cell
 abbrev pub taken : State → Field → List ℤ → Taken
 taken s f numbers = record { field = f; count = cells s; limits = limitsOf f; numbers = numbers }
+
+-- the same with 02's narrow bounds
+abbrev pub narrowed : State → Field → List ℤ → Taken
+narrowed s f numbers = record { field = f; count = cells s; limits = narrowOf f; numbers = numbers }
 
 -- the state's own, in 01's order, and 02's barriers; a call takes others after these
 abbrev pub fieldsOf : State → List Taken
@@ -109,6 +113,10 @@ roomTest m room = asks (leb m room) Destination
 abbrev pub roomTests : ℕ → List ℕ → List (Test Refusal)
 roomTests m [] = []
 roomTests m (room ∷ l) = roomTest m room ∷ roomTests m l
+
+-- 10: a probed cell is not one of m cells
+abbrev pub cellTest : (m k : ℕ) → Test Refusal
+cellTest m k = asks (ltb k m) NoSuchCell
 
 -- ---- in order
 

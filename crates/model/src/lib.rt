@@ -43,7 +43,7 @@ pub enum Field {
     Barriers,
 }
 
-// What the tests of a call find before anything is worked out: 01's refusals 1, 2, 3, 4, 5, 7 and 8, and 02's 9, listed by number.
+// What the tests of a call find before anything is worked out: 01's refusals 1, 2, 3, 4, 5, 7 and 8, and 02's 9 and 10, listed by number.
 pub enum Refusal {
     Grid,
     Lengths,
@@ -53,11 +53,27 @@ pub enum Refusal {
     Record { offset: usize },
     Destination,
     Milliseconds,
+    NoSuchCell,
 }
 
 // The answer of tests, and of a call that fills lent fields (potential vorticity, tendencies): accepted, or the first refusal.
 pub enum Answer {
     Accepted,
+    Refused(Refusal),
+}
+
+// The answer of the probe of a cell (02, U3): -D, Tu and Tv as doubles, which are those numbers (exact) or are near them. In place of a
+// bare number, the refusal: 4 and 5 return a field and a cell with theirs.
+pub enum ProbeAnswer {
+    Exact(f64, f64, f64),
+    Near(f64, f64, f64),
+    Refused(Refusal),
+}
+
+// The answer of the probe of a grid, which fills lent fields with its doubles.
+pub enum ProbeGridAnswer {
+    Exact,
+    Near,
     Refused(Refusal),
 }
 

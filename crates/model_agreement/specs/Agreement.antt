@@ -11,7 +11,7 @@ use Rattle.model.specs.State.{State}
 use Rattle.model.specs.Weights.{conditions}
 use Rattle.model.specs.Record.{bytes, encode}
 use Rattle.model.specs.Opened.{everything}
-use Rattle.model.specs.Examples.{Example, vorticities, tends, rates, energy, steps, runs, prints, holds, minus, done, sevens, zeros, unbarred, timeOf, dock}
+use Rattle.model.specs.Examples.{Example, vorticities, tends, probesGrid, rates, energy, steps, runs, prints, holds, minus, done, sevens, zeros, unbarred, timeOf, dock}
 
 -- nine cells, deep and shallow, at rest along a wall in the west and in the south; an inflow and a q to lend
 abbrev unless : Bool → ℤ → ℤ
@@ -37,6 +37,25 @@ inflow = pos 1 ∷ minus 2 ∷ pos 3 ∷ minus 4 ∷ pos 5 ∷ minus 6 ∷ pos 7
 
 abbrev lent : List ℤ
 lent = pos 1000 ∷ minus 2000 ∷ pos 3000 ∷ minus 4000 ∷ pos 5000 ∷ minus 6000 ∷ pos 7000 ∷ minus 8000 ∷ pos 9000 ∷ []
+
+-- nine cells with numbers near their bounds, and a q to lend: the doubles are rounded
+abbrev wide : State
+wide = record {
+  w = 3;
+  n = 3;
+  kind = 0;
+  G = pos 10000;
+  c = pos 0;
+  R = pos 1000;
+  h = pos 99999 ∷ pos 87654 ∷ pos 98765 ∷ pos 76543 ∷ pos 95001 ∷ pos 99000 ∷ pos 100000 ∷ pos 64321 ∷ pos 90909 ∷ [];
+  b = pos 0 ∷ pos 1 ∷ pos 99999 ∷ pos 50000 ∷ pos 7 ∷ pos 100000 ∷ pos 3 ∷ pos 31415 ∷ pos 27182 ∷ [];
+  u = pos 4999 ∷ minus 4321 ∷ pos 5000 ∷ minus 5000 ∷ pos 4987 ∷ minus 4777 ∷ pos 4501 ∷ minus 3999 ∷ pos 5000 ∷ [];
+  v = pos 4997 ∷ pos 4321 ∷ minus 4999 ∷ pos 5000 ∷ minus 4444 ∷ pos 4890 ∷ minus 5000 ∷ pos 4711 ∷ minus 3333 ∷ [];
+  barriers = unbarred 9;
+}
+
+abbrev wideVorticity : List ℤ
+wideVorticity = pos 2000000 ∷ minus 1999997 ∷ pos 1234567 ∷ minus 2000000 ∷ pos 1999999 ∷ minus 1876543 ∷ pos 1765432 ∷ minus 2000000 ∷ pos 1999993 ∷ []
 
 -- two cells at rest under a steep surface
 abbrev steep : ℤ → State
@@ -85,6 +104,23 @@ agreed =
     (pos 0 ∷ minus 295 ∷ minus 312 ∷ pos 0 ∷ pos 146 ∷ minus 1552 ∷ pos 0 ∷ pos 931 ∷ minus 233 ∷ [])
     (pos 0 ∷ pos 0 ∷ pos 0 ∷ pos 245 ∷ pos 682 ∷ minus 547 ∷ minus 1138 ∷ minus 325 ∷ pos 959 ∷ [])
     (zeros 72)
+    -- tendencies in doubles, by their bits
+    ∷ probesGrid (nine 0 false false) lent (zeros 9) (zeros 9) (zeros 9) (pos 0 ∷ pos 0 ∷ [])
+    (4688493846294691840 ∷ 13914755537146216448 ∷ 4692646220676464640 ∷ 13917615023292678144 ∷ 4694642418396430336 ∷ 13918290192151609344 ∷ 4697090549755150336 ∷ 13919279752616607744 ∷ 4687568813418348544 ∷ [])
+    (4808895513513410560 ∷ 14027764392989655040 ∷ 14027762225215176704 ∷ 4814820998546092032 ∷ 4800914876175712256 ∷ 14038765633677934592 ∷ 14033767407516282880 ∷ 4812015817677762560 ∷ 14026173406539776000 ∷ [])
+    (4811504050679128064 ∷ 14029262118454444032 ∷ 14030057295740944384 ∷ 4803758138827702272 ∷ 4810356923140308992 ∷ 14032346143305809920 ∷ 14036732133133434880 ∷ 14029188645186584576 ∷ 4812329318340771840 ∷ [])
+    ∷ probesGrid (nine 1 false true) lent (zeros 9) (zeros 9) (zeros 9) (pos 0 ∷ pos 0 ∷ [])
+    (4687417630569529344 ∷ 13913721309021339648 ∷ 4690770178961571840 ∷ 13917615023292678144 ∷ 4694642418396430336 ∷ 13918290192151609344 ∷ 4697337836792184832 ∷ 13919796866679046144 ∷ 4689784054470410240 ∷ [])
+    (4808895689415786496 ∷ 14027764205492436992 ∷ 14027761758129946624 ∷ 4814820998546092032 ∷ 4800914876175712256 ∷ 14038765633677934592 ∷ 14033767881088294912 ∷ 4812015853710467072 ∷ 14026174707800145920 ∷ [])
+    (0 ∷ 0 ∷ 0 ∷ 4803758237369696256 ∷ 4810356949643902976 ∷ 14032346232090836992 ∷ 14036732039496933376 ∷ 14029188266680172544 ∷ 4812329418643685376 ∷ [])
+    ∷ probesGrid (nine 2 true true) lent (zeros 9) (zeros 9) (zeros 9) (pos 0 ∷ pos 0 ∷ [])
+    (4685699643651129344 ∷ 13913721309021339648 ∷ 4691629172420771840 ∷ 13915327626790043648 ∷ 4694642418396430336 ∷ 13920179977761849344 ∷ 4693993878334734336 ∷ 13919796866679046144 ∷ 4694694816997441536 ∷ [])
+    (0 ∷ 14027764296957755392 ∷ 14027762076264628224 ∷ 0 ∷ 4800914006650617856 ∷ 14038765919227297792 ∷ 0 ∷ 4812015360460316672 ∷ 14026175186255544320 ∷ [])
+    (0 ∷ 0 ∷ 0 ∷ 4803757643269472256 ∷ 4810356949643902976 ∷ 14032346465140948992 ∷ 14036731829036056576 ∷ 14029188266680172544 ∷ 4812330973232562176 ∷ [])
+    ∷ probesGrid wide wideVorticity (zeros 9) (zeros 9) (zeros 9) (pos 0 ∷ pos 1 ∷ [])
+    (4745844715474124800 ∷ 13956757676198199296 ∷ 13969450050254798848 ∷ 4719414219949211648 ∷ 4731656237408583680 ∷ 4744292214476111872 ∷ 13958287223053877248 ∷ 13966776644086530048 ∷ 4732063396181049344 ∷ [])
+    (14062036274660788458 ∷ 4842271875480815299 ∷ 14061943452835466200 ∷ 4836236843336218444 ∷ 4824903620520622704 ∷ 14061324310907613786 ∷ 14072941096518901074 ∷ 14049692768169643200 ∷ 14073783987594238481 ∷ [])
+    (4828207137640758720 ∷ 4832847326292017600 ∷ 14073163329437294290 ∷ 14057403322022704004 ∷ 4832773716866934172 ∷ 4837101468671598146 ∷ 14071724763302457584 ∷ 14057175945622128664 ∷ 14072305561892418760 ∷ [])
     -- a step, and a run, that pass 2 stops
     ∷ steps (steep (pos 2000)) (zeros 2) (sevens 16) (pos 6 ∷ pos 2 ∷ pos 0 ∷ pos 1 ∷ []) (pos 1000 ∷ pos 2000 ∷ []) (zeros 2) (zeros 2) (zeros 16)
     ∷ runs (steep (pos 2000)) (zeros 2) 3 (sevens 16) (pos 6 ∷ pos 2 ∷ pos 0 ∷ pos 1 ∷ pos 0 ∷ []) (pos 1000 ∷ pos 2000 ∷ []) (zeros 2) (zeros 2) (zeros 16)

@@ -2,27 +2,32 @@
 -- an answer `Refused r` says that they found r, and `finds` says where they do. Assumes nothing.
 use mathlib.Core.Path.{_≡_, refl, sym, ap, _∙_}
 use mathlib.Core.Logic.{_↔_}
+use mathlib.Core.Bool.{Bool, true, false}
 use mathlib.Core.List.{List, [], _∷_}
 use mathlib.Core.Option.{Option, none, some}
 use Prim.Native.Nat.{ℕ, zero, suc}
 use lib.IntN.{ℤ}
 use lib.ListN.{length}
+use lib.Ieee.{Float}
 use Rattle.model.specs.State.{State}
-use Rattle.model.specs.Answers.{toldAnswer, toldWrite, toldTotal, toldStep, toldRun}
+use Rattle.model.specs.Answers.{toldAnswer, toldProbe, toldProbeGrid, toldWrite, toldTotal, toldStep, toldRun}
 use Rattle.model.specs.Step.{place, Outcome, moved, stuck, Ran, runOn, twoPass, stepTests, stepTest, afterStep, stepAnswerBy, stepStateBy, stepAnswer, stepState, runFrom, runTests, runTest, runBy, runOf, workLeft}
+use Rattle.model.specs.Doubles.{narrow}
 use Rattle.model.specs.Totals.{totalDepth, energy4}
 use Rattle.model.specs.Record.{recordLength}
-use Rattle.model.specs.Promises.{answerOf, Filling, filledBy, Fills, vorticityTests, vorticityTest, tendenciesTests, tendenciesTest, totalTests, totalTest, totalAnswer, writeTests, writeTest, writeAnswer, StepPromise}
+use Rattle.model.specs.Promises.{answerOf, Filling, filledBy, Fills, vorticityTests, vorticityTest, tendenciesTests, tendenciesTest, probeTests, probeTest, probeAnswer, probeOf, probeGridAnswer, totalTests, totalTest, totalAnswer, writeTests, writeTest, writeAnswer, StepPromise}
 use Rattle.model.specs.Claims.{held, CausesClaim}
 use Rattle.model.specs.declared.Field.{Field}
 use Rattle.model.specs.declared.Refusal.{Refusal}
 use Rattle.model.specs.declared.Answer.the-variants as Answer
+use Rattle.model.specs.declared.ProbeAnswer.the-variants as ProbeAnswer
+use Rattle.model.specs.declared.ProbeGridAnswer.the-variants as ProbeGridAnswer
 use Rattle.model.specs.declared.WriteAnswer.the-variants as WriteAnswer
 use Rattle.model.specs.declared.TotalAnswer.the-variants as TotalAnswer
 use Rattle.model.specs.declared.StepAnswer.{StepAnswer}
 use Rattle.model.specs.declared.StepAnswer.the-variants as StepAnswer
 use Rattle.model.specs.declared.RunAnswer.the-variants as RunAnswer
-use Rattle.theorems.specs.Truth.{_⟫_, differ}
+use Rattle.theorems.specs.Truth.{_⟫_, differ, some≢}
 use Rattle.theorems.specs.TestLaws.{finds}
 use Rattle.theorems.specs.Limits.{step-taken}
 
@@ -31,6 +36,17 @@ use Rattle.theorems.specs.Limits.{step-taken}
 answer-some : (o : Option Refusal) (r : Refusal) → Answer.Refused r ≡ answerOf o → o ≡ some r
 answer-some none r e = differ (cc e)
 answer-some (some x) r e = let h : x ≡ r = cc e in ap some h
+
+probe-iff : (o : Option Refusal) (exact : Bool) (a b c : Float) (r : Refusal)
+    → (ProbeAnswer.Refused r ≡ probeAnswer o exact a b c) ↔ (o ≡ some r)
+probe-iff none true a b c r = (λ e. differ (cc e), λ e. some≢ (sym e))
+probe-iff none false a b c r = (λ e. differ (cc e), λ e. some≢ (sym e))
+probe-iff (some x) exact a b c r = (λ e. let h : x ≡ r = cc e in ap some h, λ e. let h : x ≡ r = cc e in ap ProbeAnswer.Refused (sym h))
+
+probe-grid-some : (o : Option Refusal) (exact : Bool) (r : Refusal) → ProbeGridAnswer.Refused r ≡ probeGridAnswer exact o → o ≡ some r
+probe-grid-some none true r e = differ (cc e)
+probe-grid-some none false r e = differ (cc e)
+probe-grid-some (some x) exact r e = let h : x ≡ r = cc e in ap some h
 
 write-some : (m : ℕ) (o : Option Refusal) (r : Refusal) → WriteAnswer.Refused r ≡ writeAnswer m o → o ≡ some r
 write-some m none r e = differ (cc e)
@@ -110,7 +126,7 @@ fill-iff by tell test m ds ds′ r back = (
 -- ---- each call, both ways
 
 pub causes : CausesClaim
-unfolding vorticityTest tendenciesTest writeTest totalTest stepTest stepAnswer stepState runTest runOf workLeft
+unfolding vorticityTest tendenciesTest probeTest probeOf writeTest totalTest stepTest stepAnswer stepState runTest runOf workLeft
 causes = record {
   vorticity = λ s d d′ r.
       let l = vorticityTests s (length d) in
@@ -118,6 +134,13 @@ causes = record {
   tendencies = λ s q dh du dv dh′ du′ dv′ r.
       let l = tendenciesTests s q (length dh) (length du) (length dv) in
       fill-iff answerOf toldAnswer _ _ _ _ r (answer-some _ r)
+      ⟫ (λ p. (finds l r .0 (p .0), cc (p .1), cc (p .1), cc (p .1)), λ c. (finds l r .1 (c .0), λ i. c .1 i ∷ c .2 i ∷ c .3 i ∷ []));
+  probe = λ s q k r.
+      let i = probe-iff (probeTest s q k) (narrow s q) _ _ _ r ⟫ finds (probeTests s q k) r in
+      (λ p. i .0 (p .answers), λ c. let a = i .1 c in record { answers = a; tells = ap toldProbe a });
+  probe-grid = λ s q dh du dv dh′ du′ dv′ r.
+      let l = tendenciesTests s q (length dh) (length du) (length dv) in
+      fill-iff (probeGridAnswer (narrow s q)) toldProbeGrid _ _ _ _ r (probe-grid-some _ (narrow s q) r)
       ⟫ (λ p. (finds l r .0 (p .0), cc (p .1), cc (p .1), cc (p .1)), λ c. (finds l r .1 (c .0), λ i. c .1 i ∷ c .2 i ∷ c .3 i ∷ []));
   write = λ s t d d′ r.
       let l = writeTests s t (length d) in

@@ -6,7 +6,7 @@ use Rattle.model.specs.State.{State}
 use Rattle.model.specs.Totals.{totalDepth, energy4}
 use Rattle.model.specs.Step.{stepTest, stepAnswer, stepState, runTest, runOf, workLeft}
 use Rattle.model.specs.Record.{compareAnswer}
-use Rattle.model.specs.Promises.{filledBy, totalTest, totalAnswer, readAnswer, readInto, readOf}
+use Rattle.model.specs.Promises.{filledBy, probeOf, totalTest, totalAnswer, readAnswer, readInto, readOf}
 use Rattle.model.specs.Histories.{Call, step, run, stateAfter, History, nothing, stepped, ran}
 use Rattle.model.specs.Claims.{FillMet, MetClaim, FillFixed, FixedClaim}
 
@@ -25,6 +25,8 @@ fill-met by tell test m ds = (by test, filledBy test m ds, record { answers = re
 pub met : MetClaim
 met = record {
   fill = fill-met;
+  probe-grid = fill-met;
+  probe = λ s q k. (probeOf s q k, record { answers = refl; tells = refl });
   write = fill-met;
   step = λ s inflow work. (
     stepAnswer s inflow (length work),
@@ -61,6 +63,8 @@ fill-fixed by tell test m ds a b x y p q = (p .answers ∙ sym (q .answers), p .
 pub fixed : FixedClaim
 fixed = record {
   fill = fill-fixed;
+  probe-grid = fill-fixed;
+  probe = λ s q k a b x y. x .answers ∙ sym (y .answers);
   write = fill-fixed;
   step = λ s x y inflow work k l a b p q. (p .answers ∙ sym (q .answers), p .steps ∙ sym (q .steps), p .clears ∙ sym (q .clears));
   run = λ s x y inflow m work k l a b p q. (p .answers ∙ sym (q .answers), p .steps ∙ sym (q .steps), p .clears ∙ sym (q .clears));

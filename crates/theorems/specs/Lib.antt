@@ -10,6 +10,7 @@ pub mod Fixed
 pub mod Refused
 -- what the calls fill in
 pub mod Filling
+pub mod Probes
 pub mod Vorticity
 -- what is kept
 pub mod Conservation

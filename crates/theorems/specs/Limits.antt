@@ -16,18 +16,18 @@ use Rattle.model.specs.Numbers.{Limits, within, Within, eqℤ, gravityLimits, c
 use Rattle.model.specs.Grid.{at}
 use Rattle.model.specs.State.{State, parametersOf, cells, known, boundaryOf, closedWest, closedSouth, Side, WithinLimits}
 use Rattle.model.specs.Tests.{Test}
-use Rattle.model.specs.Refusals.{Taken, taken, fieldsOf, runLengthTest, workLength, workTest, outside, moving, gridKnown, constantsWithin, lengthTests, valueTests, edgeTests, contentTests, timedContentTests, roomTests, stateTests, timedTests, callTests}
+use Rattle.model.specs.Refusals.{Taken, taken, fieldsOf, runLengthTest, workLength, workTest, outside, moving, gridKnown, constantsWithin, lengthTests, valueTests, edgeTests, contentTests, timedContentTests, roomTests, cellTest, stateTests, timedTests, callTests}
 use Rattle.model.specs.Step.{stepTests, stepTest, runTests, runTest}
 use Rattle.model.specs.Record.{recordLength}
-use Rattle.model.specs.Promises.{totalTests, totalTest, writeTests}
-use Rattle.model.specs.Claims.{Clean, EachPasses, LimitsClaim, EachWithin, EachRoom, AcceptedClaim, StepTaken, RunTaken}
+use Rattle.model.specs.Promises.{tendenciesTests, tendenciesTest, probeTests, probeTest, totalTests, totalTest, writeTests}
+use Rattle.model.specs.Claims.{Clean, EachPasses, LimitsClaim, EachWithin, EachRoom, AcceptedClaim, StepTaken, RunTaken, ProbeTaken}
 use Rattle.model.specs.declared.Parameters.{Parameters}
 use Rattle.model.specs.declared.Timestamp.{Timestamp}
 use Rattle.model.specs.declared.Field.{Field}
-use Rattle.model.specs.declared.Field.the-variants.{Inflow}
+use Rattle.model.specs.declared.Field.the-variants.{Vorticity, Inflow}
 use Rattle.model.specs.declared.Refusal.{Refusal}
 use Rattle.model.specs.declared.Refusal.the-variants.{Value}
-use Rattle.theorems.specs.Truth.{_⟫_, true-T, and-iff, not-iff, le-iff, eq-iff, differ}
+use Rattle.theorems.specs.Truth.{_⟫_, true-T, and-iff, not-iff, le-iff, lt-iff, eq-iff, differ}
 use Rattle.theorems.specs.TestLaws.{passes, passes-append}
 
 -- ---- 1 and 3
@@ -92,7 +92,7 @@ constant-iff p =
 
 -- ---- 2 and 4: each field is as long as it must be, and none of its numbers is outside
 
-inside-iff : (f : Taken) → Clean (outside f) (f .count) ↔ ((k : ℕ) → k < f .count → Within (f .limits) (getD (f .numbers) k (pos 0)))
+pub inside-iff : (f : Taken) → Clean (outside f) (f .count) ↔ ((k : ℕ) → k < f .count → Within (f .limits) (getD (f .numbers) k (pos 0)))
 inside-iff f =
     let x : ℕ → ℤ = λ k. getD (f .numbers) k (pos 0) in
     let i : (k : ℕ) → (outside f k ≡ false) ↔ Within (f .limits) (x k) = λ k. not-iff (within (f .limits) (x k)) ⟫ within-iff (f .limits) (x k) in
@@ -239,11 +239,30 @@ write-iff s t room =
       λ p. let x = i .1 (p .0, tt) in r .1 ((x .grid, l .1 (x .lengths, c .1 (x .content, p .1))), (k .1 (p .2), tt)),
     )
 
--- ---- totals, step and run
+-- ---- each call's tests pass exactly what it takes
 
 pub total-taken : (s : State) → (totalTest s ≡ none) ↔ WithinLimits s
 unfolding totalTest
 total-taken s = passes (totalTests s) ⟫ limits-tested s
+
+pub tendencies-taken : (s : State) (q : List ℤ) (h u v : ℕ)
+    → (tendenciesTest s q h u v ≡ none) ↔ (ProbeTaken s q × (cells s ≤ h) × (cells s ≤ u) × (cells s ≤ v))
+unfolding tendenciesTest
+tendencies-taken s q h u v =
+    let a = passes (tendenciesTests s q h u v) ⟫ call-iff s (taken s Vorticity q ∷ []) (cells s) (h ∷ u ∷ v ∷ []) in (
+      λ e. let b = a .0 e in ((b .0, b .1 .0), b .2 .0, b .2 .1 .0, b .2 .1 .1 .0),
+      λ b. a .1 (b .0 .0, (b .0 .1, tt), (b .1, (b .2, (b .3, tt)))),
+    )
+
+pub probe-taken : (s : State) (q : List ℤ) (k : ℕ) → (probeTest s q k ≡ none) ↔ (ProbeTaken s q × (k < cells s))
+unfolding probeTest
+probe-taken s q k =
+    let a = accepted-iff s (taken s Vorticity q ∷ []) [] [] in
+    let p = passes (probeTests s q k) ⟫ passes-append (stateTests s (taken s Vorticity q ∷ []) [] []) (cellTest (cells s) k ∷ []) in
+    let l = lt-iff k (cells s) in (
+      λ e. let b = p .0 e in let x = a .0 (b .0) in ((x .0, x .1 .0), l .0 (b .1 .0)),
+      λ b. p .1 (a .1 (b .0 .0, (b .0 .1, tt), tt, tt), (l .1 (b .1), tt)),
+    )
 
 pub step-taken : (s : State) (inflow : List ℤ) (room : ℕ) → (stepTest s inflow room ≡ none) ↔ StepTaken s inflow room
 unfolding stepTest

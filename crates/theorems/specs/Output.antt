@@ -21,7 +21,7 @@ use Rattle.model.specs.Program.{text, digitsOnto, decimal, line, refusedLine, t
 use Rattle.model.specs.Claims.{OutputClaim}
 use Rattle.model.specs.declared.Timestamp.{Timestamp}
 use Rattle.model.specs.declared.Refusal.{Refusal}
-use Rattle.model.specs.declared.Refusal.the-variants.{Grid, Lengths, Constants, Value, ClosedEdge, Record, Destination, Milliseconds}
+use Rattle.model.specs.declared.Refusal.the-variants.{Grid, Lengths, Constants, Value, ClosedEdge, Record, Destination, Milliseconds, NoSuchCell}
 use Rattle.model.specs.declared.StepAnswer.{StepAnswer}
 use Rattle.model.specs.declared.StepAnswer.the-variants as StepAnswer
 use Rattle.integers.specs.Laws.{abs-add}
@@ -86,6 +86,7 @@ two-digits (ClosedEdge f k) = omega arith
 two-digits (Record k) = omega arith
 two-digits Destination = omega arith
 two-digits Milliseconds = omega arith
+two-digits NoSuchCell = omega arith
 
 total-long : (x : ℤ) → natAbs x < 10 ^ 9 → length (totalLine x) ≤ 17
 total-long x h = subst (λ m. m ≤ 17) (sym (two-long (text "total") (decimal x))) (omega (arith, decimal-long 8 x h))

@@ -18,7 +18,7 @@ use Rattle.model.specs.Claims.{FillRefused, RefusedClaim, WorkClaim, RefusedWor
 use Rattle.model.specs.declared.Field.{Field}
 use Rattle.model.specs.declared.Field.the-variants.{Inflow}
 use Rattle.model.specs.declared.Refusal.{Refusal}
-use Rattle.model.specs.declared.Refusal.the-variants.{Grid, Lengths, Constants, Value, ClosedEdge, Record, Destination, Milliseconds}
+use Rattle.model.specs.declared.Refusal.the-variants.{Grid, Lengths, Constants, Value, ClosedEdge, Record, Destination, Milliseconds, NoSuchCell}
 use Rattle.model.specs.declared.RunAnswer.{RunAnswer}
 use Rattle.model.specs.declared.StepAnswer.the-variants as StepAnswer
 use Rattle.model.specs.declared.RunAnswer.the-variants as RunAnswer
@@ -68,6 +68,7 @@ pub refused-leaves : RefusedClaim
 unfolding stepState stepAnswer runOf
 refused-leaves = record {
   fill = fill-refused;
+  probe-grid = fill-refused;
   write = fill-refused;
   step = λ s s′ inflow work work′ r p. p .steps ∙ step-refused s (twoPass s inflow) (stepTest s inflow (length work)) (p .answers);
   step-6 = λ s s′ inflow work work′ a k f p. p .steps ∙ step-out s (twoPass s inflow) (stepTest s inflow (length work)) (p .answers);
@@ -118,6 +119,7 @@ refused-work (ClosedEdge f k) s work h = (h, λ l. absurd (omega arith), λ l. r
 refused-work (Record k) s work h = absurd (omega arith)
 refused-work Destination s work h = absurd (omega arith)
 refused-work Milliseconds s work h = absurd (omega arith)
+refused-work NoSuchCell s work h = absurd (omega arith)
 
 step-work : (s : State) (work : List ℤ) (x : Option Refusal) (o : Outcome) → Only UpTo5 x → StepWork (stepAnswerBy x o) s work (workLeft x s work)
 unfolding workLeft

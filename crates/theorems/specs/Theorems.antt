@@ -1,5 +1,5 @@
 -- Every theorem. `theorems` has each claim of the model, proved. Assumes nothing.
-use Rattle.model.specs.Claims.{LimitsClaim, AcceptedClaim, ScanClaim, TestClaim, CausesClaim, ReadCausesClaim, MetClaim, FixedClaim, RefusedClaim, WorkClaim, RoundingClaim, OwnVorticityClaim, VorticityClaim, TendenciesAcceptedClaim, TendenciesClaim, PassClaim, StepClaim, RunClaim, RunEndsClaim, RunStepsClaim, TotalsClaim, WriteAcceptedClaim, RoundTripClaim, ReadClaim, ProgramClaim, OutputClaim, RewriteClaim, RestoredClaim, AnyOrderClaim, AbsentClaim, CompareClaim, EnergyRateClaim, EnergyClaim, EnstrophyClaim, PeriodicEnstrophyClaim, BalanceClaim, KeptClaim}
+use Rattle.model.specs.Claims.{LimitsClaim, AcceptedClaim, ScanClaim, TestClaim, CausesClaim, ReadCausesClaim, MetClaim, FixedClaim, RefusedClaim, WorkClaim, RoundingClaim, OwnVorticityClaim, VorticityClaim, TendenciesAcceptedClaim, TendenciesClaim, ProbeClaim, ProbeGridClaim, PassClaim, StepClaim, RunClaim, RunEndsClaim, RunStepsClaim, TotalsClaim, WriteAcceptedClaim, RoundTripClaim, ReadClaim, ProgramClaim, OutputClaim, RewriteClaim, RestoredClaim, AnyOrderClaim, AbsentClaim, CompareClaim, EnergyRateClaim, EnergyClaim, EnstrophyClaim, PeriodicEnstrophyClaim, BalanceClaim, KeptClaim}
 use Rattle.model.specs.Step.{Place}
 use Rattle.model.specs.declared.Refusal.{Refusal}
 use Rattle.theorems.specs.Limits.{limits-tested, accepted}
@@ -12,6 +12,7 @@ use Rattle.theorems.specs.Refused.{refused-leaves, work-left}
 use Rattle.integers.specs.Rounding.{rounding}
 use Rattle.theorems.specs.Vorticity.{within-limit, vorticity-within}
 use Rattle.theorems.specs.Filling.{tendencies-accepted, tendencies-fill}
+use Rattle.theorems.specs.Probes.{probe, probe-grid}
 use Rattle.theorems.specs.Stepping.{pass-given, step-within}
 use Rattle.theorems.specs.Runs.{run-counts}
 use Rattle.theorems.specs.RunEnds.{run-ends}
@@ -51,6 +52,8 @@ pub record Theorems : Type 0 where
   pub vorticity : VorticityClaim
   pub tendencies-accepted : TendenciesAcceptedClaim
   pub tendencies : TendenciesClaim
+  pub probe : ProbeClaim
+  pub probe-grid : ProbeGridClaim
   pub pass : PassClaim
   pub step : StepClaim
   pub run : RunClaim
@@ -94,6 +97,8 @@ theorems =
       vorticity = vorticity-within;
       tendencies-accepted = tendencies-accepted;
       tendencies = tendencies-fill;
+      probe = probe;
+      probe-grid = probe-grid;
       pass = pass-given;
       step = step-within;
       run = run-counts;

@@ -1,25 +1,21 @@
 -- The potential vorticity of a state within the limits is at most 1,966,080 from zero, so it may be lent to the tendency call. Assumes nothing.
 use mathlib.Core.Path.{_≡_, sym, subst}
-use Prim.Native.Nat.{ℕ, suc, _*_, _/_, _%_, _≤_, _<_}
+use Prim.Native.Nat.{ℕ, _*_, _/_, _%_, _≤_, _<_}
 use native.Mathlib.Nat.{le-trans, mod-lt, div-lt-iff-lt-mul, mul-comm}
 use native.Mathlib.Omega.{arith}
-use lib.Dec.{le→leb, lit≤}
-use lib.IntN.{ℤ, pos, negsuc, negℤ, natAbs, _*ℤ_}
-use lib.Signed.{_≤ℤ_}
+use lib.Dec.{lit≤}
+use lib.IntN.{pos, natAbs, _*ℤ_}
 use Rattle.model.specs.Numbers.{vorticityLimits}
 use Rattle.model.specs.State.{State, cells, FieldWithin, WithinLimits}
 use Rattle.model.specs.Scheme.{Z, H, vorticityAt, vorticity}
 use Rattle.model.specs.Claims.{OwnVorticityClaim, VorticityClaim}
 use Rattle.integers.specs.Laws.{abs-mul}
+use Rattle.integers.specs.Bounds.{within-abs}
 use Rattle.integers.specs.Magnitudes.{absolute-vorticity-size, depths-least, least-size}
 use Rattle.grid.specs.Cells.{cell-lt, previous-lt}
 use Rattle.grid.specs.CellFields.{length-byCell, getD-byCell}
 use Rattle.integers.specs.Rounding.{rnd-size}
 use Rattle.theorems.specs.Filling.{vorticity-fill}
-
-sized : (k : ℕ) (x : ℤ) → natAbs x ≤ suc k → (negℤ (pos (suc k)) ≤ℤ x) × (x ≤ℤ pos (suc k))
-sized k (pos n) h = (record { le = tt }, record { le = le→leb n (suc k) h })
-sized k (negsuc n) h = (record { le = le→leb n k (omega arith) }, record { le = tt })
 
 -- 262,144 · 30,000 is 1,966,080 · 4,000
 quotient : (x a b : ℕ) → x ≤ 30000 → 4000 ≤ b → a ≡ 262144 * x → a ≤ 1966080 * b
@@ -45,8 +41,8 @@ within-limit s l = record {
   each = λ k h.
       let p : k % s .w < s .w = mod-lt k (l .columns .some) in
       let r : k / s .w < s .n = div-lt-iff-lt-mul (l .columns .some) .1 (rw (mul-comm (s .n) (s .w)) h) in
-      let b = sized 1999999 (vorticityAt s (k % s .w) (k / s .w)) (le-trans (own-size s l (k % s .w) (k / s .w) p r) (lit≤ tt)) in
-      rw (getD-byCell (s .w) (s .n) (vorticityAt s) k h) (record { low = b .0; high = b .1 });
+      rw (getD-byCell (s .w) (s .n) (vorticityAt s) k h)
+      (within-abs 1999999 (vorticityAt s (k % s .w) (k / s .w)) (le-trans (own-size s l (k % s .w) (k / s .w) p r) (lit≤ tt)));
 }
 
 pub vorticity-within : VorticityClaim

@@ -1,0 +1,7 @@
+-- near a whole number; one rounding; sums and products; distances; expressions; the tendencies
+pub mod Near
+pub mod Floats
+pub mod Rounded
+pub mod Distances
+pub mod Terms
+pub mod Bound
