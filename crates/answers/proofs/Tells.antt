@@ -6,7 +6,7 @@ use native.Mathlib.Omega.{arith}
 use lib.ListN.{getD}
 use Rattle.model.specs.Answers.{refusalNumbers, refusalNumbersOf}
 use Rattle.model.specs.declared.Refusal.{Refusal}
-use Rattle.model.specs.declared.Refusal.the-variants.{Grid, Lengths, Constants, Value, ClosedEdge, Record, Destination, Milliseconds}
+use Rattle.model.specs.declared.Refusal.the-variants.{Grid, Lengths, Constants, Value, ClosedEdge, Record, Destination, Milliseconds, NoSuchCell}
 use Rattle.theorems.specs.Output.{two-digits}
 use Rattle.answers.specs.Told.{eight, first-of}
 
@@ -21,6 +21,7 @@ of-record k (ClosedEdge f i) l e = rw e
 of-record k (Record i) l e = rw e
 of-record k Destination l e = rw e
 of-record k Milliseconds l e = rw e
+of-record k NoSuchCell l e = rw e
 
 -- the number fits a byte
 pub small : (r : Refusal) (l : List ℕ) → l ≡ eight (refusalNumbers r) → getD l 0 0 < 256

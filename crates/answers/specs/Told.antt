@@ -7,7 +7,7 @@ use lib.ListN.{getD, take, drop, replicate}
 use Rattle.model.specs.Answers.{readNumbers, constantsIn, toldRead}
 use Rattle.model.specs.declared.ReadAnswer.{ReadAnswer}
 use Rattle.model.specs.declared.ReadAnswer.the-variants as ReadAnswer
-use Rattle.model.specs.declared.Refusal.the-variants.{Grid, Lengths, Constants, Value, ClosedEdge, Record, Destination, Milliseconds}
+use Rattle.model.specs.declared.Refusal.the-variants.{Grid, Lengths, Constants, Value, ClosedEdge, Record, Destination, Milliseconds, NoSuchCell}
 
 -- eight places: the numbers first, the others 0
 abbrev pub eight : List ℕ → List ℕ
@@ -44,3 +44,4 @@ read-told (ReadAnswer.Refused (ClosedEdge f k)) = refl
 read-told (ReadAnswer.Refused (Record k)) = refl
 read-told (ReadAnswer.Refused Destination) = refl
 read-told (ReadAnswer.Refused Milliseconds) = refl
+read-told (ReadAnswer.Refused NoSuchCell) = refl

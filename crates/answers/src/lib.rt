@@ -1,14 +1,17 @@
 // What the C interface tells: 01's number of an answer and then the values with it, in eight places of which the others are 0. What has
-// a sign goes into places of its own.
+// a sign, and a double, goes into places of its own.
 ghost use mathlib.Core.Path.{_≡_};
 ghost use lib.ListN.{getD};
 ghost use Rattle.model.specs.Fields.{fieldNumber};
 ghost use Rattle.model.specs.Answers.{number, refusalNumbers, answerNumbers, stepNumbers, runNumbers, writeNumbers};
 ghost use Rattle.model.specs.Answers.{totalNumbers, totalIn, readNumbers, constantsIn, refusalNumbersOf, compareNumbers};
+ghost use Rattle.model.specs.Answers.{probeNumbers, probeGridNumbers, doublesIn};
 ghost use Rattle.answers.specs.Told.{eight, orKept};
 use model::Answer;
 use model::CompareAnswer;
 use model::Field;
+use model::ProbeAnswer;
+use model::ProbeGridAnswer;
 use model::ReadAnswer;
 use model::Refusal;
 use model::RunAnswer;
@@ -35,6 +38,7 @@ fn refusal_numbers(refusal: Refusal) -> [u64; 8]
         Refusal::Record { offset } => [7, offset as u64, 0, 0, 0, 0, 0, 0],
         Refusal::Destination => [8, 0, 0, 0, 0, 0, 0, 0],
         Refusal::Milliseconds => [9, 0, 0, 0, 0, 0, 0, 0],
+        Refusal::NoSuchCell => [10, 0, 0, 0, 0, 0, 0, 0],
     }
 }
 
@@ -57,6 +61,26 @@ pub fn answer_numbers(answer: Answer) -> [u64; 8]
     match answer {
         Answer::Accepted => [0; 8],
         Answer::Refused(refusal) => refusal_numbers(refusal),
+    }
+}
+
+pub fn probe_numbers(probe: ProbeAnswer) -> [u64; 8]
+    ensures { λ r. ⌜ r ≡ eight (probeNumbers probe) ⌝ }
+{
+    match probe {
+        ProbeAnswer::Exact(_, _, _) => [0; 8],
+        ProbeAnswer::Near(_, _, _) => [0, 1, 0, 0, 0, 0, 0, 0],
+        ProbeAnswer::Refused(refusal) => refusal_numbers(refusal),
+    }
+}
+
+pub fn probe_grid_numbers(probe: ProbeGridAnswer) -> [u64; 8]
+    ensures { λ r. ⌜ r ≡ eight (probeGridNumbers probe) ⌝ }
+{
+    match probe {
+        ProbeGridAnswer::Exact => [0; 8],
+        ProbeGridAnswer::Near => [0, 1, 0, 0, 0, 0, 0, 0],
+        ProbeGridAnswer::Refused(refusal) => refusal_numbers(refusal),
     }
 }
 
@@ -156,7 +180,7 @@ pub fn compare_numbers(comparison: CompareAnswer) -> [u64; 8]
     }
 }
 
-// ---- what has a sign
+// ---- what has a sign, and doubles
 
 // A total, or what stood in its place where there is none. It rules out, for instance: a refusal that clears it; another number.
 pub fn total_or(x: TotalAnswer, kept: i64) -> i64
@@ -165,6 +189,18 @@ pub fn total_or(x: TotalAnswer, kept: i64) -> i64
     match x {
         TotalAnswer::Total(sum) => sum,
         TotalAnswer::Refused(_) => kept,
+    }
+}
+
+// A probe's three doubles, or what stood in their places where there are none. It rules out, for instance: Tv before Tu; a refusal that
+// clears them.
+pub fn doubles_or(x: ProbeAnswer, kept: [f64; 3]) -> [f64; 3]
+    ensures { λ r. ⌜ r ≡ orKept (doublesIn x) kept ⌝ }
+{
+    match x {
+        ProbeAnswer::Exact(h, u, v) => [h, u, v],
+        ProbeAnswer::Near(h, u, v) => [h, u, v],
+        ProbeAnswer::Refused(_) => kept,
     }
 }
 

@@ -16,7 +16,7 @@ use Rattle.model.specs.Answers.{number, answerNumbers}
 use Rattle.model.specs.Rates.{energyRate, enstrophyRate}
 use Rattle.model.specs.Promises.{TendenciesPromise}
 use Rattle.model.specs.declared.Refusal.{Refusal}
-use Rattle.model.specs.declared.Refusal.the-variants.{Grid, Lengths, Constants, Value, ClosedEdge, Record, Destination, Milliseconds}
+use Rattle.model.specs.declared.Refusal.the-variants.{Grid, Lengths, Constants, Value, ClosedEdge, Record, Destination, Milliseconds, NoSuchCell}
 use Rattle.model.specs.declared.Answer.{Answer}
 use Rattle.model.specs.declared.Answer.the-variants.{Accepted, Refused}
 use Rattle.theorems.specs.Theorems.{theorems}
@@ -35,6 +35,7 @@ from-one (ClosedEdge f k) = lit≤ tt
 from-one (Record k) = lit≤ tt
 from-one Destination = lit≤ tt
 from-one Milliseconds = lit≤ tt
+from-one NoSuchCell = lit≤ tt
 
 done : (a : Answer) → getD (answerNumbers a) 0 0 ≡ 0 → a ≡ Accepted
 done Accepted e = refl
@@ -52,7 +53,7 @@ module _ (call : TendenciesCall) where
   abbrev Promised : Answer → Type 0
   Promised x = TendenciesPromise (call .state) (call .q) (call .dh) (call .du) (call .dv) x (call .dh′) (call .du′) (call .dv′)
 
-  promised : call .returned ≡ 0 → Promised Accepted
+  pub promised : call .returned ≡ 0 → Promised Accepted
   promised z = subst Promised (done (call .told .answer) (sym (call .told .told .returns) ∙ z)) (call .told .promise)
 
   -- such a call is not refused

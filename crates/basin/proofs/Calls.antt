@@ -1,7 +1,7 @@
 -- Calls of the C functions as a caller sees them: what goes in, the number returned, and what is left in the lent parameters (marked ′), by
 -- name. Each is read off `Learnt`, once: what a caller learns of a call, the function's `ensures` in src/lib.rt as the checker reads it,
 -- of the arguments a, the number returned, and the parameters e as the call returns, both in the order of the signature. The theorems
--- (Applied, Balance, Records) are of these calls. Assumes nothing.
+-- (Applied, Probed, Balance, Records) are of these calls. Assumes nothing.
 use mathlib.Core.List.{List}
 use Prim.Native.Nat.{ℕ}
 use contract.Lifetimes.{Lfts}
@@ -9,12 +9,17 @@ use denote.Ref.{now}
 use denote.Triple.Clauses.{AtExit}
 use borrow.Fn.Kinds.{Dens, resT, endedOf}
 use lib.IntN.{ℤ}
+use lib.Ieee.{Float}
 use Rattle.model.specs.State.{State, Fields, stateOf, slices}
 use Rattle.model.specs.Promises.{TotalDepthPromise}
 use Rattle.model.specs.declared.Timestamp.{Timestamp}
-use Rattle.basin.specs.FromC.{parameters, timestamp, TendenciesFromC, StepFromC, RunFromC, TotalFromC, WriteFromC, ReadFromC, CompareFromC}
+use Rattle.basin.specs.FromC.{parameters, timestamp, TendenciesFromC, ProbeFromC, ProbeGridFromC, StepFromC, RunFromC, TotalFromC, WriteFromC, ReadFromC, CompareFromC}
 use Rattle.basin.proofs.basin_tendencies.Kinds as tendencies-kinds
 use Rattle.basin.proofs.basin_tendencies.Reads as tendencies-reads
+use Rattle.basin.proofs.basin_probe.Kinds as probe-kinds
+use Rattle.basin.proofs.basin_probe.Reads as probe-reads
+use Rattle.basin.proofs.basin_probe_grid.Kinds as probe-grid-kinds
+use Rattle.basin.proofs.basin_probe_grid.Reads as probe-grid-reads
 use Rattle.basin.proofs.basin_step.Kinds as step-kinds
 use Rattle.basin.proofs.basin_step.Reads as step-reads
 use Rattle.basin.proofs.basin_run.Kinds as run-kinds
@@ -46,6 +51,47 @@ pub record TendenciesCall : Type 0 where
 module _ (κs : Lfts 10) (a : Dens κs tendencies-kinds.ps) (returned : resT tendencies-kinds.r κs .Denot) (e : AtExit (endedOf 10 tendencies-kinds.ps tendencies-kinds.r) κs) where
   abbrev pub tendencies-call : tendencies-reads.Learnt κs a returned e → TendenciesCall
   tendencies-call told =
+      let (w, (n, (kind, (g, (c, (r, (h, (b, (u, (v, (barriers, (q, (dh, (du, (dv, (_, _)))))))))))))))) = a in
+      let (_, (_, (_, (_, (_, (_, (_, (_, (_, (_, (_, (_, (dh′, (du′, (dv′, (answer′, _)))))))))))))))) = e in
+      record { state = stateOf (parameters w n kind g c r) (now h) (now b) (now u) (now v) (now barriers); q = now q; dh = now dh; du = now du; dv = now dv; dh′ = now dh′; du′ = now du′; dv′ = now dv′; returned = returned; answer = now answer′; told = told }
+
+-- ---- `basin_probe`
+
+pub record ProbeCall : Type 0 where
+  pub state : State
+  pub q : List ℤ
+  pub cell : ℕ
+  pub doubles : List Float
+  pub doubles′ : List Float
+  pub returned : ℕ
+  pub answer : List ℕ
+  pub told : ProbeFromC state q cell doubles doubles′ returned answer
+
+module _ (κs : Lfts 8) (a : Dens κs probe-kinds.ps) (returned : resT probe-kinds.r κs .Denot) (e : AtExit (endedOf 8 probe-kinds.ps probe-kinds.r) κs) where
+  abbrev pub probe-call : probe-reads.Learnt κs a returned e → ProbeCall
+  probe-call told =
+      let (w, (n, (kind, (g, (c, (r, (h, (b, (u, (v, (barriers, (q, (cell, (doubles, (_, _))))))))))))))) = a in
+      let (_, (_, (_, (_, (_, (_, (_, (_, (_, (_, (_, (_, (_, (doubles′, (answer′, _))))))))))))))) = e in
+      record { state = stateOf (parameters w n kind g c r) (now h) (now b) (now u) (now v) (now barriers); q = now q; cell = cell; doubles = now doubles; doubles′ = now doubles′; returned = returned; answer = now answer′; told = told }
+
+-- ---- `basin_probe_grid`
+
+pub record ProbeGridCall : Type 0 where
+  pub state : State
+  pub q : List ℤ
+  pub dh : List Float
+  pub du : List Float
+  pub dv : List Float
+  pub dh′ : List Float
+  pub du′ : List Float
+  pub dv′ : List Float
+  pub returned : ℕ
+  pub answer : List ℕ
+  pub told : ProbeGridFromC state q dh du dv dh′ du′ dv′ returned answer
+
+module _ (κs : Lfts 10) (a : Dens κs probe-grid-kinds.ps) (returned : resT probe-grid-kinds.r κs .Denot) (e : AtExit (endedOf 10 probe-grid-kinds.ps probe-grid-kinds.r) κs) where
+  abbrev pub probe-grid-call : probe-grid-reads.Learnt κs a returned e → ProbeGridCall
+  probe-grid-call told =
       let (w, (n, (kind, (g, (c, (r, (h, (b, (u, (v, (barriers, (q, (dh, (du, (dv, (_, _)))))))))))))))) = a in
       let (_, (_, (_, (_, (_, (_, (_, (_, (_, (_, (_, (_, (dh′, (du′, (dv′, (answer′, _)))))))))))))))) = e in
       record { state = stateOf (parameters w n kind g c r) (now h) (now b) (now u) (now v) (now barriers); q = now q; dh = now dh; du = now du; dv = now dv; dh′ = now dh′; du′ = now du′; dv′ = now dv′; returned = returned; answer = now answer′; told = told }

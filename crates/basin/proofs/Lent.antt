@@ -3,11 +3,14 @@ use mathlib.Core.Path.{_≡_, subst, _∙_}
 use mathlib.Core.List.{List}
 use Prim.Native.Nat.{ℕ}
 use lib.IntN.{ℤ}
+use lib.Ieee.{Float}
 use Rattle.model.specs.State.{stateOf}
 use Rattle.model.specs.declared.Timestamp.{Timestamp}
-use Rattle.model.specs.Promises.{VorticityPromise, TendenciesPromise, StepPromise, RunPromise, TotalDepthPromise, TotalEnergyPromise, WritePromise}
+use Rattle.model.specs.Promises.{VorticityPromise, TendenciesPromise, ProbePromise, ProbeGridPromise, StepPromise, RunPromise, TotalDepthPromise, TotalEnergyPromise, WritePromise}
 use Rattle.model.specs.declared.Parameters.{Parameters}
 use Rattle.model.specs.declared.Answer.{Answer}
+use Rattle.model.specs.declared.ProbeAnswer.{ProbeAnswer}
+use Rattle.model.specs.declared.ProbeGridAnswer.{ProbeGridAnswer}
 use Rattle.model.specs.declared.StepAnswer.{StepAnswer}
 use Rattle.model.specs.declared.RunAnswer.{RunAnswer}
 use Rattle.model.specs.declared.TotalAnswer.{TotalAnswer}
@@ -25,6 +28,13 @@ module _ {p q : Parameters} (e : p ≡ q) (h b u v : List ℤ) (barriers : List 
   pub tendencies-of : (y : List ℤ) {dh du dv dh′ du′ dv′ : List ℤ} {a : Answer} → TendenciesPromise (stateOf p h b u v barriers) y dh du dv a dh′ du′ dv′
       → TendenciesPromise (stateOf q h b u v barriers) y dh du dv a dh′ du′ dv′
   tendencies-of y {dh} {du} {dv} {dh′} {du′} {dv′} {a} x = subst (λ p. TendenciesPromise (stateOf p h b u v barriers) y dh du dv a dh′ du′ dv′) e x
+
+  pub probe-of : (y : List ℤ) {k : ℕ} {a : ProbeAnswer} → ProbePromise (stateOf p h b u v barriers) y k a → ProbePromise (stateOf q h b u v barriers) y k a
+  probe-of y {k} {a} x = subst (λ p. ProbePromise (stateOf p h b u v barriers) y k a) e x
+
+  pub probe-grid-of : (y : List ℤ) {dh du dv dh′ du′ dv′ : List Float} {a : ProbeGridAnswer} → ProbeGridPromise (stateOf p h b u v barriers) y dh du dv a dh′ du′ dv′
+      → ProbeGridPromise (stateOf q h b u v barriers) y dh du dv a dh′ du′ dv′
+  probe-grid-of y {dh} {du} {dv} {dh′} {du′} {dv′} {a} x = subst (λ p. ProbeGridPromise (stateOf p h b u v barriers) y dh du dv a dh′ du′ dv′) e x
 
   pub step-of : {inflow work work′ h′ u′ v′ : List ℤ} {a : StepAnswer} → StepPromise (stateOf p h b u v barriers) inflow work a (stateOf p h′ b u′ v′ barriers) work′
       → StepPromise (stateOf q h b u v barriers) inflow work a (stateOf q h′ b u′ v′ barriers) work′

@@ -5,13 +5,16 @@ use mathlib.Core.List.{List}
 use Prim.Native.Nat.{ℕ, _^_}
 use lib.IntN.{ℤ, pos, negℤ}
 use lib.ListN.{getD}
+use lib.Ieee.{Float}
 use Rattle.model.specs.Numbers.{_to_, within, rnd}
 use Rattle.model.specs.State.{State, Fields}
-use Rattle.model.specs.Answers.{answerNumbers, stepNumbers, runNumbers, totalNumbers, totalIn, writeNumbers, readNumbers, constantsIn, compareNumbers}
-use Rattle.model.specs.Promises.{VorticityPromise, TendenciesPromise, StepPromise, RunPromise, WritePromise, ReadPromise, ComparePromise}
+use Rattle.model.specs.Answers.{answerNumbers, probeNumbers, doublesIn, probeGridNumbers, stepNumbers, runNumbers, totalNumbers, totalIn, writeNumbers, readNumbers, constantsIn, compareNumbers}
+use Rattle.model.specs.Promises.{VorticityPromise, TendenciesPromise, ProbePromise, ProbeGridPromise, StepPromise, RunPromise, WritePromise, ReadPromise, ComparePromise}
 use Rattle.model.specs.declared.Parameters.{Parameters}
 use Rattle.model.specs.declared.Timestamp.{Timestamp}
 use Rattle.model.specs.declared.Answer.{Answer}
+use Rattle.model.specs.declared.ProbeAnswer.{ProbeAnswer}
+use Rattle.model.specs.declared.ProbeGridAnswer.{ProbeGridAnswer}
 use Rattle.model.specs.declared.StepAnswer.{StepAnswer}
 use Rattle.model.specs.declared.RunAnswer.{RunAnswer}
 use Rattle.model.specs.declared.TotalAnswer.{TotalAnswer}
@@ -34,6 +37,18 @@ pub record TendenciesFromC (s : State) (q dh du dv dh′ du′ dv′ : List ℤ)
   pub answer : Answer
   pub promise : TendenciesPromise s q dh du dv answer dh′ du′ dv′
   pub told : Told (answerNumbers answer) k exit
+
+-- the same in doubles: those of a cell are the three lent ones, which a refusal leaves as they were
+pub record ProbeFromC (s : State) (q : List ℤ) (cell : ℕ) (doubles doubles′ : List Float) (k : ℕ) (exit : List ℕ) : Type 0 where
+  pub answer : ProbeAnswer
+  pub promise : ProbePromise s q cell answer
+  pub holds : doubles′ ≡ orKept (doublesIn answer) doubles
+  pub told : Told (probeNumbers answer) k exit
+
+pub record ProbeGridFromC (s : State) (q : List ℤ) (dh du dv dh′ du′ dv′ : List Float) (k : ℕ) (exit : List ℕ) : Type 0 where
+  pub answer : ProbeGridAnswer
+  pub promise : ProbeGridPromise s q dh du dv answer dh′ du′ dv′
+  pub told : Told (probeGridNumbers answer) k exit
 
 -- step and run, from a state to the state that they leave
 pub record StepFromC (s : State) (inflow work : List ℤ) (s′ : State) (work′ : List ℤ) (k : ℕ) (exit : List ℕ) : Type 0 where
@@ -90,6 +105,6 @@ pub record Rounded (a b entry : ℤ) (k : ℕ) (exit : ℤ) : Type 0 where
 
 -- ---- version
 
--- 0.6.0
+-- 0.7.0
 abbrev pub version : ℕ
-version = 600
+version = 700

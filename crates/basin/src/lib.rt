@@ -7,7 +7,7 @@ ghost use Rattle.model.specs.State.{before, after, slicesBefore, slicesAfter};
 ghost use Rattle.model.specs.Promises.{TotalDepthPromise, TotalEnergyPromise};
 ghost use Rattle.basin.specs.FromC;
 ghost use Rattle.basin.specs.FromC.{VorticityFromC, TendenciesFromC, StepFromC, RunFromC, TotalFromC, WriteFromC};
-ghost use Rattle.basin.specs.FromC.{ReadFromC, CompareFromC, roundable, Rounded, version};
+ghost use Rattle.basin.specs.FromC.{ReadFromC, CompareFromC, ProbeFromC, ProbeGridFromC, roundable, Rounded, version};
 use integers::Range;
 use model::Parameters;
 use model::Timestamp;
@@ -84,6 +84,70 @@ pub extern "C" fn basin_tendencies(
     let p = parameters(w, n, kind, g, c, r);
     let x = scheme_tendencies::tendencies(p, h, b, u, v, barriers, q, dh, du, dv);
     answers::tell(answer, answers::answer_numbers(x))
+}
+
+// ---- the same in doubles
+
+// Each is the proved call, told in eight numbers: after 0, 0 for exact and 1 for near. The doubles of a cell go into three lent ones, which a
+// refusal leaves. They rule out, for instance: near told as exact; Tu and Tv swapped; a refusal that clears the doubles.
+
+#[no_mangle]
+pub extern "C" fn basin_probe(
+    w: usize,
+    n: usize,
+    kind: u8,
+    g: i64,
+    c: i64,
+    r: i64,
+    h: &[i64],
+    b: &[i64],
+    u: &[i64],
+    v: &[i64],
+    barriers: &[u8],
+    q: &[i64],
+    cell: usize,
+    doubles: &mut [f64; 3],
+    answer: &mut [u64; 8],
+) -> u64
+    ensures { λ k. ⌜
+        ProbeFromC (before (FromC.parameters w n kind g c r) h b u v barriers) (now (q .entry)) cell
+        (now (doubles .entry)) (now (doubles .exit)) k (now (answer .exit))
+        ⌝ }
+{
+    let p = parameters(w, n, kind, g, c, r);
+    let x = scheme_probe::probe(p, h, b, u, v, barriers, q, cell);
+    *doubles = answers::doubles_or(x, *doubles);
+    answers::tell(answer, answers::probe_numbers(x))
+}
+
+#[no_mangle]
+pub extern "C" fn basin_probe_grid(
+    w: usize,
+    n: usize,
+    kind: u8,
+    g: i64,
+    c: i64,
+    r: i64,
+    h: &[i64],
+    b: &[i64],
+    u: &[i64],
+    v: &[i64],
+    barriers: &[u8],
+    q: &[i64],
+    dh: &mut [f64],
+    du: &mut [f64],
+    dv: &mut [f64],
+    answer: &mut [u64; 8],
+) -> u64
+    ensures { λ k. ⌜
+        ProbeGridFromC (before (FromC.parameters w n kind g c r) h b u v barriers) (now (q .entry)) (now (dh .entry))
+        (now (du .entry)) (now (dv .entry)) (now (dh .exit)) (now (du .exit)) (now (dv .exit)) k
+        (now (answer .exit))
+        ⌝ }
+{
+    let p = parameters(w, n, kind, g, c, r);
+    let x = scheme_probe::probe_grid(p, h, b, u, v, barriers, q, dh, du, dv);
+    answers::tell(answer, answers::probe_grid_numbers(x))
 }
 
 // ---- step and run
@@ -311,5 +375,5 @@ pub extern "C" fn basin_rnd(a: i64, b: i64, rounded: &mut i64) -> u64
 pub extern "C" fn basin_version() -> u64
     ensures { λ k. ⌜ k ≡ version ⌝ }
 {
-    600
+    700
 }

@@ -87,7 +87,7 @@ pub fn vorticity_at(p: Parameters, h: &[i64], u: &[i64], v: &[i64], i: usize, j:
 const WEIGHTS: [[i64; 4]; 4] = [[2, 1, 2, 1], [1, 2, 1, 2], [1, 1, -1, -1], [-1, 1, 1, -1]];
 
 // The weight of a row at a corner: the model's table. It rules out, for instance: P and M swapped; E without its signs.
-fn weight_at(row: usize, corner: usize) -> i64
+pub fn weight_at(row: usize, corner: usize) -> i64
     requires { ⌜ (row < 4) × (corner < 4) ⌝ }
     ensures { λ r. ⌜ r ≡ weightAt row corner ⌝ }
 {

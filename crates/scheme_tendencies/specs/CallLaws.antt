@@ -3,22 +3,36 @@ use mathlib.Core.Path.{_≡_, sym, ap, _∙_}
 use mathlib.Core.List.{List, [], _∷_}
 use mathlib.Core.Option.{Option, none, some}
 use Prim.Native.Nat.{ℕ, _≤_}
+use lib.Dec.{T}
 use lib.IntN.{ℤ}
 use lib.ListN.{length}
-use Rattle.model.specs.State.{State, cells, WithinLimits}
-use Rattle.model.specs.Refusals.{taken}
-use Rattle.model.specs.Promises.{answerOf, Filling, filledBy, Fills, vorticityTests, vorticityTest, tendenciesTests, tendenciesTest}
+use Rattle.model.specs.State.{State, parametersOf, cells, WithinLimits}
+use Rattle.model.specs.Tests.{firstFound}
+use Rattle.model.specs.Refusals.{taken, gridKnown, stateTests, roomTests}
+use Rattle.model.specs.Promises.{answerOf, Filling, filledBy, Fills, vorticityTests, vorticityTest, tendenciesTest}
 use Rattle.model.specs.Claims.{held}
 use Rattle.model.specs.declared.Field.the-variants.{Vorticity}
 use Rattle.model.specs.declared.Refusal.{Refusal}
+use Rattle.model.specs.declared.Answer.{Answer}
 use Rattle.model.specs.declared.Answer.the-variants.{Accepted}
 use Rattle.theorems.specs.Truth.{_⟫_}
 use Rattle.theorems.specs.TestLaws.{passes}
-use Rattle.theorems.specs.Limits.{accepted}
+use Rattle.theorems.specs.Limits.{accepted, tendencies-taken}
 use Rattle.theorems.specs.Causes.{kept}
 use Rattle.theorems.specs.RoundTrip.{bars-long}
-use Rattle.tests.specs.Links.{accepted-none}
+use Rattle.tests.specs.Links.{after, start, counted, passed, accepted-none}
 use Rattle.scheme.specs.Ready.{TendenciesReady, ready}
+
+-- ---- what the tests find, that tendencies and the probe of a grid make
+
+pub tendencies-tested : (s : State) (q : List ℤ) (h u v : ℕ) {m : ℕ} {a r : Answer} → a ≡ answerOf (firstFound (stateTests s (taken s Vorticity q ∷ []) [] []))
+    → (T (gridKnown (parametersOf s)) → m ≡ cells s)
+    → r ≡ after a (roomTests m (h ∷ u ∷ v ∷ []))
+    → r ≡ answerOf (tendenciesTest s q h u v)
+unfolding tendenciesTest
+tendencies-tested s q h u v e known l =
+    let g = start Accepted (stateTests s (taken s Vorticity q ∷ []) [] []) e in
+    counted (λ k. roomTests k (h ∷ u ∷ v ∷ [])) g (λ p. known (passed g p .0)) l .is
 
 -- ---- by what its test found
 
@@ -49,9 +63,6 @@ vorticity-passed s room e =
 pub tendencies-passed : {A : Type 0} (s : State) (q : List ℤ) (dh du dv : List A)
     → Accepted ≡ answerOf (tendenciesTest s q (length dh) (length du) (length dv))
     → TendenciesReady s q × (length (s .barriers) ≡ cells s) × Room (cells s) dh du dv
-unfolding tendenciesTest
 tendencies-passed s q dh du dv e =
-    let l = length dh ∷ length du ∷ length dv ∷ [] in
-    let o = accepted-none (tendenciesTest s q (length dh) (length du) (length dv)) e in
-    let a = (passes (tendenciesTests s q (length dh) (length du) (length dv)) ⟫ accepted .call s (taken s Vorticity q ∷ []) (cells s) l) .0 o in
-    (ready (a .0) (a .1 .0), bars-long s (a .0), record { h = a .2 .0; u = a .2 .1 .0; v = a .2 .1 .1 .0 })
+    let a = tendencies-taken s q (length dh) (length du) (length dv) .0 (accepted-none (tendenciesTest s q (length dh) (length du) (length dv)) e) in
+    (ready (a .0 .0) (a .0 .1), bars-long s (a .0 .0), record { h = a .1; u = a .2; v = a .3 })

@@ -1,4 +1,4 @@
-// 01's refusals 1 to 5 and 8, and 02's 9, as links of a chain. A link takes what the tests before it answered, and answers that, or else
+// 01's refusals 1 to 5 and 8, and 02's 9 and 10, as links of a chain. A link takes what the tests before it answered, and answers that, or else
 // what its own test finds: after a refusal it does nothing. A call writes its tests as a chain, in the order of its list in the model.
 ghost use mathlib.Core.Path.{_≡_};
 ghost use mathlib.Core.Bool.{_&&_};
@@ -10,11 +10,11 @@ ghost use lib.ListN.{length};
 ghost use Rattle.model.specs.Numbers.{longestSide};
 ghost use Rattle.model.specs.Grid.{firstFrom};
 ghost use Rattle.model.specs.State.{State, stateOf, lent, before, barrierAt};
-ghost use Rattle.model.specs.Fields.{fieldNumber, limitsOf};
+ghost use Rattle.model.specs.Fields.{fieldNumber, limitsOf, narrowOf};
 ghost use Rattle.model.specs.Tests.{asks, firstFound};
 ghost use Rattle.model.specs.Refusals.{taken, fieldsOf, gridKnown, gridTest, runLengthTest, lengthTest, workTest};
 ghost use Rattle.model.specs.Refusals.{constantsWithin, constantsTest, timeTest, valueTest, valueTests, edgeTests, roomTest, roomTests};
-ghost use Rattle.model.specs.Refusals.{stateTests};
+ghost use Rattle.model.specs.Refusals.{narrowed, cellTest, stateTests};
 ghost use Rattle.model.specs.Promises.{answerOf};
 ghost use Rattle.model.specs.declared.Answer.the-variants.{Accepted};
 ghost use Rattle.model.specs.declared.Field.the-variants.{Vorticity};
@@ -47,6 +47,12 @@ fn row(number: u64, least: i64, most: i64) -> FieldRow
     }
 }
 
+fn range(least: i64, most: i64) -> Range
+    ensures { λ r. ⌜ (r .least ≡ least) × (r .most ≡ most) ⌝ }
+{
+    Range { least, most }
+}
+
 // The table of the fields. It rules out, for instance: a bound off by one; q's bounds for the inflow; two fields of one number.
 pub fn row_of(field: Field) -> FieldRow
     ensures { λ r. ⌜ (r .number ≡ fieldNumber field) × (between (r .limits) ≡ limitsOf field) ⌝ }
@@ -67,6 +73,22 @@ pub fn limits(field: Field) -> Range
     ensures { λ r. ⌜ between r ≡ limitsOf field ⌝ }
 {
     row_of(field).limits
+}
+
+// 02's narrow bounds of a field; those that it does not name keep 01's. It rules out, for instance: an end excluded; b's bound left at
+// 01's.
+pub fn narrow_limits(field: Field) -> Range
+    ensures { λ r. ⌜ between r ≡ narrowOf field ⌝ }
+{
+    match field {
+        Field::Depth => range(1000, 10000),
+        Field::Bottom => range(0, 10000),
+        Field::VelocityU => range(-500, 500),
+        Field::VelocityV => range(-500, 500),
+        Field::Vorticity => range(-1000000, 1000000),
+        Field::Inflow => range(-1000, 1000),
+        Field::Barriers => range(0, 3),
+    }
 }
 
 // ---- scans
@@ -332,6 +354,14 @@ pub fn then_field(earlier: Answer, p: Parameters, f: &[i64], field: Field) -> An
     then_within(earlier, p, f, field, limits(field))
 }
 
+// The same by 02's narrow limits. It rules out, for instance: 01's limits; the narrow ones of another field.
+pub fn then_narrow(earlier: Answer, p: Parameters, f: &[i64], field: Field) -> Answer
+    requires { ⌜ (earlier ≡ Accepted → length (now f) ≡ p .w * p .n) ⌝ }
+    ensures { λ r. ⌜ r ≡ after earlier (valueTest Value (narrowed (bare p) field (now (f .entry))) ∷ []) ⌝ }
+{
+    then_within(earlier, p, f, field, narrow_limits(field))
+}
+
 // Test 4 of the barriers. It rules out, for instance: 4 taken for a barrier; the last cell outside told.
 pub fn then_barriers(earlier: Answer, barriers: &[u8]) -> Answer
     ensures { λ r. ⌜
@@ -425,6 +455,15 @@ pub fn then_rooms(earlier: Answer, m: usize, dh: usize, du: usize, dv: usize) ->
     let first = then_room(earlier, m, dh);
     let second = then_room(first, m, du);
     then_room(second, m, dv)
+}
+
+// ---- 10
+
+// The index of a probed cell among m cells. It rules out, for instance: the cell m taken; the last cell refused.
+pub fn then_cell(earlier: Answer, m: usize, cell: usize) -> Answer
+    ensures { λ r. ⌜ r ≡ after earlier (cellTest m cell ∷ []) ⌝ }
+{
+    then_asks(earlier, cell < m, Refusal::NoSuchCell)
 }
 
 // ---- a state alone, and with a potential vorticity

@@ -6,13 +6,11 @@ use lib.ListN.{length}
 use borrow.Author.Needs.{needs}
 use Rattle.model.specs.State.{State, stateOf, cells}
 use Rattle.model.specs.Answers.{toldAnswer}
-use Rattle.model.specs.Refusals.{taken, stateTests, roomTests}
-use Rattle.model.specs.declared.Field.the-variants.{Vorticity}
 use Rattle.model.specs.Scheme.{hTendencies, uTendencies, vTendencies}
 use Rattle.model.specs.Promises.{answerOf, Filling, _into_, tendenciesTest}
 use Rattle.model.specs.declared.Answer.the-variants.{Accepted}
-use Rattle.tests.specs.Links.{start, counted, passed, accepted-none, refused-some}
-use Rattle.scheme_tendencies.specs.CallLaws.{fill-done, fill-refused, tendencies-passed}
+use Rattle.tests.specs.Links.{accepted-none, refused-some}
+use Rattle.scheme_tendencies.specs.CallLaws.{tendencies-tested, fill-done, fill-refused, tendencies-passed}
 use Rattle.scheme_tendencies.proofs.tendencies.Statement.{statement}
 use Rattle.scheme_tendencies.proofs.tendencies.Tie as tie
 
@@ -27,14 +25,10 @@ fillings c = let a = c .args in hTendencies (state c) into a .dh .now ∷ uTende
 tested : (c : tie.After-then-rooms)
     → let b = c .before .before .before .before in let a = b .args in
     c .then-rooms .result ≡ answerOf (tendenciesTest (state b) (a .q .now) (length (a .dh .now)) (length (a .du .now)) (length (a .dv .now)))
-unfolding tendenciesTest
 tested c =
     let t = c .before in
-    let m = t .before in
-    let a = m .before .before .args in
-    let s = state (m .before .before) in
-    let g = start Accepted (stateTests s (taken s Vorticity (a .q .now) ∷ []) [] []) (t .test-vorticity .ensures) in
-    counted (λ k. roomTests k (length (a .dh .now) ∷ length (a .du .now) ∷ length (a .dv .now) ∷ [])) g (λ h. m .cells-of .ensures .0 (passed g h .0)) (c .then-rooms .ensures) .is
+    let b = t .before .before .before in
+    tendencies-tested (state b) (b .args .q .now) _ _ _ (t .test-vorticity .ensures) (t .before .cells-of .ensures .0) (c .then-rooms .ensures)
 
 accepted : (c : tie.After-enum-told)
     → let b = c .before .before .before .before .before .before in let a = b .args in

@@ -7,21 +7,22 @@ use denote.Enum.Declared.{tagOf}
 use borrow.Author.Needs.{needs}
 use Rattle.model.specs.Step.{leavesAll}
 use Rattle.model.specs.declared.Refusal.{Refusal}
-use Rattle.model.specs.declared.Refusal.the-variants.{Grid, Lengths, Constants, Value, ClosedEdge, Record, Destination, Milliseconds}
+use Rattle.model.specs.declared.Refusal.the-variants.{Grid, Lengths, Constants, Value, ClosedEdge, Record, Destination, Milliseconds, NoSuchCell}
 use Rattle.model.proofs.Refusal.{the-type}
 use Rattle.step_run.proofs.leaves_all.Statement.{statement}
 use Rattle.step_run.proofs.leaves_all.Tie as tie
 
 -- the arm of all others
-others : (r : Refusal) → OneOf (2 ∷ 3 ∷ 4 ∷ 7 ∷ []) (tagOf the-type r) → false ≡ leavesAll r
-others Grid k = absurd (miss (2 ∷ 3 ∷ 4 ∷ 7 ∷ []) 0 tt k)
-others Lengths k = absurd (miss (2 ∷ 3 ∷ 4 ∷ 7 ∷ []) 1 tt k)
+others : (r : Refusal) → OneOf (2 ∷ 3 ∷ 4 ∷ 7 ∷ 8 ∷ []) (tagOf the-type r) → false ≡ leavesAll r
+others Grid k = absurd (miss (2 ∷ 3 ∷ 4 ∷ 7 ∷ 8 ∷ []) 0 tt k)
+others Lengths k = absurd (miss (2 ∷ 3 ∷ 4 ∷ 7 ∷ 8 ∷ []) 1 tt k)
 others Constants k = refl
 others (Value f c) k = refl
 others (ClosedEdge f c) k = refl
-others (Record c) k = absurd (miss (2 ∷ 3 ∷ 4 ∷ 7 ∷ []) 5 tt k)
-others Destination k = absurd (miss (2 ∷ 3 ∷ 4 ∷ 7 ∷ []) 6 tt k)
+others (Record c) k = absurd (miss (2 ∷ 3 ∷ 4 ∷ 7 ∷ 8 ∷ []) 5 tt k)
+others Destination k = absurd (miss (2 ∷ 3 ∷ 4 ∷ 7 ∷ 8 ∷ []) 6 tt k)
 others Milliseconds k = refl
+others NoSuchCell k = refl
 
 pub leaves-all-spec : {M : Type 1} → statement M
 leaves-all-spec =
