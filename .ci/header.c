@@ -100,6 +100,10 @@ static void refusals(void)
            BASIN_REFUSED_DESTINATION);
     expect("9", basin_state_write(&s, 0, 1000, record, 65, answer),
            BASIN_REFUSED_MILLISECONDS);
+    double doubles[3];
+    q[0] = 328;
+    expect("10", basin_state_probe(&s, q, 1, doubles, answer),
+           BASIN_REFUSED_NO_SUCH_CELL);
 }
 
 /* Each kind and each field by its name. */
@@ -138,6 +142,28 @@ static void names(void)
     s.kind = BASIN_KIND_CHANNEL;
     basin_state_total_depth(&s, &total, answer);
     expect("a channel closes the south", answer[1], BASIN_FIELD_V);
+}
+
+/* Doubles are the whole numbers in a narrow grid, and near them in another. */
+static void probes(void)
+{
+    int64_t h[1] = {2000}, b[1] = {0}, u[1] = {100}, v[1] = {-50}, q[1] = {328};
+    uint8_t barriers[1] = {BASIN_BARRIER_NONE};
+    uint64_t answer[8];
+    struct basin_state s = {
+        1, 1, BASIN_KIND_PERIODIC, 9810, 10, 1000, h, b, u, v, barriers,
+    };
+    double doubles[3], dh[1], du[1], dv[1];
+    expect("a cell", basin_state_probe(&s, q, 0, doubles, answer), 0);
+    expect("exact", answer[1], BASIN_EXACT);
+    expect("-D", doubles[0] == 0.0, 1);
+    expect("Tu", doubles[1] == -1574400000.0, 1);
+    expect("Tv", doubles[2] == -3148800000.0, 1);
+    h[0] = 10001;
+    expect("a grid", basin_state_probe_grid(&s, q, dh, du, dv, answer), 0);
+    expect("near", answer[1], BASIN_NEAR);
+    expect("the grid's", dh[0] == 0.0 && du[0] == -7872787200.0 &&
+           dv[0] == -15745574400.0, 1);
 }
 
 /* A record goes round, and what it was before does not count. */
@@ -180,6 +206,7 @@ int main(void)
     sizes();
     refusals();
     names();
+    probes();
     round_trip();
     return wrong;
 }

@@ -40,6 +40,15 @@ static int64_t sum(const int64_t *list, size_t len)
     return all;
 }
 
+/* The same of doubles. */
+static double sum_of_doubles(const double *list, size_t len)
+{
+    double all = 0;
+    for (size_t k = 0; k < len; k++)
+        all += list[k];
+    return all;
+}
+
 static struct basin_state lists(size_t cells)
 {
     struct basin_state s = {
@@ -81,6 +90,36 @@ static void diagnose(const struct basin_state *s)
     free(dh);
     free(du);
     free(dv);
+}
+
+static void probe(const struct basin_state *s)
+{
+    size_t cells = basin_state_cells(s);
+    int64_t *q = room(8 * cells);
+    double *dh = room(8 * cells), *du = room(8 * cells), *dv = room(8 * cells);
+    double *doubles = room(3 * sizeof *doubles);
+    uint64_t answer[8];
+    expect("vorticity", basin_state_potential_vorticity(s, q, answer), answer,
+           BASIN_ACCEPTED);
+    expect("no cell", basin_state_probe(s, q, cells, doubles, answer), answer,
+           BASIN_REFUSED_NO_SUCH_CELL);
+    expect("probe of a grid", basin_state_probe_grid(s, q, dh, du, dv, answer),
+           answer, BASIN_ACCEPTED);
+    uint64_t trust = answer[1];
+    if (sum_of_doubles(dh, cells) != 0)
+        wrong++;
+    for (size_t k = 0; k < cells; k++) {
+        expect("probe", basin_state_probe(s, q, k, doubles, answer), answer,
+               BASIN_ACCEPTED);
+        if (answer[1] != trust || doubles[0] != dh[k] || doubles[1] != du[k] ||
+            doubles[2] != dv[k])
+            wrong++;
+    }
+    free(q);
+    free(dh);
+    free(du);
+    free(dv);
+    free(doubles);
 }
 
 static void step(struct basin_state *s)
@@ -182,8 +221,10 @@ static void try_record(const char *name)
     expect("compare", basin_compare(record, len, again, len, answer), answer,
            BASIN_ACCEPTED);
     diagnose(&s);
+    probe(&s);
     step(&s);
     diagnose(&s);
+    probe(&s);
     refuse(&s);
     cut(record, len, &s, cells);
     drop(&s);

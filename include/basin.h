@@ -1,10 +1,10 @@
 /*
- * The proved basin core (document 01, and requests U1 and U2 of document 02),
- * for C and C++ on x86-64. Link target/staticlib/libbasin.a, which `rt
+ * The proved basin core (document 01, and requests U1, U2 and U3 of document
+ * 02), for C and C++ on x86-64. Link target/staticlib/libbasin.a, which `rt
  * staticlib basin` writes: the step of a state and runs of it, totals,
- * potential vorticity and tendencies, the record of a state (writer, reader,
- * comparison), and rounding. `./forecast install PREFIX` puts it, and a shared
- * library of the same functions, into PREFIX/lib.
+ * potential vorticity and tendencies, these in double precision too, the record
+ * of a state (writer, reader, comparison), and rounding. `./forecast install
+ * PREFIX` puts it, and a shared library of the same functions, into PREFIX/lib.
  *
  * Every function takes any numbers and any lengths, and always returns. A
  * field or a record is lent as a pointer and the number of its elements. A
@@ -88,6 +88,7 @@
  *   8       a field to be filled has fewer than w*n places;
  *           record_len below 52 + 13*w*n, to be written
  *   9       milliseconds above 999 (write, read, compare)
+ *   10      a probed cell outside the grid
  *
  *   field   bounds
  *   0       h         depth, 1,000 to 100,000 mm
@@ -113,7 +114,7 @@ extern "C" {
  * basin_version() returns that of the library. A caller that finds two numbers
  * has a header and a library that do not belong together.
  */
-#define BASIN_VERSION 600
+#define BASIN_VERSION 700
 uint64_t basin_version(void);
 
 /* The refusals: what a call returns, and answer[0]. */
@@ -127,7 +128,8 @@ enum basin_refusal {
     BASIN_REFUSED_OUT_OF_BOUNDS = 6,
     BASIN_REFUSED_RECORD = 7,
     BASIN_REFUSED_DESTINATION = 8,
-    BASIN_REFUSED_MILLISECONDS = 9
+    BASIN_REFUSED_MILLISECONDS = 9,
+    BASIN_REFUSED_NO_SUCH_CELL = 10
 };
 
 /* The kinds of boundary. */
@@ -153,6 +155,12 @@ enum basin_barrier {
     BASIN_BARRIER_NONE = 0,
     BASIN_BARRIER_WEST = 1,
     BASIN_BARRIER_SOUTH = 2
+};
+
+/* How far to trust doubles: answer[1] of basin_probe and basin_probe_grid. */
+enum basin_trust {
+    BASIN_EXACT = 0,
+    BASIN_NEAR = 1
 };
 
 /* What two records are to each other: answer[1] of basin_compare. */
@@ -221,6 +229,53 @@ uint64_t basin_tendencies(size_t w, size_t n, uint8_t kind,
                           int64_t *dh, size_t dh_len,
                           int64_t *du, size_t du_len,
                           int64_t *dv, size_t dv_len,
+                          uint64_t answer[8]);
+
+/*
+ * The tendencies of one cell in double precision, and how far to trust them.
+ * The cell is j*w + i for column i of row j; q is as in basin_tendencies. Tests
+ * 1 to 5, q among the fields, then 10 of cell. Where none refuses, doubles are
+ * -D, Tu and Tv, the tendencies of h, u and v, and the answer is 0 and one of
+ * these; otherwise doubles are untouched:
+ *
+ *   0  exact: they are the whole numbers that basin_tendencies gives. The grid
+ *      is narrow: every h and b of it is at most 10,000, every u and v -500 to
+ *      500, and every number of q -1,000,000 to 1,000,000
+ *   1  near: -D is that whole number, Tu and Tv are at most 64 away from theirs
+ *
+ * The doubles are those of 01's formulas with each operation rounded once to
+ * the nearest double: products first, sums from left to right. Tu and Tv are
+ * 0.0 on closed edges. Where D is 0.0, -D is -0.0.
+ */
+uint64_t basin_probe(size_t w, size_t n, uint8_t kind,
+                     int64_t g, int64_t c, int64_t r,
+                     const int64_t *h, size_t h_len,
+                     const int64_t *b, size_t b_len,
+                     const int64_t *u, size_t u_len,
+                     const int64_t *v, size_t v_len,
+                     const uint8_t *barriers, size_t barriers_len,
+                     const int64_t *q, size_t q_len,
+                     size_t cell,
+                     double doubles[3],
+                     uint64_t answer[8]);
+
+/*
+ * The same of every cell: -D in dh, Tu in du and Tv in dv. Tests 1 to 5, q among
+ * the fields, then 8 of dh, du and dv. Where none refuses, the first w*n doubles
+ * of each of the three are the result and the rest of each is untouched; the
+ * answer is that of a probe.
+ */
+uint64_t basin_probe_grid(size_t w, size_t n, uint8_t kind,
+                          int64_t g, int64_t c, int64_t r,
+                          const int64_t *h, size_t h_len,
+                          const int64_t *b, size_t b_len,
+                          const int64_t *u, size_t u_len,
+                          const int64_t *v, size_t v_len,
+                          const uint8_t *barriers, size_t barriers_len,
+                          const int64_t *q, size_t q_len,
+                          double *dh, size_t dh_len,
+                          double *du, size_t du_len,
+                          double *dv, size_t dv_len,
                           uint64_t answer[8]);
 
 /*
@@ -382,6 +437,32 @@ static inline uint64_t basin_state_tendencies(
 {
     size_t cells = basin_state_cells(s);
     return basin_tendencies(s->w, s->n, s->kind, s->g, s->c, s->r,
+                            s->h, cells, s->b, cells, s->u, cells,
+                            s->v, cells, s->barriers, cells, q, cells,
+                            dh, cells, du, cells, dv, cells, answer);
+}
+
+/*
+ * The probe of a cell with the w*n numbers of q: -D, Tu and Tv, into doubles.
+ * answer[1] says how far to trust them.
+ */
+static inline uint64_t basin_state_probe(
+    const struct basin_state *s, const int64_t *q, size_t cell,
+    double doubles[3], uint64_t answer[8])
+{
+    size_t cells = basin_state_cells(s);
+    return basin_probe(s->w, s->n, s->kind, s->g, s->c, s->r,
+                       s->h, cells, s->b, cells, s->u, cells, s->v, cells,
+                       s->barriers, cells, q, cells, cell, doubles, answer);
+}
+
+/* The same of every cell, into the w*n places of dh, du, dv. */
+static inline uint64_t basin_state_probe_grid(
+    const struct basin_state *s, const int64_t *q,
+    double *dh, double *du, double *dv, uint64_t answer[8])
+{
+    size_t cells = basin_state_cells(s);
+    return basin_probe_grid(s->w, s->n, s->kind, s->g, s->c, s->r,
                             s->h, cells, s->b, cells, s->u, cells,
                             s->v, cells, s->barriers, cells, q, cells,
                             dh, cells, du, cells, dv, cells, answer);

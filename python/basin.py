@@ -11,9 +11,10 @@
 The calls are those of include/basin.h, which says what each does and why it may refuse. A refusal is an exception, Refused. Only a
 step that would leave the bounds, 6, ends a run without one: `run` gives the steps done, and what stopped it.
 
-The lists of a state are array('q'), and array('B') for the barriers; other buffers of the same elements will do too, as those of
-numpy: numpy.frombuffer(dock.h, 'int64').reshape(dock.n, dock.w) is a view of one, without a copy. Any numbers and any lengths may
-stand in a state: the core tests them with each call. Numbers that C would cut off raise OverflowError here; kind 256 is not taken as 0.
+The lists of a state are array('q'), and array('B') for the barriers; doubles are in array('d'). Other buffers of the same elements
+will do too, as those of numpy: numpy.frombuffer(dock.h, 'int64').reshape(dock.n, dock.w) is a view of one, without a copy. Any numbers
+and any lengths may stand in a state: the core tests them with each call. Numbers that C would cut off raise OverflowError here; kind
+256 is not taken as 0.
 
 Threads: calls share nothing, and let other threads of Python run. A state, or a list, that a call writes must not be in another call
 at the same time.
@@ -29,7 +30,7 @@ from array import array
 from typing import NamedTuple, Optional
 
 #: 10,000 times major, 100 times minor, and patch: that of the library that belongs to this module.
-VERSION = 600
+VERSION = 700
 
 #: The kinds of boundary.
 PERIODIC, CHANNEL, BASIN = 0, 1, 2
@@ -47,6 +48,12 @@ class Comparison(enum.IntEnum):
     CONFLICT = 3
 
 
+class Trust(enum.IntEnum):
+    """How far to trust the doubles of a probe: they are the whole numbers of `State.tendencies`, or Tu and Tv may be off by up to 64."""
+    EXACT = 0
+    NEAR = 1
+
+
 # ---- refusals
 
 _FIELDS = ('h', 'b', 'u', 'v', 'q', 'inflow', 'barriers')
@@ -61,13 +68,14 @@ _REFUSALS = {
     7: (('offset',), 'a damaged record, at byte {offset}'),
     8: ((), 'a field or record to be filled is too short'),
     9: ((), 'milliseconds above 999'),
+    10: ((), 'a probed cell outside the grid'),
 }
 
 
 class Refused(Exception):
     """A refusal of the core. What does not belong to its number is None.
 
-    number  1 to 9, as in include/basin.h
+    number  1 to 10, as in include/basin.h
     cause   the same in words
     field   'h', 'b', 'u', 'v', 'q', 'inflow' or 'barriers': with 4, 5 and 6
     cell    j*w + i for column i of row j: with 4, 5 and 6
@@ -97,6 +105,14 @@ class Ran(NamedTuple):
     stopped: Optional[Refused]
 
 
+class Probe(NamedTuple):
+    """-D, Tu and Tv in double precision, of a cell or in lists of all cells, and how far to trust them."""
+    trust: Trust
+    dh: object
+    du: object
+    dv: object
+
+
 # ---- the library
 
 # A number is passed as its type in C; a list as a pointer and a length; a place for a result as a pointer alone.
@@ -104,13 +120,15 @@ _RANGES = {ctypes.c_uint8: (0, 2**8 - 1), ctypes.c_size_t: (0, 2**64 - 1), ctype
            ctypes.c_int64: (-2**63, 2**63 - 1)}
 _NUMBERS = {'w': ctypes.c_size_t, 'n': ctypes.c_size_t, 'kind': ctypes.c_uint8,
             'g': ctypes.c_int64, 'c': ctypes.c_int64, 'r': ctypes.c_int64,
-            'a': ctypes.c_int64, 'divisor': ctypes.c_int64,
+            'a': ctypes.c_int64, 'divisor': ctypes.c_int64, 'cell': ctypes.c_size_t,
             'steps': ctypes.c_uint64, 'seconds': ctypes.c_uint64, 'milliseconds': ctypes.c_uint64}
 _PLACES = {'rounded': (ctypes.c_int64, 1), 'total': (ctypes.c_int64, 1), 'constants': (ctypes.c_int64, 3),
-           'answer': (ctypes.c_uint64, 8)}
-_BYTES = ('barriers', 'record', 'first', 'second')  # the other lists have numbers of 64 bits
+           'doubles': (ctypes.c_double, 3), 'answer': (ctypes.c_uint64, 8)}
+# The elements of a list, by the code that array has for them.
+_ELEMENTS = {'B': ctypes.c_uint8, 'd': ctypes.c_double, 'q': ctypes.c_int64}
+_BYTES = ('barriers', 'record', 'first', 'second')  # the other lists have numbers of 64 bits, where no code is given
 
-# What each function takes, in order. What it writes has a mark.
+# What each function takes, in order. What it writes has a mark, and a list of doubles the code of these.
 _STATE = 'w n kind g c r h b u v barriers'
 _STEPPED = 'w n kind g c r h! b u! v! barriers inflow'
 _FUNCTIONS = {
@@ -118,6 +136,8 @@ _FUNCTIONS = {
     'rnd': 'a divisor rounded!',
     'potential_vorticity': f'{_STATE} q! answer!',
     'tendencies': f'{_STATE} q dh! du! dv! answer!',
+    'probe': f'{_STATE} q cell doubles! answer!',
+    'probe_grid': f'{_STATE} q dh:d! du:d! dv:d! answer!',
     'step': f'{_STEPPED} work! answer!',
     'run': f'{_STEPPED} steps work! answer!',
     'total_depth': f'{_STATE} total! answer!',
@@ -128,18 +148,25 @@ _FUNCTIONS = {
 }
 
 
-def _element(name):
-    return ctypes.c_uint8 if name in _BYTES else ctypes.c_int64
+def _code(name):
+    return 'B' if name in _BYTES else 'q'
+
+
+def _words(function):
+    """What a function takes: each by its name, the code of its elements where it is a list, and whether it is written."""
+    for word in _FUNCTIONS[function].split():
+        name, _, code = word.rstrip('!').partition(':')
+        yield name, code or _code(name), word.endswith('!')
 
 
 def _argtypes(function):
-    for name in _FUNCTIONS[function].replace('!', '').split():
+    for name, code, _ in _words(function):
         if name in _NUMBERS:
             yield _NUMBERS[name]
         elif name in _PLACES:
             yield ctypes.POINTER(_PLACES[name][0])
         else:
-            yield ctypes.POINTER(_element(name))
+            yield ctypes.POINTER(_ELEMENTS[code])
             yield ctypes.c_size_t
 
 
@@ -186,9 +213,9 @@ def _number(name, value):
     return value
 
 
-def _as_list(name, values):
+def _as_list(name, values, code=None):
     """The values, where they are a buffer of the right elements; otherwise an array of them."""
-    code = 'B' if _element(name) is ctypes.c_uint8 else 'q'
+    code = code or _code(name)
     try:
         view = memoryview(values)
     except TypeError:
@@ -198,20 +225,19 @@ def _as_list(name, values):
             raise TypeError(f'{name}: {trouble}') from None
         except OverflowError as trouble:
             raise OverflowError(f'{name}: {trouble}') from None
-    wanted = ('B',) if code == 'B' else ('q', 'l')
-    if view.format.lstrip('@=<') not in wanted or view.itemsize != ctypes.sizeof(_element(name)) or not view.c_contiguous:
+    wanted = ('q', 'l') if code == 'q' else (code,)
+    if view.format.lstrip('@=<') not in wanted or view.itemsize != ctypes.sizeof(_ELEMENTS[code]) or not view.c_contiguous:
         raise TypeError(f"{name} is a row of array('{code}') or the like, not of elements '{view.format}'")
     return values
 
 
-def _lent(name, values, written):
+def _lent(name, values, code, written):
     """A list as an object of ctypes in the same memory, and its length."""
-    element, lent = _element(name), _as_list(name, values)
+    element, lent = _ELEMENTS[code], _as_list(name, values, code)
     view = memoryview(lent)
     length = view.nbytes // view.itemsize
     if written and (lent is not values or view.readonly):
-        raise TypeError(f"{name} is written, so it must be array('{'B' if name in _BYTES else 'q'}') or the like, "
-                        f'not {type(values).__name__}')
+        raise TypeError(f"{name} is written, so it must be array('{code}') or the like, not {type(values).__name__}")
     if length == 0:
         return (element * 1)(), 0  # nothing is read there, but a null pointer will not do
     if view.readonly:
@@ -231,8 +257,7 @@ def _apart(lent):
 def _call(function, **given):
     """Calls a function; returns what it returns, and its places for results by name."""
     arguments, lent, places = [], [], {}
-    for word in _FUNCTIONS[function].split():
-        name, written = word.rstrip('!'), word.endswith('!')
+    for name, code, written in _words(function):
         if name in _NUMBERS:
             arguments.append(_number(name, given.pop(name)))
         elif name in _PLACES:
@@ -240,7 +265,7 @@ def _call(function, **given):
             places[name] = (kind * length)()
             arguments.append(places[name])
         else:
-            memory, length = _lent(name, given.pop(name), written)
+            memory, length = _lent(name, given.pop(name), code, written)
             lent.append((name, memory, written))
             arguments += [memory, length]
     assert not given, given
@@ -322,7 +347,7 @@ class State:
 
     def copy(self):
         """The same state in lists of its own."""
-        lists = {name: array('B' if name in _BYTES else 'q', memoryview(_as_list(name, getattr(self, name))).tobytes())
+        lists = {name: array(_code(name), memoryview(_as_list(name, getattr(self, name))).tobytes())
                  for name in ('h', 'b', 'u', 'v', 'barriers')}
         return State(self.w, self.n, self.kind, self.g, self.c, self.r, **lists,
                      seconds=self.seconds, milliseconds=self.milliseconds)
@@ -349,6 +374,20 @@ class State:
         dh, du, dv = (self._zeros('q') if x is None else x for x in (dh, du, dv))
         _checked('tendencies', **self._parts(), q=q, dh=dh, du=du, dv=dv)
         return dh, du, dv
+
+    def probe(self, cell, q=None):
+        """-D, Tu and Tv of a cell in double precision, and how far to trust them: a Probe. The cell is its place in the lists, as
+        `cell(i, j)` gives it. The potential vorticity is the state's own where none is given."""
+        q = self.potential_vorticity() if q is None else q
+        values, places = _checked('probe', **self._parts(), q=q, cell=cell)
+        return Probe(Trust(values[0]), *places['doubles'])
+
+    def probe_grid(self, q=None, dh=None, du=None, dv=None):
+        """The same of every cell, in lists of doubles. They are written into those that are lent."""
+        q = self.potential_vorticity() if q is None else q
+        dh, du, dv = (array('d', bytes(8 * self.cells)) if x is None else x for x in (dh, du, dv))
+        values, _ = _checked('probe_grid', **self._parts(), q=q, dh=dh, du=du, dv=dv)
+        return Probe(Trust(values[0]), dh, du, dv)
 
     def step(self, inflow=None, work=None):
         """One step in place, refused with 6 where it would leave the bounds. `inflow` is a number for each cell, mm a step, or a

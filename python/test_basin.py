@@ -1,4 +1,5 @@
 """Tests of basin.py: python3 python/test_basin.py, after install/shared-library target/libbasin.so."""
+import math
 import os
 import pickle
 import subprocess
@@ -12,7 +13,7 @@ from unittest import mock
 here = os.path.dirname(os.path.abspath(__file__))
 sys.path.insert(0, here)
 import basin  # noqa: E402
-from basin import Comparison, Refused, State  # noqa: E402
+from basin import Comparison, Refused, State, Trust  # noqa: E402
 
 
 def example_2(**other):
@@ -76,6 +77,36 @@ class WorkedExamples(Case):
         state = example_4(r=1000, barriers=[0, basin.WEST])
         self.assertEqual([list(x) for x in state.tendencies([0, 0])], [[50000, -50000], [30859591680000, 0], [0, 0]])
 
+    def test_probes(self):
+        exact, near = Trust.EXACT, Trust.NEAR
+        self.assertEqual(example_2().probe(0), (exact, 0.0, -1574400000.0, -3148800000.0))
+        # two cells at the bounds of a narrow grid, and one of them past a bound
+        for h, trust, dh, du in ((10_000, exact, 20000000.0, -314572800000000.0), (10_001, near, 20001000.0, -314541342720000.0)):
+            state = State(2, 1, 0, 10_000, 0, 1000, [10_000, h], [10_000, 0], [500, -500], [500, -500])
+            q = [1_000_000, -1_000_000]
+            self.assertEqual(state.probe(0, q), (trust, dh, du, 0.0))
+            grid = state.probe_grid(q)
+            self.assertEqual(grid.trust, trust)
+            self.assertEqual([list(x) for x in grid[1:]], [[float(z) for z in x] for x in state.tendencies(q)])
+            self.assertEqual(state.probe(1, q), (trust, grid.dh[1], grid.du[1], grid.dv[1]))
+        # numbers that doubles round
+        state = State(1, 2, 0, 9810, 0, 1000, [99_999, 87_654], [0, 1], [-4999, -4999], [4997, 4321])
+        probe, q = state.probe(0, [2_000_000, 1_999_997]), array('q', [2_000_000, 1_999_997])
+        self.assertEqual(probe, (near, 126853428.0, 41965184222088240.0, 44646748085517584.0))
+        self.assertEqual([x[0] for x in state.tendencies(q)], [126853428, 41965184222088228, 44646748085517588])
+        # still water, and a closed edge: the sign of a zero
+        signs = [math.copysign(1, x) for x in State(1, 1, 2, 9810, 0, 1000, [2000]).probe(0)[1:]]
+        self.assertEqual(signs, [-1, 1, 1])
+
+    def test_probes_into_lists_that_are_lent(self):
+        dh, du, dv = (array('d', [0.5] * 3) for _ in range(3))
+        grid = example_4().probe_grid([0, 0], dh, du, dv)
+        self.assertTrue(grid.dh is dh and grid.du is du and grid.dv is dv)
+        self.assertEqual([list(x) for x in grid[1:]], [[50000, -50000, 0.5], [30859591680000, -30859591680000, 0.5], [0, 0, 0.5]])
+        self.assertRaises(TypeError, lambda: example_4().probe_grid(dh=array('q', [0, 0])))
+        self.assertRaises(TypeError, lambda: example_4().probe_grid(dv=[0.0, 0.0]))
+        self.assertRaises(ValueError, lambda: example_4().probe_grid(du=dh, dv=dh))
+
     def test_energy(self):
         # a cell at rest, on a bottom of 0: four times a half of g·h²
         self.assertEqual(State(1, 1, 0, 9810, 0, 1000, [2000]).total_energy(), 2 * 9810 * 2000 * 2000)
@@ -112,7 +143,7 @@ class Refusals(Case):
         for other in (dict(w=0), dict(n=65), dict(w=2**64 - 1, n=2**64 - 1), dict(kind=3), dict(kind=255)):
             state = example_2(**other)
             for call in (state.total_depth, state.total_energy, state.potential_vorticity, state.tendencies, state.step,
-                         lambda: state.run(5), state.write):
+                         lambda: state.probe(0), state.probe_grid, lambda: state.run(5), state.write):
                 self.refused(1, call)
 
     def test_2_lengths(self):
@@ -125,6 +156,8 @@ class Refusals(Case):
         self.refused(2, lambda: example_4().step([0]))
         self.refused(2, lambda: example_4().step(work=array('q', [0] * 15)))
         self.refused(2, lambda: example_4().tendencies([]))
+        self.refused(2, lambda: example_4().probe(0, []))
+        self.refused(2, lambda: example_4().probe_grid([0]))
 
     def test_3_constants(self):
         for other in (dict(g=0), dict(c=-10_001), dict(r=999), dict(g=-2**63), dict(r=2**63 - 1)):
@@ -141,6 +174,7 @@ class Refusals(Case):
         self.refused(4, lambda: example_4().run(3, [0, 1001]), field='inflow', cell=1)
         refusal = self.refused(4, lambda: example_4().tendencies([2_000_001, 0]), field='q', cell=0)
         self.assertEqual(str(refusal), 'refusal 4: q outside its bounds, cell 0')
+        self.refused(4, lambda: example_4().probe(0, [0, -2_000_001]), field='q', cell=1)
 
     def test_5_closed_edges(self):
         self.refused(5, example_4(kind=basin.BASIN).step, field='u', cell=0)
@@ -170,6 +204,9 @@ class Refusals(Case):
         self.refused(8, lambda: example_4().potential_vorticity(one))
         self.refused(8, lambda: example_4().tendencies(dv=one))
         self.assertEqual(list(one), [9])
+        one = array('d', [0.5])
+        self.refused(8, lambda: example_4().probe_grid(du=one))
+        self.assertEqual(list(one), [0.5])
         self.refused(8, lambda: example_4().write(bytearray(77)))
         self.refused(8, lambda: basin.read(example_4().write(), room=1))
         self.refused(8, lambda: basin.read(example_4().write(), room=0))
@@ -177,6 +214,13 @@ class Refusals(Case):
     def test_9_milliseconds(self):
         for milliseconds in (1000, 65_536, 2**64 - 1):
             self.refused(9, example_2(milliseconds=milliseconds).write)
+
+    def test_10_cells(self):
+        for cell in (2, 3, 4096, 2**32, 2**64 - 1):
+            refusal = self.refused(10, lambda: example_4().probe(cell))
+            self.assertEqual(str(refusal), 'refusal 10: a probed cell outside the grid')
+        # after 5
+        self.refused(5, lambda: example_4(kind=basin.BASIN).probe(2, [0, 0]), field='u', cell=0)
 
     def test_a_refusal_can_be_kept(self):
         refusal = example_4().run(100, [-100, -100]).stopped
@@ -190,6 +234,10 @@ class Runs(Case):
         state = basin.read(record)
         self.assertEqual((state.w, state.n, state.kind), (32, 20, basin.BASIN))
         self.assertEqual(state.write(), record)
+        grid = state.probe_grid()
+        for place in ((0, 0), (31, 19), (12, 7)):
+            cell = state.cell(*place)
+            self.assertEqual(state.probe(cell), (grid.trust, grid.dh[cell], grid.du[cell], grid.dv[cell]))
         lent = bytearray(b'\xff' * (len(record) + 1))
         self.assertEqual(state.write(lent), record)
         self.assertEqual(lent, record + b'\xff')
@@ -243,6 +291,8 @@ class WhatCWouldCut(Case):
         for steps in (-1, 2**64):
             self.assertRaises(OverflowError, lambda: example_2().run(steps))
         self.assertRaises(OverflowError, lambda: basin.rnd(2**63, 1))
+        for cell in (-1, 2**64):
+            self.assertRaises(OverflowError, lambda: example_2().probe(cell))
         for other in (dict(h=[2**63]), dict(barriers=[256]), dict(barriers=[-1])):
             self.assertRaises(OverflowError, lambda: example_2(**other))
         self.assertRaises(OverflowError, lambda: example_2().step([2**63]))

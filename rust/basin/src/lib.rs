@@ -1,4 +1,4 @@
-//! The proved basin core (document 01, and requests U1 and U2 of document 02),
+//! The proved basin core (document 01, and requests U1, U2 and U3 of document 02),
 //! called from safe Rust.
 //!
 //! The library behind these calls is `libbasin.a`, which `rt staticlib basin`
@@ -8,8 +8,9 @@
 //!
 //! The core has the step of a state and runs of it ([`step`], [`run`]), the
 //! totals ([`total_depth`], [`total_energy`]), the potential vorticity and the
-//! tendencies ([`potential_vorticity`], [`tendencies`]), the record of a state
-//! ([`write()`], [`read`], [`compare`]) and the rounding of the scheme ([`rnd`]).
+//! tendencies ([`potential_vorticity`], [`tendencies`]), these in double precision
+//! ([`probe`], [`probe_grid`]), the record of a state ([`write()`], [`read`],
+//! [`compare`]) and the rounding of the scheme ([`rnd`]).
 //!
 //! Barriers (02: piers) close edges inside the grid. Every call on a state is lent
 //! them straight after v, a byte for each cell: 1 closes its west edge, 2 its south
@@ -21,9 +22,9 @@
 //! package is built.
 //!
 //! ```
-//! use basin::{compare, potential_vorticity, read, rnd, run, step, tendencies, total_depth};
-//! use basin::{total_energy, write, Comparison, Field, Parameters, Ran, Read, Refusal, Refused};
-//! use basin::Timestamp;
+//! use basin::{compare, potential_vorticity, probe, read, rnd, run, step, tendencies};
+//! use basin::{total_depth, total_energy, write, Comparison, Field, Parameters, Probe, Ran};
+//! use basin::{Read, Refusal, Refused, Timestamp, Trust};
 //!
 //! // One cell, 2,000 mm deep, that wraps both ways, without barriers.
 //! let p = Parameters { w: 1, n: 1, kind: 0, g: 9810, c: 10, r: 1000 };
@@ -40,6 +41,12 @@
 //! let done = tendencies(&p, &h, &b, &u, &v, &open, &q, &mut dh, &mut du, &mut dv);
 //! assert_eq!(done, Ok(()));
 //! assert_eq!((dh, du, dv), ([0], [-1_574_400_000], [-3_148_800_000]));
+//!
+//! // The same of one cell in double precision: in a grid of small numbers, exactly.
+//! let (dh, du, dv) = (0.0, -1_574_400_000.0, -3_148_800_000.0);
+//! let probed = |cell| probe(&p, &h, &b, &u, &v, &open, &q, cell);
+//! assert_eq!(probed(0), Ok(Probe { dh, du, dv, trust: Trust::Exact }));
+//! assert_eq!(probed(1), Err(Refusal::NoSuchCell));
 //!
 //! // Too shallow by a millimetre.
 //! let refusal = total_depth(&p, &[999], &b, &u, &v, &open).unwrap_err();
@@ -244,6 +251,41 @@ impl Comparison {
     }
 }
 
+/// How far the doubles of a probe can be trusted.
+#[derive(Clone, Copy, Debug, PartialEq, Eq, Hash)]
+pub enum Trust {
+    /// They are the whole numbers that [`tendencies`] gives. The grid is narrow: every
+    /// h and b of it is at most 10,000, every u and v is -500 to 500, and every number
+    /// of the lent q is -1,000,000 to 1,000,000.
+    Exact,
+    /// The double of -D is that whole number, those of Tu and Tv are at most 64 away.
+    Near,
+}
+
+impl Trust {
+    /// Panics at a number that is none: see [`Refusal::from_told`].
+    fn from_told(number: u64) -> Self {
+        match number {
+            0 => Trust::Exact,
+            1 => Trust::Near,
+            _ => panic!("libbasin.a told trust {number}, which is none"),
+        }
+    }
+}
+
+/// The tendencies of a cell in double precision, scaled as those of [`tendencies`].
+#[derive(Clone, Copy, Debug, PartialEq)]
+pub struct Probe {
+    /// -D, of h.
+    pub dh: f64,
+    /// Tu, of u at the west edge; 0.0 where it is closed.
+    pub du: f64,
+    /// Tv, of v at the south edge; 0.0 where it is closed.
+    pub dv: f64,
+    /// How far to trust the three.
+    pub trust: Trust,
+}
+
 /// Takes one step with the given inflow, in mm: `h`, `u` and `v` are stepped in
 /// place, and after a refusal they are left as they were.
 ///
@@ -366,6 +408,55 @@ pub fn tendencies(
     dv: &mut [i64],
 ) -> Result<(), Refusal> {
     answered(|answer| raw::tendencies(p, h, b, u, v, barriers, q, dh, du, dv, answer))
+}
+
+/// The tendencies of one cell in double precision, and how far to trust them. The
+/// cell is given by its index, j·w + i for column i of row j. `q` is as with
+/// [`tendencies`].
+///
+/// They are 01's formulas in `f64`, each operation rounded once: products first, and
+/// sums from left to right. The mark is that of the whole grid, not of the cell.
+///
+/// The tests go by number: 1 to 5 of the state and `q`; then 10, no such cell.
+pub fn probe(
+    p: &Parameters,
+    h: &[i64],
+    b: &[i64],
+    u: &[i64],
+    v: &[i64],
+    barriers: &[u8],
+    q: &[i64],
+    cell: usize,
+) -> Result<Probe, Refusal> {
+    let mut three = [0.0; 3];
+    let answer = told(|answer| raw::probe(p, h, b, u, v, barriers, q, cell, &mut three, answer));
+    accepted(&answer)?;
+    let [dh, du, dv] = three;
+    let trust = Trust::from_told(answer[1]);
+    Ok(Probe { dh, du, dv, trust })
+}
+
+/// Fills the first w·n places of `dh`, `du` and `dv` with what [`probe`] gives for each
+/// cell, and gives its mark. The places past them are left as they were, and after a
+/// refusal all places are.
+///
+/// The tests go by number: 1 to 5 of the state and `q`; then 8, one of `dh`, `du` and
+/// `dv` shorter than w·n.
+pub fn probe_grid(
+    p: &Parameters,
+    h: &[i64],
+    b: &[i64],
+    u: &[i64],
+    v: &[i64],
+    barriers: &[u8],
+    q: &[i64],
+    dh: &mut [f64],
+    du: &mut [f64],
+    dv: &mut [f64],
+) -> Result<Trust, Refusal> {
+    let answer = told(|answer| raw::probe_grid(p, h, b, u, v, barriers, q, dh, du, dv, answer));
+    accepted(&answer)?;
+    Ok(Trust::from_told(answer[1]))
 }
 
 /// Writes the record of a state into the first [`Parameters::record_len`] bytes

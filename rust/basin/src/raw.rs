@@ -107,6 +107,25 @@ functions! {
         answer: &mut [u64; 8],
     );
 
+    /// The number of the refusal, 0 where `doubles` are those of the cell; `answer`
+    /// as above, with 0 for exact or 1 for near after a 0.
+    fn probe(
+        p: &Parameters, h: &[i64], b: &[i64], u: &[i64], v: &[i64], barriers: &[u8],
+        q: &[i64],
+        cell: usize,
+        doubles: &mut [f64; 3],
+        answer: &mut [u64; 8],
+    );
+
+    /// The number of the refusal, 0 where `dh`, `du` and `dv` are filled; `answer`
+    /// as of a probe.
+    fn probe_grid(
+        p: &Parameters, h: &[i64], b: &[i64], u: &[i64], v: &[i64], barriers: &[u8],
+        q: &[i64],
+        dh: &mut [f64], du: &mut [f64], dv: &mut [f64],
+        answer: &mut [u64; 8],
+    );
+
     /// The number of the refusal, 0 where `h`, `u` and `v` are stepped; `answer`
     /// as above.
     fn step(

@@ -198,6 +198,8 @@ refusals! {
         /// the milliseconds of a [`Timestamp`](crate::Timestamp) above 999;
         /// tested straight after 3.
         9: Milliseconds = "milliseconds above 999",
+        /// the cell of a [`probe`](crate::probe) is outside the grid; tested after 5.
+        10: NoSuchCell = "a probed cell outside the grid",
     }
 }
 
@@ -273,7 +275,7 @@ mod tests {
             assert_eq!(u64::from(field.number()), number);
         }
         assert_eq!(Field::from_told(7), None);
-        for number in 1..=9 {
+        for number in 1..=10 {
             // Good for a pass, for a field and for a cell.
             let refusal = Refusal::from_told(number, &[2; 7]).unwrap_err();
             assert_eq!(u64::from(refusal.number()), number);
@@ -293,7 +295,7 @@ mod tests {
     #[test]
     fn what_no_line_has_is_no_refusal() {
         let known = |number, values: [u64; 3]| Refusal::known(number, values.into_iter());
-        assert_eq!(known(10, [0; 3]), None);
+        assert_eq!(known(11, [0; 3]), None);
         assert_eq!(known(u64::MAX, [0; 3]), None);
         // No such field, and no such pass.
         assert_eq!(known(4, [7, 0, 0]), None);

@@ -12,6 +12,7 @@ mod empty;
 mod limits;
 mod milliseconds;
 mod nothing_lost;
+mod probe;
 mod program;
 mod record;
 mod record_refusals;

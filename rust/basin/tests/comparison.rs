@@ -12,7 +12,7 @@ use crate::cases::calls::{answered, call_raw, compare, expect, independent, Writ
 use crate::cases::causes;
 use crate::cases::common::{first_told, record_size, Random, NUMBERS, TESTED};
 use crate::cases::{add, any_numbers, next_outside, random_case, Call, Case};
-use crate::cases::{BARRIERS, BOUNDS, CALLS, FAULTS, FILLING, H, TOTALS, U, V};
+use crate::cases::{BARRIERS, BOUNDS, CALLS, FAULTS, FILLING, H, PROBING, TOTALS, U, V};
 
 // ---- random calls
 
@@ -45,6 +45,11 @@ struct Coverage {
     destination: [[[usize; 4]; 3]; CALLS.len()],
     /// The same of the record.
     record: [usize; 4],
+    /// By probing call: accepted as exact, and as near.
+    trust: [[usize; 2]; PROBING.len()],
+    /// Accepted with the last of several cells probed, and refusal 10 of the one
+    /// past it.
+    probed: [usize; 2],
     /// By a refusal's number, then that of the next cause, 0 for none.
     next: [[usize; NUMBERS]; NUMBERS],
     /// Of two numbers outside: in one field, in two fields.
@@ -68,8 +73,14 @@ impl Coverage {
                     add(&mut self.at_bound[field], bounds);
                 }
                 self.count_destinations(case, call, true);
+                if let Some(place) = PROBING.iter().position(|&probing| probing == call) {
+                    self.trust[place][told[1] as usize] += 1;
+                }
+                let last = w * n > 1 && case.cell == w * n - 1;
+                self.probed[0] += usize::from(call == Call::Probe && last);
             }
             [8] => self.count_destinations(case, call, false),
+            [10] => self.probed[1] += usize::from(case.cell == w * n),
             [4, field, cell] => {
                 let (field, cell) = (field as usize, cell as usize);
                 let number = case.number(field, cell);
@@ -141,7 +152,12 @@ impl Coverage {
                 often(&told[8..=9], 1_000, "refused with 8 and 9");
                 often(&self.record, 200, "a record");
             }
+            if call == Call::Probe {
+                often(&told[10..=10], 500, "refused with 10");
+            }
         }
+        often(self.trust.as_flattened(), 1_000, "exact and near");
+        often(&self.probed, 100, "a cell at the end");
         often(&self.fault, 500, "a fault alone");
         often(self.kind.as_flattened(), 2_000, "accepted, by kind");
         often(&self.size, 200, "accepted, by size");
@@ -155,6 +171,7 @@ impl Coverage {
             let first = if number < 4 { number + 1 } else { number };
             often(&self.next[number][first..=5], 100, "two causes");
             often(&self.next[number][8..=8], 100, "8 as the second cause");
+            often(&self.next[number][10..=10], 10, "10 as the second cause");
         }
         let with_9 = [1, 2, 3].map(|number| self.next[number][9]);
         often(&with_9, 20, "9 as the second cause");
@@ -364,6 +381,19 @@ fn a_destination_of_fewer_places_is_refused() {
 }
 
 #[test]
+fn a_cell_past_the_last_is_refused() {
+    let past = [6, 7, 8, 4_096, (1 << 32) + 5, (1 << 63) + 5, usize::MAX];
+    for cell in (0..6).chain(past) {
+        let mut case = Case::basin();
+        case.cell = cell;
+        for call in CALLS {
+            let refused = call == Call::Probe && cell >= 6;
+            expect(&case, call, &[if refused { 10 } else { 0 }], "a cell");
+        }
+    }
+}
+
+#[test]
 fn a_record_of_fewer_bytes_is_refused() {
     // 3 by 2 cells.
     for length in (0..=140).chain([1_000, 70_000]) {
@@ -519,6 +549,8 @@ enum Cause {
     Destination(usize, usize),
     /// A record of so many bytes.
     Record(usize),
+    /// A cell to be probed.
+    Cell(usize),
 }
 
 impl Cause {
@@ -533,6 +565,7 @@ impl Cause {
         }
         // Without tags 8 and 9, without 9, and a byte less.
         causes.extend([0, 116, 121, 129].map(Cause::Record));
+        causes.extend([6, usize::MAX].map(Cause::Cell));
         causes
     }
 
@@ -543,6 +576,7 @@ impl Cause {
             Cause::Work => case.work = 47,
             Cause::Destination(which, length) => case.destinations[which] = length,
             Cause::Record(length) => case.record = length,
+            Cause::Cell(cell) => case.cell = cell,
         }
     }
 
@@ -564,6 +598,7 @@ impl Cause {
             Cause::Work => (call.has_work_space(), vec![2]),
             Cause::Destination(which, _) => (which < call.destinations(), vec![8]),
             Cause::Record(_) => (call == Call::Write, vec![8]),
+            Cause::Cell(_) => (call == Call::Probe, vec![10]),
         };
         looked_at.then_some(told)
     }
@@ -578,8 +613,8 @@ fn of_two_causes_the_first_by_test_field_and_cell_is_told() {
     };
     let causes = Cause::all();
     let mut pairs = 0;
-    // The numbers that stand beside a 9, of the writer.
-    let mut beside_9 = [0; NUMBERS];
+    // The numbers that stand beside a 9, of the writer, and beside a 10, of the probe.
+    let mut beside = [[0; NUMBERS]; 2];
     for &one in &causes {
         for &other in &causes {
             let case = with(&[one, other]);
@@ -591,7 +626,9 @@ fn of_two_causes_the_first_by_test_field_and_cell_is_told() {
             for call in CALLS {
                 let told = [one, other].map(|cause| cause.told(call));
                 if let [Some(one), Some(other)] = &told {
-                    beside_9[other[0] as usize] += usize::from(one[0] == 9);
+                    for (beside, number) in beside.iter_mut().zip([9, 10]) {
+                        beside[other[0] as usize] += usize::from(one[0] == number);
+                    }
                 }
                 let told = told.into_iter().flatten();
                 let first = first_told(&TESTED, told).unwrap_or(vec![0]);
@@ -599,9 +636,10 @@ fn of_two_causes_the_first_by_test_field_and_cell_is_told() {
             }
         }
     }
-    println!("{pairs} pairs {beside_9:?}");
+    println!("{pairs} pairs {beside:?}");
     assert!(pairs > 5_000, "{pairs}");
-    assert!([1, 2, 3, 4, 5, 8].iter().all(|&k| beside_9[k] > 1));
+    assert!([1, 2, 3, 4, 5, 8].iter().all(|&k| beside[0][k] > 1));
+    assert!([1, 2, 3, 4, 5].iter().all(|&k| beside[1][k] > 1));
 }
 
 // ---- the C functions by themselves
@@ -633,8 +671,8 @@ fn all_eight_places_are_set_whatever_stood_there() {
         }
     }
     println!("{met:?}");
-    for number in [0, 1, 2, 3, 4, 5, 6, 8, 9] {
-        assert!(met[number] > 1_000, "{met:?}");
+    for number in [0, 1, 2, 3, 4, 5, 6, 8, 9, 10] {
+        assert!(met[number] > 500, "{met:?}");
     }
 }
 

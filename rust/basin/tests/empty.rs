@@ -96,6 +96,8 @@ struct Pages {
     fields: [Guarded; 6],
     barriers: Guarded,
     destinations: [Guarded; 3],
+    doubles: [Guarded; 3],
+    probed: Guarded,
     total: Guarded,
     stepped: [Guarded; 3],
     work: Guarded,
@@ -128,6 +130,8 @@ impl Pages {
             fields: [(); 6].map(|()| room()),
             barriers: room(),
             destinations: [(); 3].map(|()| room()),
+            doubles: [(); 3].map(|()| room()),
+            probed: room(),
             total: room(),
             stepped: [(); 3].map(|()| room()),
             work: room(),
@@ -144,8 +148,11 @@ impl Pages {
         let before = Written::before(case, call);
         let fields = lend_all(&mut self.fields, &case.fields, at_end);
         let barriers = &*self.barriers.lend(&case.barriers, at_end);
+        let doubles = before.doubles.clone().map(|list| list.0);
         let mut lent = Written {
             destinations: lend_all(&mut self.destinations, &before.destinations, at_end),
+            doubles: lend_all(&mut self.doubles, &doubles, at_end),
+            probed: self.probed.lend(&before.probed.0, at_end),
             total: self.total.lend(&before.total, at_end),
             stepped: lend_all(&mut self.stepped, &before.stepped, at_end),
             work: self.work.lend(&before.work, at_end),
@@ -258,7 +265,9 @@ fn lists_that_start_or_end_beside_such_a_page() {
     for number in [0, 1, 2, 3, 4, 5] {
         assert!(met.iter().all(|met| met[number] > 30), "{met:?}");
     }
-    let others = [met[0][6], met[0][8], met[1][7], met[1][8], met[2][7]];
+    let others = [
+        met[0][6], met[0][8], met[0][10], met[1][7], met[1][8], met[2][7],
+    ];
     assert!(others.iter().all(|&times| times > 30), "{met:?}");
     assert!(met.iter().all(|met| met[9] > 30), "{met:?}");
     assert!(quotients.iter().all(|&times| times > 30), "{quotients:?}");

@@ -9,8 +9,8 @@
 //! whose product is the length of the fields, are in comparison.rs too.)
 
 use crate::cases::calls::{answered, array, call_raw, compare, expect, independent, parameters};
-use crate::cases::calls::{read_of, timestamp, Written};
-use crate::cases::calls::{FENCE, FENCE_BYTE, UNANSWERED, UNTOUCHED};
+use crate::cases::calls::{read_of, timestamp, Doubles, Written};
+use crate::cases::calls::{FENCE, FENCE_BYTE, FENCE_DOUBLE, UNANSWERED, UNTOUCHED};
 use crate::cases::common::{moment, record_field, record_fields, record_of, record_size};
 use crate::cases::memory::{Mapping, Plain};
 use crate::cases::records::{self, basin, expect_pair, expect_state, independent_pair};
@@ -184,7 +184,13 @@ impl List {
         // Barriers are bytes, and have a test of their own.
         let numbers = call.fields().iter().filter(|&&field| field != BARRIERS);
         let fields = numbers.map(|&field| List::Field(field));
-        let destinations = (0..call.destinations()).map(List::Destination);
+        // So have doubles.
+        let destinations = if call.is_probing() {
+            0
+        } else {
+            call.destinations()
+        };
+        let destinations = (0..destinations).map(List::Destination);
         let work = call.is_stepping().then_some(List::Work);
         fields.chain(destinations).chain(work).collect()
     }
@@ -289,6 +295,34 @@ fn barriers_of_each_call() {
 }
 
 #[test]
+fn doubles_of_a_grid_into_long_lists() {
+    let mut mapping = Mapping::long();
+    let all: &mut [f64] = mapping.list();
+    let case = Case::basin();
+    let expected = independent(&case, Call::ProbeGrid);
+    let before = Written::before(&case, Call::ProbeGrid);
+    for which in 0..3 {
+        for length in lengths(6, all.len()) {
+            let at = format!("doubles {which} of {length}");
+            let long = Long::new(&mut all[..length], &before.doubles[which].0, FENCE_DOUBLE);
+            let mut written = before.clone();
+            let mut lent = written.slices();
+            lent.doubles[which] = long.list;
+            let mut answer = UNANSWERED;
+            let number = call_raw(&case, Call::ProbeGrid, read_of(&case), lent, &mut answer);
+            assert_eq!((number, answer), (0, answered(&expected.told)), "{at}");
+            let filled = Doubles(long.list[..6].to_vec());
+            assert_eq!(filled, expected.written.doubles[which], "{at}");
+            long.assert_left(&filled.0, &at);
+            // The short list in its place was not lent.
+            let mut others = expected.written.clone();
+            others.doubles[which].clone_from(&before.doubles[which]);
+            assert_eq!(written, others, "{at}");
+        }
+    }
+}
+
+#[test]
 fn records_that_are_long_places_to_write_to() {
     let mut mapping = Mapping::long();
     let case = Case::basin();
@@ -312,20 +346,25 @@ fn records_that_are_long_places_to_write_to() {
 #[test]
 fn what_is_told_at_the_start_of_long_memory() {
     let (mut answers, mut numbers) = (Mapping::long(), Mapping::long());
+    let mut doubles = Mapping::long();
     let case = Case::basin();
     for call in CALLS {
         let expected = independent(&case, call);
         let mut written = Written::before(&case, call);
         let answer = Long::new(answers.list(), &UNANSWERED, UNTOUCHED);
         let total = Long::new(numbers.list(), &written.total, FENCE);
+        let probed = Long::new(doubles.list(), &written.probed.0, FENCE_DOUBLE);
         let mut lent = written.slices();
         lent.total = &mut total.list[..total.part];
+        lent.probed = &mut probed.list[..probed.part];
         let read = read_of(&case);
         call_raw(&case, call, read, lent, array(&mut answer.list[..8]));
         answer.assert_left(&answered(&expected.told), "an answer");
         total.assert_left(&expected.written.total, "a total");
-        // The one in its place was not lent.
+        probed.assert_left(&expected.written.probed.0, "doubles");
+        // Those in their places were not lent.
         written.total.clone_from(&expected.written.total);
+        written.probed.clone_from(&expected.written.probed);
         assert_eq!(written, expected.written, "{call:?}");
     }
 
@@ -523,6 +562,7 @@ fn destinations_and_work_space_are_long_at_once() {
 #[test]
 fn all_fields_are_long_at_once() {
     let (mut mapping, mut bytes) = (Mapping::long(), Mapping::long());
+    let mut more = Mapping::long();
     let [h, u, v, work, q, ..] = eighths(&mut mapping);
     let lengths = Refusal::Lengths;
     let p = &parameters(&Case::basin());
@@ -539,6 +579,13 @@ fn all_fields_are_long_at_once() {
     let refused = basin::potential_vorticity(p, long, long, long, long, z, h);
     assert_eq!(refused, Err(lengths));
     let refused = basin::tendencies(p, long, long, long, long, z, long, h, u, v);
+    assert_eq!(refused, Err(lengths));
+    let refused = basin::probe(p, long, long, long, long, z, long, long.len() - 1);
+    assert_eq!(refused, Err(lengths));
+    let doubles: &mut [f64] = more.list();
+    let (dh, rest) = doubles.split_at_mut(doubles.len() / 3);
+    let (du, dv) = rest.split_at_mut(rest.len() / 2);
+    let refused = basin::probe_grid(p, long, long, long, long, z, long, dh, du, dv);
     assert_eq!(refused, Err(lengths));
     let (time, mut record) = (timestamp(0.into()), [0; 130]);
     let refused = basin::write(p, long, long, long, long, z, time, &mut record);

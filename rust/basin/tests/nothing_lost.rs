@@ -9,14 +9,15 @@
 //! - a record was read without its G, c and R, where there was no place for them;
 //! - a comparison, with one place for its answer, did not say what it came to.
 //!
-//! Now each is lent as a pointer to as many numbers as are declared. Here just
-//! these are lent, between memory that nobody may touch, and other numbers stand
-//! in them before the call.
+//! Now each is lent as a pointer to as many numbers as are declared, and the doubles
+//! of a probe are too. Here just these are lent, between memory that nobody may touch,
+//! and other numbers stand in them before the call.
 
 use std::fs;
 use std::path::Path;
 
-use crate::cases::calls::{answered, array, independent, parameters};
+use crate::cases::calls::UNFILLED_DOUBLE;
+use crate::cases::calls::{answered, array, independent, parameters, Doubles};
 use crate::cases::changes::Changed;
 use crate::cases::common::{moment, record_of, two_cells, Random};
 use crate::cases::memory::{Guarded, Plain};
@@ -87,6 +88,45 @@ fn a_total_that_returns_0_is_given() {
         }
     }
     assert!(met.iter().all(|&times| times > 5_000), "{met:?}");
+}
+
+#[test]
+fn a_probe_that_returns_0_gives_its_doubles() {
+    let mut random = Random::new(105);
+    // Refused, exact, near.
+    let mut met = [0; 3];
+    for (mut doubles, mut answers) in Tight::both().into_iter().zip(Tight::both()) {
+        let mut probe = |case: &Case| {
+            let p = &parameters(case);
+            let ([h, b, u, v, q, _], z) = (&case.fields, &case.barriers);
+            let three = doubles.lend([0, 4, 8].map(|k| UNFILLED_DOUBLE + f64::from(k)));
+            let answer = answers.lend(case.answer);
+            let number = raw::probe(p, h, b, u, v, z, q, case.cell, three, answer);
+            (number, *three, *answer)
+        };
+        let (number, three, answer) = probe(&Case::example_2());
+        assert_eq!((number, answer), (0, [0; 8]));
+        assert_eq!(three, [0.0, -1_574_400_000.0, -3_148_800_000.0]);
+
+        for number in 0..5_000 {
+            let (case, faults) = random_case(&mut random);
+            let expected = independent(&case, Call::Probe);
+            let (returned, three, answer) = probe(&case);
+            let at = || format!("case {number}, {faults:?}: {case:?}");
+            assert_eq!(returned, expected.told[0], "{}", at());
+            assert_eq!(answer, answered(&expected.told), "{}", at());
+            // After a refusal, the doubles that were lent.
+            let three = Doubles(three.to_vec());
+            assert_eq!(three, expected.written.probed, "{}", at());
+            let outcome = match expected.told[..] {
+                [0, trust] => 1 + trust as usize,
+                _ => 0,
+            };
+            met[outcome] += 1;
+        }
+    }
+    println!("{met:?}");
+    assert!(met.iter().all(|&times| times > 200), "{met:?}");
 }
 
 #[test]
@@ -234,14 +274,15 @@ fn a_comparison_that_returns_0_says_what_it_came_to() {
 fn the_header_takes_no_length_for_what_is_told() {
     let header = Path::new(env!("CARGO_MANIFEST_DIR")).join("../../include/basin.h");
     let header = fs::read_to_string(header).expect("the header");
-    for name in ["answer", "total", "constants", "rounded"] {
+    for name in ["answer", "total", "constants", "rounded", "doubles"] {
         assert!(!header.contains(&format!("{name}_len")), "{name}");
     }
     // Every function ends with its answer, but for rnd and the version.
     let functions = header.matches("\nuint64_t basin_").count();
-    assert_eq!(functions, 11);
-    assert_eq!(header.matches("uint64_t answer[8]);").count(), 9);
+    assert_eq!(functions, 13);
+    assert_eq!(header.matches("uint64_t answer[8]);").count(), 11);
     assert_eq!(header.matches("int64_t *rounded);").count(), 1);
     assert_eq!(header.matches("int64_t *total,").count(), 2);
     assert_eq!(header.matches("int64_t constants[3],").count(), 1);
+    assert_eq!(header.matches(" double doubles[3],\n").count(), 1);
 }

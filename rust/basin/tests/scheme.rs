@@ -152,6 +152,7 @@ fn fields_at_their_bounds_in_eight_patterns_each() {
         let at = format!("patterns {patterns:?}");
         let [q, ..] = filled(&case, Call::PotentialVorticity, &at);
         let tendencies = filled(&case, Call::Tendencies, &at);
+        compare(&case, Call::ProbeGrid, &at);
         totals(&case, &at);
         stepped[usize::from(compare(&case, Call::Step, &at).told == [0])] += 1;
         ends[0].widen(&q[..w * n]);
@@ -176,6 +177,7 @@ fn fields_at_their_bounds_in_eight_patterns_each() {
 fn the_largest_totals() {
     let mut random = Random::new(22);
     let mut case = Case::good_of_kind(&mut random, (64, 64), 0);
+    case.barriers.fill(0);
     case.p.g = 10_000;
     for ((field, (_, high)), sign) in case.fields.iter_mut().zip(BOUNDS).zip([1, 1, 1, -1, 1, 1]) {
         field.fill(sign * high);

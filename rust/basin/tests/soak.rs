@@ -197,11 +197,12 @@ impl Soak {
         match random.below(4) {
             0 => drop(self.call(case, random.pick(&CALLS), at)),
             1 => {
-                // The tendencies of the state's own vorticity.
+                // The tendencies of the state's own vorticity, whole and as doubles.
                 let outcome = self.call(case, Call::PotentialVorticity, at);
                 let [q, ..] = outcome.written.destinations;
                 case.fields[Q] = q[..case.fields[Q].len()].to_vec();
                 self.call(case, Call::Tendencies, at);
+                self.call(case, Call::ProbeGrid, at);
                 self.call(case, Call::TotalEnergy, at);
             }
             _ => *last = Some(self.stored(random, case, last.take(), at)),
@@ -269,6 +270,8 @@ impl Soak {
             _ => match CALLS[call] {
                 Call::Step | Call::Run => vec![0, 1, 2, 3, 4, 5, 6],
                 Call::PotentialVorticity | Call::Tendencies => vec![0, 1, 2, 3, 4, 5, 8],
+                Call::Probe => vec![0, 1, 2, 3, 4, 5, 10],
+                Call::ProbeGrid => vec![0, 1, 2, 3, 4, 5, 8],
                 Call::Write => vec![0, 1, 2, 3, 4, 5, 8, 9],
                 _ => vec![0, 1, 2, 3, 4, 5],
             },

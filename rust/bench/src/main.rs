@@ -18,8 +18,8 @@ use std::time::{Duration, Instant};
 
 use common::{clear_closed_edges, numbers, random_q, random_state_without_barriers, written};
 use common::{Random, Spread};
-use reference::{CompareAnswer, FillAnswer, ReadAnswer, TotalAnswer, WriteAnswer};
-use reference::{Parameters, RunAnswer, State, StepAnswer};
+use reference::{CompareAnswer, FillAnswer, ProbeGridAnswer, ReadAnswer, TotalAnswer};
+use reference::{Parameters, RunAnswer, State, StepAnswer, WriteAnswer};
 
 /// Columns and rows. In one row or column every cell is at a wall. On one cell,
 /// what a call takes beside its cells counts most.
@@ -97,13 +97,14 @@ macro_rules! call {
 }
 
 #[rustfmt::skip]
-const CALLS: [Call; 8] = [
+const CALLS: [Call; 9] = [
     Call { steps: 1,
            ..call!("step", |l| step(&mut l.h, &l.b, &mut l.u, &mut l.v, &l.barriers, &l.inflow, &mut l.work)) },
     Call { steps: 100,
            ..call!("run of 100 steps", |l| run(&mut l.h, &l.b, &mut l.u, &mut l.v, &l.barriers, &l.inflow, 100, &mut l.work)) },
     call!("potential vorticity", |l| potential_vorticity(&l.h, &l.b, &l.u, &l.v, &l.barriers, &mut l.own_q)),
     call!("tendencies", |l| tendencies(&l.h, &l.b, &l.u, &l.v, &l.barriers, &l.q, &mut l.dh, &mut l.du, &mut l.dv)),
+    call!("probe of a grid", |l| probe_grid(&l.h, &l.b, &l.u, &l.v, &l.barriers, &l.q, &mut l.double_dh, &mut l.double_du, &mut l.double_dv)),
     call!("total depth", |l| total_depth(&l.h, &l.b, &l.u, &l.v, &l.barriers)),
     call!("write", |l| write(&l.h, &l.b, &l.u, &l.v, &l.barriers, TIMESTAMP.into(), &mut l.written)),
     call!("read", record |l| read(&l.record, &mut l.own_q, &mut l.dh, &mut l.du, &mut l.dv, &mut l.read_barriers)),
@@ -148,6 +149,9 @@ struct Lent {
     dh: Vec<i64>,
     du: Vec<i64>,
     dv: Vec<i64>,
+    double_dh: Vec<f64>,
+    double_du: Vec<f64>,
+    double_dv: Vec<f64>,
     inflow: Vec<i64>,
     work: Vec<i64>,
     total: i64,
@@ -219,6 +223,9 @@ impl Lent {
             dh: vec![0; cells],
             du: vec![0; cells],
             dv: vec![0; cells],
+            double_dh: vec![0.5; cells],
+            double_du: vec![0.5; cells],
+            double_dv: vec![0.5; cells],
             inflow: numbers(random, Spread::Even, cells, -2, 2),
             work: vec![-1; 8 * cells],
             total: 0,
@@ -265,7 +272,7 @@ fn seiche(random: &mut Random, (w, n): (usize, usize)) -> State {
 trait Answer {
     fn accepted(&self) -> bool;
 
-    /// The number that it is, of a total.
+    /// The number that it is, of a total; of a probe, 1 where it is near.
     fn total(&self) -> i64 {
         0
     }
@@ -274,6 +281,16 @@ trait Answer {
 impl<E> Answer for Result<(), E> {
     fn accepted(&self) -> bool {
         self.is_ok()
+    }
+}
+
+impl<E> Answer for Result<basin::Trust, E> {
+    fn accepted(&self) -> bool {
+        self.is_ok()
+    }
+
+    fn total(&self) -> i64 {
+        matches!(self, Ok(basin::Trust::Near)).into()
     }
 }
 
@@ -314,6 +331,16 @@ impl<E> Answer for Result<basin::Comparison, E> {
 impl Answer for FillAnswer {
     fn accepted(&self) -> bool {
         *self == FillAnswer::Done
+    }
+}
+
+impl Answer for ProbeGridAnswer {
+    fn accepted(&self) -> bool {
+        !matches!(self, ProbeGridAnswer::Refused(_))
+    }
+
+    fn total(&self) -> i64 {
+        (*self == ProbeGridAnswer::Near).into()
     }
 }
 

@@ -32,6 +32,8 @@ pub struct Arguments {
     pub rivers: Option<PathBuf>,
     pub csv: Option<PathBuf>,
     pub gates: Vec<Gate>,
+    /// Cells to be probed (column, row).
+    pub cells: Vec<(usize, usize)>,
     /// Cell (column, row) and mm a step.
     pub inflow: Vec<(usize, usize, i64)>,
 }
@@ -106,6 +108,11 @@ impl Arguments {
             "--rivers" => only(option, &mut self.rivers, file(option, rest)?),
             "--description" => only(option, &mut self.description, file(option, rest)?),
             "--gate" => self.take_gate(option, rest),
+            "--cell" => {
+                let cell = (value(option, rest)?, value(option, rest)?);
+                self.cells.push(cell);
+                Ok(())
+            }
             _ => {
                 let cell = (value(option, rest)?, value(option, rest)?);
                 self.inflow.push((cell.0, cell.1, value(option, rest)?));

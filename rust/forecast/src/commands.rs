@@ -15,7 +15,8 @@ use crate::failure::{in_words, Failure};
 use crate::files::{contents, description, load};
 use crate::help;
 use crate::place::{put_all, Place};
-use crate::show::shown;
+use crate::plan::inside;
+use crate::show::{probed, shown};
 use crate::subject::Subject;
 use crate::suggest::hint;
 
@@ -93,7 +94,7 @@ fn command(arguments: &[OsString], around: &mut Surroundings) -> Result<Answer, 
     let sort = |allowed: &[&str]| Arguments::sort(rest, allowed);
     match name {
         "make" => make(sort(&[])?, around),
-        "show" => show(sort(&["--text"])?, around),
+        "show" => show(sort(&["--text", "--cell"])?, around),
         "step" => {
             let allowed = ["--inflow", "--seconds", "--step-ms", "--quiet"];
             step(&sort(&allowed)?, around)
@@ -158,16 +159,27 @@ fn make(arguments: Arguments, around: &mut Surroundings) -> Result<Answer, Failu
     Ok(Answer::default())
 }
 
-/// `show [--text] RECORD`
+/// `show [--text | --cell I J] RECORD`
 fn show(arguments: Arguments, around: &mut Surroundings) -> Result<Answer, Failure> {
     let [record] = &arguments.places[..] else {
         return Err(Failure::usage("show takes one record"));
     };
+    let cells = &arguments.cells[..];
+    if arguments.text && !cells.is_empty() {
+        return Err(Failure::usage("--text or --cell, not both"));
+    }
     let state = load(Path::new(record), around)?;
     if arguments.text {
         return Ok(said(to_text(&state)));
     }
-    shown(&state).map(said).map_err(refused_of(&state))
+    for &cell in cells {
+        inside(cell, &state)?;
+    }
+    let text = match cells {
+        [] => shown(&state),
+        _ => probed(&state, cells),
+    };
+    text.map(said).map_err(refused_of(&state))
 }
 
 /// `compare A B`

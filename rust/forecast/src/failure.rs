@@ -111,7 +111,8 @@ pub fn in_words(refusal: Refusal, of: Subject) -> String {
             let is = is(of.milliseconds());
             format!("the milliseconds of the timestamp are {is}above 999")
         }
-        // The tool lends room enough, so no other is met yet.
+        // The tool lends room enough, and probes no cell but those of the grid, so no
+        // other is met.
         other => other.cause(),
     };
     format!("refused {}: {cause}", refusal.number())

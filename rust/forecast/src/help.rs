@@ -29,7 +29,7 @@ pub fn short(page: &'static str) -> &'static str {
 /// The page of the tool.
 pub const OVERVIEW: &str = "\
 usage: forecast make TEXT RECORD
-       forecast show [--text] RECORD
+       forecast show [--text | --cell I J] RECORD
        forecast step RECORD [OUT] [OPTION]...
        forecast run RECORD [OUT] (--steps N | --until TIME) [OPTION]...
        forecast compare RECORD RECORD
@@ -38,7 +38,8 @@ usage: forecast make TEXT RECORD
        forecast --version
 
 make     writes the record of a text description
-show     says what a record holds; with --text, as a text description
+show     says what a record holds; with --text, as a text description; with --cell,
+         how a cell changes
 step     takes one step
 run      takes N steps, or those until a time, with rivers, a table of gates and
          the record after the last step
@@ -94,13 +95,19 @@ Exit status: 0 written, 1 refused by the core, 2 a fault of the text or a file.
 
 const SHOW: &str = "\
 usage: forecast show [--text] RECORD
+       forecast show RECORD --cell I J [--cell I J]...
 
 Says what a record holds: grid, boundary, constants, timestamp (UTC), totals, the
 range of each field, and of a small grid every cell; and what a step can do: wave
 speed over spacing-per-step, the least slope that it moves, the least current that
 carries water.
 
---text   as a text description, of which make makes the same record
+--text       as a text description, of which make makes the same record
+--cell I J   the tendencies of cell I J in double precision, and how far to trust
+             them; may be repeated. -D is the rate of depth times 2 spacings, Tu
+             and Tv are the rates of u and v at its west and south edge times
+             spacing times 3,145,728. They are exact, those of the scheme, or
+             near: Tu and Tv are then off by at most 64, and -D is exact
 
 RECORD   a file, or - for standard input
 

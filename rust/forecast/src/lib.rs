@@ -2,7 +2,7 @@
 //! readable text, shows what a record says, steps and runs it, compares two,
 //! and draws level and current.
 //!
-//! It works out nothing of the model itself. Every step, run, total, test,
+//! It works out nothing of the model itself. Every step, run, total, tendency, test,
 //! comparison, and every record written or read is a call of [`basin`]; what is
 //! here is text, dates, files, pictures and pages. (`show` says what a step can do,
 //! by three quotients of a record's own numbers.)

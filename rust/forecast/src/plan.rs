@@ -211,7 +211,7 @@ fn steady(arguments: &Arguments, state: &State) -> Result<Vec<i64>, Failure> {
 }
 
 /// Whether a cell is one of the state's.
-fn inside((i, j): (usize, usize), state: &State) -> Result<(), Failure> {
+pub fn inside((i, j): (usize, usize), state: &State) -> Result<(), Failure> {
     let (w, n) = (state.parameters.w, state.parameters.n);
     if i >= w || j >= n {
         let words = format!("cell {i} {j} is outside the grid, {w} by {n}");

@@ -1,6 +1,6 @@
 //! What a record says, for a person.
 
-use basin::{Parameters, Refusal};
+use basin::{Parameters, Probe, Refusal, Trust};
 
 use crate::date::to_date;
 use crate::describe::table;
@@ -50,6 +50,24 @@ pub fn shown(state: &State) -> Result<String, Refusal> {
         }
     }
     Ok(text)
+}
+
+/// The tendencies of some cells in double precision, a line each, with the state's own
+/// potential vorticity. A double is printed to its last digit.
+pub fn probed(state: &State, cells: &[(usize, usize)]) -> Result<String, Refusal> {
+    let w = state.parameters.w;
+    let q = state.potential_vorticity()?;
+    let line = |&(i, j): &(usize, usize)| {
+        let cell = j * w + i;
+        let Probe { dh, du, dv, trust } = state.probe(&q, cell)?;
+        let word = match trust {
+            Trust::Exact => "exact",
+            Trust::Near => "near",
+        };
+        let name = cell_name(cell, Some(w));
+        Ok(format!("{name}, {word}: -D {dh} Tu {du} Tv {dv}\n"))
+    };
+    cells.iter().map(line).collect()
 }
 
 /// What a step can do: how far a wave goes in it, and what is too little to be moved

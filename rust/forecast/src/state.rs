@@ -1,6 +1,6 @@
 //! A state with its timestamp, owned, and the core's calls on it.
 
-use basin::{Parameters, Read, Refusal, Timestamp};
+use basin::{Parameters, Probe, Read, Refusal, Timestamp};
 
 /// Columns and rows of the largest grid that the core knows.
 const LONGEST_SIDE: usize = *Parameters::SIDE.end();
@@ -83,6 +83,21 @@ impl State {
     pub fn total_energy(&self) -> Result<i64, Refusal> {
         let ([h, b, u, v], barriers) = self.fields();
         basin::total_energy(&self.parameters, h, b, u, v, barriers)
+    }
+
+    /// Potential vorticity of the state, by the core.
+    pub fn potential_vorticity(&self) -> Result<Vec<i64>, Refusal> {
+        let ([h, b, u, v], barriers) = self.fields();
+        let mut q = vec![0; h.len()];
+        basin::potential_vorticity(&self.parameters, h, b, u, v, barriers, &mut q)?;
+        Ok(q)
+    }
+
+    /// The tendencies of a cell with a potential vorticity, in double precision, by the
+    /// core.
+    pub fn probe(&self, q: &[i64], cell: usize) -> Result<Probe, Refusal> {
+        let ([h, b, u, v], barriers) = self.fields();
+        basin::probe(&self.parameters, h, b, u, v, barriers, q, cell)
     }
 
     /// h, b, u, v and the barriers.

@@ -93,6 +93,7 @@ fn damaged_records_through_every_command() {
         assert_eq!(shown.status == 1, refused.is_some());
         for line in [
             "show -",
+            "show - --cell 0 0",
             "run - --steps 3",
             "run - @ --steps 3 --step-ms 7 --csv @ --gate a 0 0 --quiet",
             "draw - @",
@@ -264,7 +265,7 @@ fn random_arguments() {
         "make show step run compare draw help - -- --text --steps --every --inflow --seconds 0 0 3 \
          -7 99999999999999999999 0.500 3.5 --help --version /nonexistent/x --steps=3 --quiet --keep \
          --until 2000-01-01T00:00:09 --step-ms 1000 --spacing --gate lock --csv t.csv --rivers r.txt \
-         --description out.svg out.html ",
+         --description --cell out.svg out.html ",
         &[],
     );
     fs::write("r.txt", "step 0 0 0 0.5 mm\n").unwrap();

@@ -87,7 +87,7 @@ fn barriers_that_are_refused() {
 
 /// Calls that are none, each with a part of what is said of it. An underline stands
 /// for an empty word.
-const NO_CALLS: [(&str, &str); 66] = [
+const NO_CALLS: [(&str, &str); 73] = [
     ("", "no command"),
     ("dance", "unknown command dance"),
     ("make", "make takes a text and the record"),
@@ -97,6 +97,19 @@ const NO_CALLS: [(&str, &str); 66] = [
     ("show", "show takes one record"),
     ("show --all -", "unknown argument --all"),
     ("show --steps 3 -", "unknown argument --steps"),
+    ("show - --cell", "--cell takes a whole number"),
+    ("show --cell 3 -", "--cell takes a whole number"),
+    ("show - --cell -1 0", "--cell takes a whole number"),
+    (
+        "show - --cell 32 2",
+        "cell 32 2 is outside the grid, 32 by 20",
+    ),
+    (
+        "show - --cell 0 0 --cell 0 20",
+        "cell 0 20 is outside the grid, 32 by 20",
+    ),
+    ("show - --text --cell 0 0", "--text or --cell, not both"),
+    ("run - --steps 3 --cell 0 0", "unknown argument --cell"),
     ("compare -", "compare takes two records"),
     ("compare - -", "only one of two records"),
     ("step", "a record is missing"),
@@ -286,7 +299,7 @@ fn help_is_given() {
 fn every_option_is_on_its_page() {
     let record = example("dock.rec");
     let options = "--text --keep --quiet --steps --until --step-ms --spacing --seconds --every \
-                   --csv --rivers --description --gate --inflow";
+                   --csv --rivers --description --gate --inflow --cell";
     for command in ["make", "show", "step", "run", "compare", "draw"] {
         let page = said(&["help", command]);
         let words = |sign: char| !sign.is_ascii_lowercase() && sign != '-';

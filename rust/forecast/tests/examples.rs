@@ -114,6 +114,44 @@ fn a_small_grid_is_shown_cell_by_cell() {
     assert!(text.ends_with(table), "{text}");
 }
 
+/// The tendencies of a cell, which are the core's whole numbers or near them.
+#[test]
+fn a_cell_is_probed() {
+    let record = example("one_cell.rec");
+    let one = "cell 0 0, exact: -D -0 Tu -1574400000 Tv -3148800000\n";
+    assert_eq!(said(&["show", &record, "--cell", "0", "0"]), one);
+    let twice = "show --cell 0 0 @ --cell 0 0";
+    assert_eq!(said(&words(twice, &[&record])), one.repeat(2));
+
+    // All of these are deeper somewhere than a narrow grid.
+    for name in EXAMPLES {
+        let state = state(name);
+        let p = &state.parameters;
+        let ([h, b, u, v], z) = ([&state.h, &state.b, &state.u, &state.v], &state.barriers);
+        let [mut q, mut dh, mut du, mut dv] = [(); 4].map(|()| vec![0; h.len()]);
+        basin::potential_vorticity(p, h, b, u, v, z, &mut q).unwrap();
+        basin::tendencies(p, h, b, u, v, z, &q, &mut dh, &mut du, &mut dv).unwrap();
+        for (i, j) in [(0, 0), (p.w - 1, p.n - 1), (p.w / 2, p.n / 3), (1, 1)] {
+            let [i_word, j_word] = [i, j].map(|k| k.to_string());
+            let record = example(&format!("{name}.rec"));
+            let text = said(&["show", &record, "--cell", &i_word, &j_word]);
+            let rest = text.strip_prefix(&format!("cell {i} {j}, near: "));
+            let words: Vec<&str> = rest.expect(&text).split_whitespace().collect();
+            let ["-D", d, "Tu", tu, "Tv", tv] = words[..] else {
+                panic!("{text}");
+            };
+            let cell = j * p.w + i;
+            let off = |double: &str, whole: i64| {
+                let double: f64 = double.parse().unwrap();
+                (double as i64).abs_diff(whole)
+            };
+            assert_eq!(off(d, dh[cell]), 0, "{text}");
+            let far = off(tu, du[cell]).max(off(tv, dv[cell]));
+            assert!(far <= 64, "{text}");
+        }
+    }
+}
+
 /// What a step can do is told by the deepest cell, at both sides of the bound.
 #[test]
 fn what_a_step_can_do() {

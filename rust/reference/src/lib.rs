@@ -1,7 +1,8 @@
 //! An independent version of the shallow-water core that document 01
 //! specifies: the Arakawa-Lamb C-grid scheme in whole numbers, its two-pass
 //! time step, and the record a state is stored in, with timestamps to the
-//! millisecond and barriers inside the grid (requests U1 and U2 of document 02).
+//! millisecond, barriers inside the grid and tendencies in double precision
+//! (requests U1, U2 and U3 of document 02).
 //!
 //! It was written from 01, 02 and the open points decided in docs/DECISIONS.md,
 //! apart from the proved core and its model, and is meant to be compared with
@@ -16,6 +17,7 @@
 // A call takes a whole state as separate fields, and its destinations too.
 #![allow(clippy::too_many_arguments)]
 
+mod probe;
 mod program;
 mod record;
 mod refusal;
@@ -23,11 +25,12 @@ pub mod scheme;
 pub mod state;
 mod stepping;
 
+pub use probe::{probe, probe_grid};
 pub use program::{step_program, INPUT_LIMIT};
 pub use record::{compare, read, record_size, write};
 pub use refusal::{
-    CompareAnswer, Field, FillAnswer, ReadAnswer, Refusal, RunAnswer, StepAnswer, TotalAnswer,
-    WriteAnswer,
+    CompareAnswer, Field, FillAnswer, ProbeAnswer, ProbeGridAnswer, ReadAnswer, Refusal, RunAnswer,
+    StepAnswer, TotalAnswer, WriteAnswer,
 };
 pub use scheme::{energy_rate, enstrophy_rate, potential_vorticity, tendencies};
 pub use state::{Boundary, Parameters, State, Timestamp};

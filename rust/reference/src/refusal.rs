@@ -54,6 +54,8 @@ pub enum Refusal {
     Destination,
     /// Milliseconds above 999.
     Milliseconds,
+    /// A probed cell outside the grid.
+    NoSuchCell,
 }
 
 impl Refusal {
@@ -68,6 +70,7 @@ impl Refusal {
             Refusal::Record { offset } => vec![7, offset as i128],
             Refusal::Destination => vec![8],
             Refusal::Milliseconds => vec![9],
+            Refusal::NoSuchCell => vec![10],
         }
     }
 }
@@ -94,6 +97,48 @@ impl From<Result<(), Refusal>> for FillAnswer {
         match result {
             Ok(()) => FillAnswer::Done,
             Err(refusal) => FillAnswer::Refused(refusal),
+        }
+    }
+}
+
+/// The answer of the probe of a cell: -D, Tu and Tv in double precision, and how
+/// far to trust them.
+#[derive(Clone, Copy, Debug, PartialEq)]
+pub enum ProbeAnswer {
+    /// They are the whole numbers.
+    Exact([f64; 3]),
+    /// Tu and Tv may be off by up to 64.
+    Near([f64; 3]),
+    Refused(Refusal),
+}
+
+impl ProbeAnswer {
+    /// `[0, 0]` for exact, `[0, 1]` for near, or the refusal. The doubles are told
+    /// beside it.
+    pub fn told(&self) -> Vec<i128> {
+        match self {
+            ProbeAnswer::Exact(_) => vec![0, 0],
+            ProbeAnswer::Near(_) => vec![0, 1],
+            ProbeAnswer::Refused(refusal) => refusal.told(),
+        }
+    }
+}
+
+/// The answer of the probe of a grid, which fills destinations with its doubles.
+#[derive(Clone, Copy, Debug, PartialEq, Eq)]
+pub enum ProbeGridAnswer {
+    Exact,
+    Near,
+    Refused(Refusal),
+}
+
+impl ProbeGridAnswer {
+    /// As that of a cell.
+    pub fn told(&self) -> Vec<i128> {
+        match self {
+            ProbeGridAnswer::Exact => vec![0, 0],
+            ProbeGridAnswer::Near => vec![0, 1],
+            ProbeGridAnswer::Refused(refusal) => refusal.told(),
         }
     }
 }

@@ -1,5 +1,5 @@
-//! A state and its timestamp, their limits, the grid, and refusals 1 to 5, 8 and
-//! 9.
+//! A state and its timestamp, their limits, the grid, and refusals 1 to 5 and 8 to
+//! 10.
 
 use std::ops::{Range, RangeInclusive};
 
@@ -225,15 +225,15 @@ impl Grid {
 
     /// Writes 0 on the closed edges of a pair of edge fields: those that the
     /// boundary closes, and those that a barrier closes.
-    pub fn close_edges(self, barriers: &[u8], u: &mut [i64], v: &mut [i64]) {
-        self.west_wall().for_each(|cell| u[cell] = 0);
-        self.south_wall().for_each(|cell| v[cell] = 0);
+    pub fn close_edges<T: Default>(self, barriers: &[u8], u: &mut [T], v: &mut [T]) {
+        self.west_wall().for_each(|cell| u[cell] = T::default());
+        self.south_wall().for_each(|cell| v[cell] = T::default());
         for ((u, v), barrier) in u.iter_mut().zip(v).zip(barriers) {
             if barrier & WEST != 0 {
-                *u = 0;
+                *u = T::default();
             }
             if barrier & SOUTH != 0 {
-                *v = 0;
+                *v = T::default();
             }
         }
     }
@@ -413,6 +413,15 @@ pub(crate) fn test_destinations(
         Ok(())
     } else {
         Err(Refusal::Destination)
+    }
+}
+
+/// Test 10.
+pub(crate) fn test_cell(grid: Grid, cell: usize) -> Result<(), Refusal> {
+    if cell < grid.cells() {
+        Ok(())
+    } else {
+        Err(Refusal::NoSuchCell)
     }
 }
 

@@ -4,8 +4,8 @@
 
 use crate::common::{record_field, record_fields, record_of};
 use reference::{
-    energy_rate, enstrophy_rate, potential_vorticity, run, step, step_program, tendencies,
-    total_energy, FillAnswer, Parameters, RunAnswer, State, StepAnswer, TotalAnswer,
+    energy_rate, enstrophy_rate, potential_vorticity, probe_grid, run, step, step_program,
+    tendencies, total_energy, FillAnswer, Parameters, RunAnswer, State, StepAnswer, TotalAnswer,
 };
 
 /// A list of numbers as antt writes it.
@@ -16,6 +16,12 @@ fn list(numbers: &[i64]) -> String {
         text += &format!("{sign} {} ∷ ", x.unsigned_abs());
     }
     text + "[])"
+}
+
+/// The bits of doubles, as antt writes them.
+fn bits(doubles: &[f64]) -> String {
+    let bits = doubles.iter().map(|x| format!("{} ∷ ", x.to_bits()));
+    format!("({}[])", bits.collect::<String>())
 }
 
 /// The state `nine kind west south` of Agreement.antt, its `inflow` and
@@ -31,6 +37,10 @@ struct Nine {
 
 const RAIN: [i64; 9] = [1, -2, 3, -4, 5, -6, 7, -8, 9];
 const LENT: [i64; 9] = [1000, -2000, 3000, -4000, 5000, -6000, 7000, -8000, 9000];
+/// The vorticity lent with the state `wide`.
+const WIDE: [i64; 9] = [
+    2000000, -1999997, 1234567, -2000000, 1999999, -1876543, 1765432, -2000000, 1999993,
+];
 /// No barriers.
 const OPEN: [u8; 9] = [0; 9];
 
@@ -90,6 +100,49 @@ impl Nine {
             list(&dh),
             list(&du),
             list(&dv)
+        )
+    }
+
+    /// The state `wide`: nine cells with numbers near their bounds.
+    fn wide() -> Self {
+        Nine {
+            name: "wide",
+            p: Parameters {
+                w: 3,
+                n: 3,
+                kind: 0,
+                g: 10_000,
+                c: 0,
+                r: 1000,
+            },
+            h: [
+                99999, 87654, 98765, 76543, 95001, 99000, 100000, 64321, 90909,
+            ],
+            b: [0, 1, 99999, 50000, 7, 100000, 3, 31415, 27182],
+            u: [4999, -4321, 5000, -5000, 4987, -4777, 4501, -3999, 5000],
+            v: [4997, 4321, -4999, 5000, -4444, 4890, -5000, 4711, -3333],
+        }
+    }
+
+    /// The doubles of every cell with a `q` of this name.
+    fn probes(&self, lent: &str, q: &[i64; 9]) -> String {
+        let [mut dh, mut du, mut dv] = [[0.0; 9]; 3];
+        let Nine {
+            name,
+            p,
+            h,
+            b,
+            u,
+            v,
+        } = self;
+        let told = probe_grid(p, h, b, u, v, &OPEN, q, &mut dh, &mut du, &mut dv).told();
+        let told: Vec<i64> = told.iter().map(|&x| x as i64).collect();
+        format!(
+            "probesGrid {name} {lent} (zeros 9) (zeros 9) (zeros 9) {} {} {} {}",
+            list(&told),
+            bits(&dh),
+            bits(&du),
+            bits(&dv)
         )
     }
 
@@ -323,9 +376,10 @@ fn the_model_is_held_to_these_numbers() {
     for kind in 0..3 {
         let nine = Nine::new(kind);
         rows.extend([nine.vorticities(), nine.tends(), nine.rates()]);
-        rows.extend([nine.energy(), nine.steps()]);
+        rows.extend([nine.energy(), nine.steps(), nine.probes("lent", &LENT)]);
     }
     rows.push(Nine::new(2).runs(12));
+    rows.push(Nine::wide().probes("wideVorticity", &WIDE));
     rows.extend(steep());
     rows.extend([shallow(32, 32), shallow(41, 25)]);
     rows.extend([lengthened(65_483), lengthened(65_484)]);
@@ -340,6 +394,7 @@ fn the_model_is_held_to_these_numbers() {
     let calls = [
         "vorticities",
         "tends",
+        "probesGrid",
         "rates",
         "energy",
         "steps",

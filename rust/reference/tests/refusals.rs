@@ -9,13 +9,15 @@ use crate::common::{random_state, random_state_without_barriers, record_size};
 use crate::common::{
     run_state, step_state, within_limits, Random, Spread, NUMBERS, SPREADS, TESTED,
 };
-use reference::{potential_vorticity, run, step, tendencies, total_depth, total_energy, write};
-use reference::{Parameters, State, Timestamp};
+use reference::{potential_vorticity, probe, probe_grid, run, step, tendencies};
+use reference::{total_depth, total_energy, write, Parameters, State, Timestamp};
 
 #[derive(Clone, Copy, Debug, PartialEq)]
 enum Call {
     Vorticity,
     Tendencies,
+    Probe,
+    ProbeGrid,
     Step,
     Run,
     TotalDepth,
@@ -23,11 +25,13 @@ enum Call {
     Write,
 }
 
-use Call::{Run, Step, Tendencies, TotalDepth, TotalEnergy, Vorticity, Write};
+use Call::{Probe, ProbeGrid, Run, Step, Tendencies, TotalDepth, TotalEnergy, Vorticity, Write};
 
 const ALL: &[Call] = &[
     Vorticity,
     Tendencies,
+    Probe,
+    ProbeGrid,
     Step,
     Run,
     TotalDepth,
@@ -52,6 +56,9 @@ struct Lent {
     dh: Vec<i64>,
     du: Vec<i64>,
     dv: Vec<i64>,
+    /// The cell that is probed, and the destinations of a grid that is.
+    cell: usize,
+    doubles: [Vec<f64>; 3],
     timestamp: Timestamp,
     out: Vec<u8>,
 }
@@ -75,6 +82,8 @@ impl Lent {
             dh: vec![73; cells + 2],
             du: vec![74; cells + 2],
             dv: vec![75; cells + 2],
+            cell: 0,
+            doubles: [73.5, 74.5, 75.5].map(|x| vec![x; cells + 2]),
             timestamp: moment(76, 78),
             out: vec![77; record_size(cells) + 2],
         }
@@ -129,6 +138,11 @@ impl Lent {
             Tendencies => {
                 let (dh, du, dv) = (&mut self.dh, &mut self.du, &mut self.dv);
                 tendencies(p, h, b, u, v, z, &self.q, dh, du, dv).told()
+            }
+            Probe => probe(p, h, b, u, v, z, &self.q, self.cell).told(),
+            ProbeGrid => {
+                let [dh, du, dv] = &mut self.doubles;
+                probe_grid(p, h, b, u, v, z, &self.q, dh, du, dv).told()
             }
             Step => step(p, h, b, u, v, z, s, work).told(),
             Run => run(p, h, b, u, v, z, s, self.steps, work).told(),
@@ -188,6 +202,9 @@ fn fault(
     }
 }
 
+/// The calls that take q.
+const WITH_Q: &[Call] = &[Tendencies, Probe, ProbeGrid];
+
 type Pick = fn(&mut Lent) -> &mut Vec<i64>;
 /// Name, number, bounds, the calls that take it.
 type FieldRow = (&'static str, i128, i64, i64, &'static [Call], Pick);
@@ -197,7 +214,7 @@ const FIELDS: [FieldRow; 6] = [
     ("b", 1, 0, 100_000, ALL, |l| &mut l.b),
     ("u", 2, -5_000, 5_000, ALL, |l| &mut l.u),
     ("v", 3, -5_000, 5_000, ALL, |l| &mut l.v),
-    ("q", 4, -2_000_000, 2_000_000, &[Tendencies], |l| &mut l.q),
+    ("q", 4, -2_000_000, 2_000_000, WITH_Q, |l| &mut l.q),
     ("s", 5, -1_000, 1_000, &[Step, Run], |l| &mut l.inflow),
 ];
 
@@ -314,6 +331,17 @@ fn faults() -> Vec<Fault> {
             faults.push(fault(name, &[8], calls, move |l| pick(l).truncate(length)));
         }
     }
+    for which in 0..3 {
+        let what = format!("destination {which} of doubles");
+        for length in [0, 5] {
+            faults.push(fault(&what, &[8], &[ProbeGrid], move |l| {
+                l.doubles[which].truncate(length)
+            }));
+        }
+    }
+    for bad in [6, 7, 4_096, 1 << 32, usize::MAX] {
+        faults.push(fault("cell", &[10], &[Probe], move |l| l.cell = bad));
+    }
     for length in [0, record_size(6) - 1] {
         faults.push(fault(
             "destination of the record",
@@ -350,11 +378,12 @@ fn each_cause_is_refused_with_its_number_and_leaves_all_as_it_was() {
         }
     }
     for (call, met) in ALL.iter().zip(met) {
-        let fills = matches!(call, Vorticity | Tendencies | Write);
+        let fills = matches!(call, Vorticity | Tendencies | ProbeGrid | Write);
         let expected = [1, 2, 3, 4, 5]
             .into_iter()
             .chain(fills.then_some(8))
-            .chain((*call == Write).then_some(9));
+            .chain((*call == Write).then_some(9))
+            .chain((*call == Probe).then_some(10));
         let met = (0..NUMBERS).filter(|&number| met[number]);
         assert!(met.eq(expected), "{call:?}");
     }
@@ -458,8 +487,13 @@ fn every_bound_itself_is_accepted() {
     ] {
         destination.truncate(6);
     }
+    for destination in &mut exact.doubles {
+        destination.truncate(6);
+    }
     exact.out.truncate(record_size(6));
     accepted(ALL, "exact lengths", &exact);
+    exact.cell = 5;
+    accepted(ALL, "last cell", &exact);
     for seconds in [0, u64::MAX] {
         for milliseconds in [0, 999] {
             let mut lent = Lent::basin();
@@ -505,7 +539,7 @@ fn boundary_and_barriers_say_which_edges_are_closed() {
     }
 }
 
-/// The table of refusals 1 to 5, 8 and 9 over again, by whole scans.
+/// The table of refusals 1 to 5 and 8 to 10 over again, by whole scans.
 fn expected_refusal(call: Call, l: &Lent) -> Option<Vec<i128>> {
     let p = l.p;
     let small = |size: usize| size.wrapping_sub(1) < 64;
@@ -549,11 +583,15 @@ fn expected_refusal(call: Call, l: &Lent) -> Option<Vec<i128>> {
             }
         }
     }
+    if call == Probe && l.cell >= cells {
+        return Some(vec![10]);
+    }
     let short = match call {
         Vorticity => l.vorticity.len() < cells,
         Tendencies => [&l.dh, &l.du, &l.dv].iter().any(|d| d.len() < cells),
+        ProbeGrid => l.doubles.iter().any(|d| d.len() < cells),
         Write => l.out.len() < record_size(cells),
-        Step | Run | TotalDepth | TotalEnergy => false,
+        Probe | Step | Run | TotalDepth | TotalEnergy => false,
     };
     short.then(|| vec![8])
 }
@@ -565,6 +603,7 @@ fn random_lent(random: &mut Random) -> Lent {
     let mut lent = Lent::beside(state);
     lent.q = numbers(random, Spread::Mixed, cells, -2_000_000, 2_000_000);
     lent.inflow = numbers(random, Spread::Mixed, cells, -1_000, 1_000);
+    lent.cell = random.below(cells);
     for _ in 0..random.below(4) {
         let wild = match random.below(4) {
             0 => random.pick(&[i64::MIN, i64::MAX, 0, -1]),
@@ -572,7 +611,7 @@ fn random_lent(random: &mut Random) -> Lent {
             2 => random.between(-6_000, 110_000),
             _ => random.next() as i64,
         };
-        match random.below(20) {
+        match random.below(22) {
             0 if random.once_in(4) => lent.p.w = wild as usize,
             1 if random.once_in(4) => lent.p.n = wild as usize,
             2 if random.once_in(4) => lent.p.kind = wild as u8,
@@ -591,6 +630,8 @@ fn random_lent(random: &mut Random) -> Lent {
                 };
                 destination.truncate(random.below(cells + 2));
             }
+            20 => lent.doubles[random.below(3)].truncate(random.below(cells + 2)),
+            21 => lent.cell = random.pick(&[cells - 1, cells, cells + 1, wild as usize]),
             10 => lent.timestamp = moment(random_number(random), wild as u64),
             11 => {
                 let (_, _, low, _, _, pick) = random.pick(&FIELDS);
@@ -640,7 +681,7 @@ fn any_numbers_and_lengths_are_answered_by_the_table() {
         }
     }
     println!("{met:?}");
-    let told = [0, 1, 2, 3, 4, 5, 6, 8, 9];
+    let told = [0, 1, 2, 3, 4, 5, 6, 8, 9, 10];
     assert!(told.iter().all(|&k| met[k] > 100), "{met:?}");
 }
 
@@ -670,13 +711,19 @@ fn accepted_call(call: Call, before: &Lent) -> i128 {
                 after.v.clone_from(&before.v);
             }
         }
-        TotalDepth | TotalEnergy => {}
+        ProbeGrid => {
+            for (after, before) in after.doubles.iter_mut().zip(&before.doubles) {
+                after[..cells].copy_from_slice(&before[..cells]);
+            }
+        }
+        Probe | TotalDepth | TotalEnergy => {}
         Write => after.out[..size].copy_from_slice(&before.out[..size]),
     }
     assert_eq!(&after, before, "{call:?}");
     assert!(within_limits(&filled.state()), "{call:?}: {before:?}");
     match (call, &told[..]) {
         (Vorticity | Tendencies | Step, [0]) => {}
+        (Probe | ProbeGrid, [0, 0 | 1]) => {}
         (Run, [0, steps]) => assert_eq!(*steps, before.steps.into()),
         (Run, [6, 1..=2, 0 | 2 | 3, _, steps]) => assert!(*steps < before.steps.into()),
         (Step, [6, 1..=2, 0 | 2 | 3, _]) => {}
@@ -713,6 +760,7 @@ fn huge_numbers_are_answered() {
                         });
                         lent.steps = steps;
                         lent.timestamp = moment(steps, steps);
+                        lent.cell = w;
                         for &call in ALL {
                             let told = expected_refusal(call, &lent).expect("lengths are bad");
                             lent.assert_refused(call, &told, "huge");

@@ -48,7 +48,7 @@ fn rounding_is_to_the_nearest_with_halves_away_from_zero() {
 
 #[test]
 fn the_weights_are_the_table_of_01() {
-    assert_eq!(WEIGHTS.map(|row| row.map(i128::from)), PAPER.table);
+    assert_eq!(WEIGHTS, PAPER.table);
 }
 
 #[test]

@@ -1,15 +1,19 @@
-//! A call made with both versions: what they tell and write is compared, and
-//! everything lent is looked at before and after.
+//! A call made with both versions: what they tell and write is compared, doubles bit
+//! for bit, and everything lent is looked at before and after. Doubles are held to the
+//! library's whole tendencies too.
 
-use basin::{raw, Ran, Refusal};
+use basin::{raw, Ran, Refusal, Trust};
 
 use super::common::literal::{self, Three};
-use super::common::record_size;
+use super::common::{distance, record_size};
 use super::{Call, Case, H, Q, U, V};
 
 /// Numbers that no call gives.
 pub const FENCE: i64 = 0x3333_3333_3333_3333;
 pub const UNFILLED: i64 = i64::MIN;
+/// Doubles that no call gives, since what it gives are whole numbers.
+pub const FENCE_DOUBLE: f64 = 0.25;
+pub const UNFILLED_DOUBLE: f64 = 0.5;
 /// The number beside an answer, and what stands in an answer before a call, no
 /// two the same.
 pub const UNTOUCHED: u64 = 0x5555_5555_5555_5555;
@@ -26,11 +30,28 @@ pub const UNANSWERED: [u64; 8] = [
 /// A byte beside barriers or a record.
 pub const FENCE_BYTE: u8 = 0xA5;
 
+/// Doubles that are the same where their bits are: -0.0 is not 0.0.
+#[derive(Clone, Debug)]
+pub struct Doubles(pub Vec<f64>);
+
+impl PartialEq for Doubles {
+    fn eq(&self, other: &Self) -> bool {
+        let bits = |x: &f64| x.to_bits();
+        self.0.iter().map(bits).eq(other.0.iter().map(bits))
+    }
+}
+
+impl AsMut<[f64]> for Doubles {
+    fn as_mut(&mut self) -> &mut [f64] {
+        &mut self.0
+    }
+}
+
 /// What a call tells, and what is then in all that it may write to.
 #[derive(Clone, Debug, PartialEq)]
 pub struct Outcome {
     /// 01's number and values, 0 where nothing is refused; a run tells its
-    /// steps last, the writer the number of its bytes.
+    /// steps last, the writer the number of its bytes, a probe how far to trust it.
     pub told: Vec<u64>,
     pub written: Written,
 }
@@ -38,9 +59,13 @@ pub struct Outcome {
 /// The lists that a call may write to, but for its answer; empty where it is
 /// lent none.
 #[derive(Clone, Debug, PartialEq)]
-pub struct Written<T = Vec<i64>, R = Vec<u8>> {
+pub struct Written<T = Vec<i64>, R = Vec<u8>, D = Doubles> {
     /// q, or dh, du, dv.
     pub destinations: [T; 3],
+    /// dh, du, dv of a probed grid.
+    pub doubles: [D; 3],
+    /// The three of a probed cell.
+    pub probed: D,
     /// One number.
     pub total: T,
     /// h, u, v of a step or run, and its work space.
@@ -78,10 +103,14 @@ impl Written {
         } else {
             [const { Vec::new() }; 3]
         };
+        let whole = !call.is_probing();
+        let destination = |is_lent: bool, k: usize| {
+            lent(is_lent && k < call.destinations(), case.destinations[k])
+        };
         Written {
-            destinations: std::array::from_fn(|k| {
-                junk(lent(k < call.destinations(), case.destinations[k]), k)
-            }),
+            destinations: std::array::from_fn(|k| junk(destination(whole, k), k)),
+            doubles: std::array::from_fn(|k| junk_doubles(destination(!whole, k), k)),
+            probed: junk_doubles(lent(call == Call::Probe, 3), 0),
             total: vec![case.total; lent(call.is_total(), 1)],
             stepped,
             work: junk(lent(call.is_stepping(), case.lent_work()), 3),
@@ -91,8 +120,11 @@ impl Written {
 
     fn fenced(&self) -> Self {
         let fenced = |numbers: &Vec<i64>| fenced(numbers, FENCE);
+        let fenced_doubles = |list: &Doubles| Doubles(self::fenced(&list.0, FENCE_DOUBLE));
         Written {
             destinations: self.destinations.each_ref().map(fenced),
+            doubles: self.doubles.each_ref().map(fenced_doubles),
+            probed: fenced_doubles(&self.probed),
             total: fenced(&self.total),
             stepped: self.stepped.each_ref().map(fenced),
             work: fenced(&self.work),
@@ -100,9 +132,11 @@ impl Written {
         }
     }
 
-    fn inside_fences(&mut self) -> Written<&mut [i64], &mut [u8]> {
+    fn inside_fences(&mut self) -> Lent<'_> {
         Written {
             destinations: self.destinations.each_mut().map(|list| inside(list)),
+            doubles: self.doubles.each_mut().map(|list| inside(&mut list.0)),
+            probed: inside(&mut self.probed.0),
             total: inside(&mut self.total),
             stepped: self.stepped.each_mut().map(|list| inside(list)),
             work: inside(&mut self.work),
@@ -111,10 +145,15 @@ impl Written {
     }
 }
 
-impl<T: AsMut<[i64]>, R: AsMut<[u8]>> Written<T, R> {
-    pub fn slices(&mut self) -> Written<&mut [i64], &mut [u8]> {
+/// The lists as a call is lent them.
+pub type Lent<'a> = Written<&'a mut [i64], &'a mut [u8], &'a mut [f64]>;
+
+impl<T: AsMut<[i64]>, R: AsMut<[u8]>, D: AsMut<[f64]>> Written<T, R, D> {
+    pub fn slices(&mut self) -> Lent<'_> {
         Written {
             destinations: self.destinations.each_mut().map(T::as_mut),
+            doubles: self.doubles.each_mut().map(D::as_mut),
+            probed: self.probed.as_mut(),
             total: self.total.as_mut(),
             stepped: self.stepped.each_mut().map(T::as_mut),
             work: self.work.as_mut(),
@@ -123,10 +162,13 @@ impl<T: AsMut<[i64]>, R: AsMut<[u8]>> Written<T, R> {
     }
 }
 
-impl Written<&mut [i64], &mut [u8]> {
+impl Lent<'_> {
     pub fn copied(&self) -> Written {
+        let doubles = |list: &&mut [f64]| Doubles(list.to_vec());
         Written {
             destinations: self.destinations.each_ref().map(|list| list.to_vec()),
+            doubles: self.doubles.each_ref().map(doubles),
+            probed: doubles(&self.probed),
             total: self.total.to_vec(),
             stepped: self.stepped.each_ref().map(|list| list.to_vec()),
             work: self.work.to_vec(),
@@ -167,6 +209,7 @@ pub fn told(result: Result<(), Refusal>) -> Vec<u64> {
         Refusal::Record { offset } => vec![7, offset as u64],
         Refusal::Destination => vec![8],
         Refusal::Milliseconds => vec![9],
+        Refusal::NoSuchCell => vec![10],
         _ => panic!("{refusal:?} is no refusal of these calls"),
     };
     assert_eq!(u64::from(refusal.number()), told[0]);
@@ -189,6 +232,21 @@ fn told_run(result: Result<Ran, Refusal>) -> Vec<u64> {
 
 fn told_total(result: Result<i64, Refusal>, total: &mut [i64]) -> Vec<u64> {
     told(result.map(|number| total[0] = number))
+}
+
+fn told_trust(result: Result<Trust, Refusal>) -> Vec<u64> {
+    match result {
+        Ok(Trust::Exact) => vec![0, 0],
+        Ok(Trust::Near) => vec![0, 1],
+        Err(refusal) => told(Err(refusal)),
+    }
+}
+
+fn told_probe(result: Result<basin::Probe, Refusal>, three: &mut [f64]) -> Vec<u64> {
+    told_trust(result.map(|probe| {
+        three.copy_from_slice(&[probe.dh, probe.du, probe.dv]);
+        probe.trust
+    }))
 }
 
 fn told_write(result: Result<usize, Refusal>) -> Vec<u64> {
@@ -229,14 +287,17 @@ fn proved(case: &Case, call: Call) -> Outcome {
     let p = &parameters(case);
     let [h, b, u, v, q, s] = &case.fields;
     let z = &case.barriers;
-    let (steps, time) = (case.steps, timestamp(case.timestamp));
+    let (cell, steps, time) = (case.cell, case.steps, timestamp(case.timestamp));
     let mut written = Written::before(case, call);
     let lent = written.slices();
     let [first, second, third] = lent.destinations;
+    let [dh, du, dv] = lent.doubles;
     let [h1, u1, v1] = lent.stepped;
     let told = match call {
         Call::PotentialVorticity => told(basin::potential_vorticity(p, h, b, u, v, z, first)),
         Call::Tendencies => told(basin::tendencies(p, h, b, u, v, z, q, first, second, third)),
+        Call::Probe => told_probe(basin::probe(p, h, b, u, v, z, q, cell), lent.probed),
+        Call::ProbeGrid => told_trust(basin::probe_grid(p, h, b, u, v, z, q, dh, du, dv)),
         Call::Step => told(basin::step(p, h1, b, u1, v1, z, s, lent.work)),
         Call::Run => told_run(basin::run(p, h1, b, u1, v1, z, s, steps, lent.work)),
         Call::TotalDepth => told_total(basin::total_depth(p, h, b, u, v, z), lent.total),
@@ -248,7 +309,7 @@ fn proved(case: &Case, call: Call) -> Outcome {
 
 /// The independent version.
 pub fn independent(case: &Case, call: Call) -> Outcome {
-    use reference::TotalAnswer;
+    use reference::{ProbeAnswer, TotalAnswer};
     let Case {
         p,
         fields,
@@ -257,12 +318,22 @@ pub fn independent(case: &Case, call: Call) -> Outcome {
     } = case;
     let [h, b, u, v, q, s] = fields;
     let &Case {
-        steps, timestamp, ..
+        cell,
+        steps,
+        timestamp,
+        ..
     } = case;
     let mut written = Written::before(case, call);
     let lent = written.slices();
     let [first, second, third] = lent.destinations;
+    let [dh, du, dv] = lent.doubles;
     let [h1, u1, v1] = lent.stepped;
+    let mut probed = |answer: ProbeAnswer| {
+        if let ProbeAnswer::Exact(three) | ProbeAnswer::Near(three) = answer {
+            lent.probed.copy_from_slice(&three);
+        }
+        answer.told()
+    };
     // The total goes to its place, and is not told.
     let mut total = |answer: TotalAnswer| {
         if let TotalAnswer::Total(number) = answer {
@@ -276,6 +347,8 @@ pub fn independent(case: &Case, call: Call) -> Outcome {
         Call::TotalEnergy => total(reference::total_energy(p, h, b, u, v, z)),
         Call::PotentialVorticity => reference::potential_vorticity(p, h, b, u, v, z, first).told(),
         Call::Tendencies => reference::tendencies(p, h, b, u, v, z, q, first, second, third).told(),
+        Call::Probe => probed(reference::probe(p, h, b, u, v, z, q, cell)),
+        Call::ProbeGrid => reference::probe_grid(p, h, b, u, v, z, q, dh, du, dv).told(),
         Call::Step => reference::step(p, h1, b, u1, v1, z, s, lent.work).told(),
         Call::Run => reference::run(p, h1, b, u1, v1, z, s, steps, lent.work).told(),
         Call::Write => reference::write(p, h, b, u, v, z, timestamp, lent.record).told(),
@@ -291,15 +364,17 @@ pub fn call_raw(
     case: &Case,
     call: Call,
     (fields, z): ([&[i64]; 6], &[u8]),
-    lent: Written<&mut [i64], &mut [u8]>,
+    lent: Lent,
     answer: &mut [u64; 8],
 ) -> u64 {
     let p = &parameters(case);
     let [h, b, u, v, q, s] = fields;
-    let (steps, time) = (case.steps, case.timestamp);
+    let (cell, steps, time) = (case.cell, case.steps, case.timestamp);
     let [first, second, third] = lent.destinations;
+    let [dh, du, dv] = lent.doubles;
     let [h1, u1, v1] = lent.stepped;
     let Written {
+        probed,
         total,
         work,
         record,
@@ -308,6 +383,8 @@ pub fn call_raw(
     match call {
         Call::PotentialVorticity => raw::potential_vorticity(p, h, b, u, v, z, first, answer),
         Call::Tendencies => raw::tendencies(p, h, b, u, v, z, q, first, second, third, answer),
+        Call::Probe => raw::probe(p, h, b, u, v, z, q, cell, array(probed), answer),
+        Call::ProbeGrid => raw::probe_grid(p, h, b, u, v, z, q, dh, du, dv, answer),
         Call::Step => raw::step(p, h1, b, u1, v1, z, s, work, answer),
         Call::Run => raw::run(p, h1, b, u1, v1, z, s, steps, work, answer),
         Call::TotalDepth => raw::total_depth(p, h, b, u, v, z, &mut total[0], answer),
@@ -342,7 +419,37 @@ pub fn compare(case: &Case, call: Call, at: &str) -> Outcome {
             assert_eq!(enstrophy, 0, "{at}: the enstrophy rate of {case:?}");
         }
     }
+    if call.is_probing() && got.told[0] == 0 {
+        let narrow = case.is_narrow();
+        assert_eq!(got.told, [0, u64::from(!narrow)], "{at}: {case:?}");
+        let farthest = farthest(case, call, &got.written);
+        let allowed = if narrow { 0 } else { 64 };
+        assert!(
+            farthest <= allowed,
+            "{at}: {farthest} off, {call:?} {case:?}"
+        );
+    }
     got
+}
+
+/// How far the doubles of a probe are from the tendencies of the library, at most.
+/// Those of -D are never off.
+pub fn farthest(case: &Case, call: Call, written: &Written) -> u64 {
+    let [h, b, u, v, q, _] = &case.fields;
+    let cells = h.len();
+    let [mut dh, mut du, mut dv] = [(); 3].map(|()| vec![0; cells]);
+    let (p, z) = (&parameters(case), &case.barriers);
+    let done = basin::tendencies(p, h, b, u, v, z, q, &mut dh, &mut du, &mut dv);
+    assert_eq!(done, Ok(()), "{case:?}");
+    let far = |k: usize, whole: &[i64]| match call {
+        Call::Probe => distance(written.probed.0[k], whole[case.cell]),
+        _ => {
+            let of_cells = written.doubles[k].0.iter().zip(whole);
+            of_cells.map(|(&x, &z)| distance(x, z)).max().unwrap_or(0)
+        }
+    };
+    assert_eq!(far(0, &dh), 0, "-D of {call:?} {case:?}");
+    far(1, &du).max(far(2, &dv))
 }
 
 fn sides(case: &Case, call: Call, at: &str) -> String {
@@ -403,6 +510,12 @@ pub fn junk(length: usize, k: usize) -> Vec<i64> {
     (0..length).map(number).collect()
 }
 
+/// The same of doubles, the k-th of three.
+pub fn junk_doubles(length: usize, k: usize) -> Doubles {
+    let number = |place: usize| UNFILLED_DOUBLE + (4 * place + k) as f64;
+    Doubles((0..length).map(number).collect())
+}
+
 /// The same of bytes, of which no two that follow each other are the same.
 pub fn junk_bytes(length: usize) -> Vec<u8> {
     (0..length).map(|place| (7 * place + 0x5B) as u8).collect()
@@ -434,15 +547,19 @@ fn assert_left(case: &Case, call: Call, before: &Written, got: &Outcome, at: &st
         0 => cells,
         _ => 0,
     };
-    let lists = got.written.destinations.iter().zip(&before.destinations);
-    for (after, before) in lists.take(call.destinations()) {
-        assert_eq!(
-            after[filled..],
-            before[filled..],
-            "{at}: left by {call:?} {case:?}"
-        );
-        let all = after[..filled].iter().all(|&x| x >= UNFILLED / 2);
-        assert!(all, "{at}: not filled by {call:?} {case:?}");
+    if call.is_probing() {
+        assert_doubles_left(case, call, before, got, at);
+    } else {
+        let lists = got.written.destinations.iter().zip(&before.destinations);
+        for (after, before) in lists.take(call.destinations()) {
+            assert_eq!(
+                after[filled..],
+                before[filled..],
+                "{at}: left by {call:?} {case:?}"
+            );
+            let all = after[..filled].iter().all(|&x| x >= UNFILLED / 2);
+            assert!(all, "{at}: not filled by {call:?} {case:?}");
+        }
     }
     if call.is_total() {
         let (after, before) = (&got.written.total, &before.total);
@@ -485,6 +602,28 @@ fn assert_left(case: &Case, call: Call, before: &Written, got: &Outcome, at: &st
             &before.work[cleared..],
             "{at}: left by {call:?} {case:?}"
         );
+    }
+}
+
+/// The same of the doubles that a probe is lent: a refused one leaves them, an accepted
+/// one fills the three of a cell, or the first places of a grid, with whole numbers.
+fn assert_doubles_left(case: &Case, call: Call, before: &Written, got: &Outcome, at: &str) {
+    let filled = match (got.told[0], call) {
+        (0, Call::Probe) => 3,
+        (0, _) => case.p.w * case.p.n,
+        _ => 0,
+    };
+    let Written {
+        doubles, probed, ..
+    } = &got.written;
+    let of_grid = doubles.iter().zip(&before.doubles);
+    for (after, before) in of_grid.chain([(probed, &before.probed)]) {
+        // One of the two is not lent, and empty.
+        let filled = filled.min(after.0.len());
+        let rest = |list: &Doubles| Doubles(list.0[filled..].to_vec());
+        assert_eq!(rest(after), rest(before), "{at}: left by {call:?} {case:?}");
+        let all = after.0[..filled].iter().all(|x| x.fract() == 0.0);
+        assert!(all, "{at}: not filled by {call:?} {case:?}");
     }
 }
 

@@ -27,6 +27,7 @@ const PAGE: usize = 4_096;
 pub trait Plain: Copy {}
 impl Plain for u8 {}
 impl Plain for i64 {}
+impl Plain for f64 {}
 impl Plain for u64 {}
 
 /// Zeros, of which only those that are written to take memory.

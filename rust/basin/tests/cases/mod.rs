@@ -13,10 +13,8 @@ pub mod rounding;
 pub mod common;
 
 use calls::{UNANSWERED, UNFILLED};
-use common::{
-    literal, numbers, random_number, random_q, random_state, random_timestamp, record_size,
-};
-use common::{Random, Spread, SPREADS};
+use common::{large_state, literal, narrow_state, numbers, random_number, random_q};
+use common::{random_state, random_timestamp, record_size, Random, Spread, SPREADS};
 use records::{tag_9, TAG_8};
 use reference::{Parameters, State, Timestamp};
 
@@ -56,6 +54,10 @@ pub fn next_outside(field: usize) -> [i64; 2] {
 pub enum Call {
     PotentialVorticity,
     Tendencies,
+    /// The tendencies of a cell in double precision.
+    Probe,
+    /// The same of every cell.
+    ProbeGrid,
     Step,
     Run,
     TotalDepth,
@@ -64,9 +66,11 @@ pub enum Call {
     Write,
 }
 
-pub const CALLS: [Call; 7] = [
+pub const CALLS: [Call; 9] = [
     Call::PotentialVorticity,
     Call::Tendencies,
+    Call::Probe,
+    Call::ProbeGrid,
     Call::Step,
     Call::Run,
     Call::TotalDepth,
@@ -74,8 +78,10 @@ pub const CALLS: [Call; 7] = [
     Call::Write,
 ];
 
-/// Those of them that fill fields, those that step a state, and the totals.
-pub const FILLING: [Call; 2] = [Call::PotentialVorticity, Call::Tendencies];
+/// Those of them that fill fields, those that give doubles, those that step a state,
+/// and the totals.
+pub const FILLING: [Call; 3] = [Call::PotentialVorticity, Call::Tendencies, Call::ProbeGrid];
+pub const PROBING: [Call; 2] = [Call::Probe, Call::ProbeGrid];
 pub const STEPPING: [Call; 2] = [Call::Step, Call::Run];
 pub const TOTALS: [Call; 2] = [Call::TotalDepth, Call::TotalEnergy];
 
@@ -85,7 +91,7 @@ impl Call {
         match self {
             Call::PotentialVorticity => &[0, 1, 2, 3, BARRIERS],
             Call::TotalDepth | Call::TotalEnergy | Call::Write => &[0, 1, 2, 3, BARRIERS],
-            Call::Tendencies => &[0, 1, 2, 3, BARRIERS, Q],
+            Call::Tendencies | Call::Probe | Call::ProbeGrid => &[0, 1, 2, 3, BARRIERS, Q],
             Call::Step | Call::Run => &[0, 1, 2, 3, BARRIERS, S],
         }
     }
@@ -113,11 +119,16 @@ impl Call {
         TOTALS.contains(&self)
     }
 
+    /// Whether the call gives doubles.
+    pub fn is_probing(self) -> bool {
+        PROBING.contains(&self)
+    }
+
     /// How many fields the call is lent to be filled.
     pub fn destinations(self) -> usize {
         match self {
             Call::PotentialVorticity => 1,
-            Call::Tendencies => 3,
+            Call::Tendencies | Call::ProbeGrid => 3,
             _ => 0,
         }
     }
@@ -130,6 +141,8 @@ pub struct Case {
     /// h, b, u, v, q, s
     pub fields: [Vec<i64>; 6],
     pub barriers: Vec<u8>,
+    /// The cell that is probed.
+    pub cell: usize,
     pub steps: u64,
     pub work: usize,
     /// Lengths of the destinations: q, or dh, du, dv.
@@ -158,6 +171,7 @@ impl Case {
             p: parameters,
             fields: [h, b, u, v, q, inflow],
             barriers,
+            cell: 0,
             steps: 3,
             work: 8 * cells,
             destinations: [cells; 3],
@@ -243,15 +257,31 @@ impl Case {
 
     pub fn good_of_kind(random: &mut Random, size: (usize, usize), kind: u8) -> Self {
         let spread = random.pick(&SPREADS);
-        let state = random_state(random, spread, size, kind);
-        let cells = state.h.len();
+        let cells = size.0 * size.1;
         let mut field = |k: usize| numbers(random, spread, cells, BOUNDS[k].0, BOUNDS[k].1);
         let (mut q, inflow) = (field(Q), field(S));
-        // Any q may be lent; the state's own is one.
-        if random.once_in(4) {
-            q = literal::PAPER.vorticity(&state);
-        }
+        // One that doubles hold exactly, one that they round, or any. Any q may be
+        // lent; the state's own is one.
+        let state = match random.below(12) {
+            0 => {
+                let (state, narrow) = narrow_state(random, size, kind);
+                q = narrow;
+                state
+            }
+            1 => {
+                let (state, large) = large_state(random, size, kind);
+                q = large;
+                state
+            }
+            2..=4 => {
+                let state = random_state(random, spread, size, kind);
+                q = literal::PAPER.vorticity(&state);
+                state
+            }
+            _ => random_state(random, spread, size, kind),
+        };
         let mut case = Case::beside(state, q, inflow);
+        case.cell = place(random, cells).expect("a cell");
         case.steps = random.pick(&[0, 1, 2, 3]);
         if cells <= 64 && random.once_in(8) {
             case.take_long(random.pick(&[9_999, 10_000]));
@@ -340,6 +370,14 @@ impl Case {
     pub fn lent_work(&self) -> usize {
         let cells = self.p.w.wrapping_mul(self.p.n).min(64 * 64);
         self.work.min(8 * cells + 7)
+    }
+
+    /// Whether the grid and q are narrow, as the words of 02 have it.
+    pub fn is_narrow(&self) -> bool {
+        let [h, b, u, v, q, _] = &self.fields;
+        let heights = h.iter().chain(b).all(|&x| x <= 10_000);
+        let velocities = u.iter().chain(v).all(|x| (-500..=500).contains(x));
+        heights && velocities && q.iter().all(|x| (-1_000_000..=1_000_000).contains(x))
     }
 
     /// The state by itself.
@@ -464,6 +502,7 @@ impl Case {
                 self.record = record_size(cells);
             }
             [9] => self.timestamp.milliseconds = 999,
+            [10] => self.cell = 0,
             _ => panic!("{told:?} is no refusal of these calls: {self:?}"),
         }
     }
@@ -532,6 +571,8 @@ pub enum Fault {
     ShortRecord,
     /// Milliseconds at their bound or above it.
     Milliseconds,
+    /// A cell to be probed that is the last one, or past it.
+    Cell,
     /// A velocity on a closed edge.
     ClosedEdge,
     /// Velocities on some closed edges of u and v.
@@ -544,7 +585,7 @@ pub enum Fault {
     BarredVelocities,
 }
 
-pub const FAULTS: [Fault; 23] = [
+pub const FAULTS: [Fault; 24] = [
     Fault::OnePast,
     Fault::FarPast,
     Fault::SeveralPast,
@@ -563,6 +604,7 @@ pub const FAULTS: [Fault; 23] = [
     Fault::OtherDestinations,
     Fault::ShortRecord,
     Fault::Milliseconds,
+    Fault::Cell,
     Fault::ClosedEdge,
     Fault::ClosedEdges,
     Fault::OpenEdges,
@@ -723,6 +765,15 @@ impl Fault {
                 };
             }
             Fault::Milliseconds => case.timestamp.milliseconds = late_milliseconds(random),
+            Fault::Cell => {
+                let (cells, any) = (destination_needed(case), random.next() as usize);
+                case.cell = match random.below(3) {
+                    0 => random.pick(&[cells.saturating_sub(1), cells, cells + 1]),
+                    // The low bits are those of a cell.
+                    1 => random.below(cells.max(1)) + (1 << random.pick(&[12, 32, 63])),
+                    _ => random.pick(&[4_096, usize::MAX, any]),
+                };
+            }
             Fault::ClosedEdge => put_on_edges(random, case, 1, velocity),
             Fault::ClosedEdges => {
                 let times = 2 + random.below(4);

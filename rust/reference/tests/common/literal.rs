@@ -1,15 +1,43 @@
 //! 01's formulas taken literally: every quantity a function of (i,j) that is
-//! worked out afresh where it is used, wrapped by remainders, in `i128`.
+//! worked out afresh where it is used, wrapped by remainders, in `i128`. In `f64`
+//! the same formulas are those of 02's probe, with one rounding an operation.
 //!
 //! `Variant` holds the ways in which copies of the scheme go astray, so that
 //! the tests can show that they would notice.
 
+use std::ops::{Add, Mul, Neg, Sub};
+
 use reference::{Parameters, State};
+
+/// What the formulas are worked out in.
+pub trait Number:
+    Copy + Add<Output = Self> + Sub<Output = Self> + Mul<Output = Self> + Neg<Output = Self>
+{
+    fn of(number: i64) -> Self;
+}
+
+impl Number for i128 {
+    fn of(number: i64) -> Self {
+        number.into()
+    }
+}
+
+impl Number for f64 {
+    fn of(number: i64) -> Self {
+        number as f64
+    }
+}
+
+/// The sum from left to right.
+fn sum_of<N: Number>(terms: [N; 7]) -> N {
+    let [first, rest @ ..] = terms;
+    rest.into_iter().fold(first, |sum, term| sum + term)
+}
 
 #[derive(Clone, Copy, Debug, PartialEq)]
 pub struct Variant {
     /// Rows P, M, E, F over ne, nw, sw, se.
-    pub table: [[i128; 4]; 4],
+    pub table: [[i64; 4]; 4],
     /// The weights beside V(i-1,j+1) from the edge's own cell.
     pub beta_from_own_cell: bool,
     /// Depth by a net divergence that is rounded per cell.
@@ -72,8 +100,8 @@ impl Variant {
     }
 
     pub fn vorticity(&self, state: &State) -> Vec<i64> {
-        let l = Literal::new(state, &[], self);
-        l.grid(|i, j| {
+        let l = Literal::<i128>::new(state, &[], self);
+        l.whole(|i, j| {
             let z = l.c + l.v(i, j) - l.v(i - 1, j) + l.u(i, j - 1) - l.u(i, j);
             let depths = l.h(i, j) + l.h(i - 1, j) + l.h(i, j - 1) + l.h(i - 1, j - 1);
             self.rnd(262_144 * z, depths)
@@ -83,10 +111,20 @@ impl Variant {
     pub fn tendencies(&self, state: &State, q: &[i64]) -> Three {
         let l = Literal::new(state, q, self);
         Three {
-            h: l.grid(|i, j| -l.divergence(i, j)),
-            u: l.grid(|i, j| l.tendency_u(i, j)),
-            v: l.grid(|i, j| l.tendency_v(i, j)),
+            h: l.whole(|i, j| -l.divergence(i, j)),
+            u: l.whole(|i, j| l.tendency_u(i, j)),
+            v: l.whole(|i, j| l.tendency_v(i, j)),
         }
+    }
+
+    /// -D, Tu and Tv in double precision.
+    pub fn doubles(&self, state: &State, q: &[i64]) -> [Vec<f64>; 3] {
+        let l = Literal::<f64>::new(state, q, self);
+        [
+            l.each(|i, j| -l.divergence(i, j)),
+            l.each(|i, j| l.tendency_u(i, j)),
+            l.each(|i, j| l.tendency_v(i, j)),
+        ]
     }
 
     /// The step, or pass, field and cell of refusal 6.
@@ -114,18 +152,18 @@ impl Variant {
 
     fn pass(&self, base: &State, given: &State, q: &[i64], inflow: &[i64]) -> State {
         let r = i128::from(base.parameters.r);
-        let l = Literal::new(given, q, self);
+        let l = Literal::<i128>::new(given, q, self);
         let x = |i, j| self.rnd(l.flux_u(i, j), 2 * r);
         let y = |i, j| self.rnd(l.flux_v(i, j), 2 * r);
-        let flow = l.grid(|i, j| {
+        let flow = l.whole(|i, j| {
             if self.net_divergence {
                 self.rnd(l.divergence(i, j), 2 * r)
             } else {
                 x(i + 1, j) - x(i, j) + y(i, j + 1) - y(i, j)
             }
         });
-        let du = l.grid(|i, j| self.rnd(l.tendency_u(i, j), 3_145_728 * r));
-        let dv = l.grid(|i, j| self.rnd(l.tendency_v(i, j), 3_145_728 * r));
+        let du = l.whole(|i, j| self.rnd(l.tendency_u(i, j), 3_145_728 * r));
+        let dv = l.whole(|i, j| self.rnd(l.tendency_v(i, j), 3_145_728 * r));
         let cells = 0..base.h.len();
         State {
             parameters: base.parameters,
@@ -157,38 +195,53 @@ fn test_bounds(pass: i128, state: &State) -> Result<(), (i128, i128, i128)> {
     Ok(())
 }
 
-struct Literal<'a> {
+/// The seven doubles that Tu is the sum of, and Tv, of each cell: with their signs,
+/// in 01's order, and as if no edge were closed.
+pub fn terms(state: &State, q: &[i64]) -> [Vec<[f64; 7]>; 2] {
+    let l = Literal::new(state, q, &PAPER);
+    [
+        l.each(|i, j| l.terms_u(i, j)),
+        l.each(|i, j| l.terms_v(i, j)),
+    ]
+}
+
+struct Literal<'a, N> {
     p: Parameters,
-    g: i128,
-    c: i128,
+    g: N,
+    c: N,
     state: &'a State,
     q: &'a [i64],
     variant: &'a Variant,
 }
 
-impl<'a> Literal<'a> {
+impl<'a, N: Number> Literal<'a, N> {
     fn new(state: &'a State, q: &'a [i64], variant: &'a Variant) -> Self {
         let p = state.parameters;
         Literal {
             p,
-            g: p.g.into(),
-            c: p.c.into(),
+            g: N::of(p.g),
+            c: N::of(p.c),
             state,
             q,
             variant,
         }
     }
 
-    fn grid(&self, f: impl Fn(i64, i64) -> i128) -> Vec<i64> {
+    /// Something of each cell.
+    fn each<T>(&self, f: impl Fn(i64, i64) -> T) -> Vec<T> {
         (0..self.p.n as i64)
             .flat_map(|j| (0..self.p.w as i64).map(move |i| (i, j)))
-            .map(|(i, j)| i64::try_from(f(i, j)).expect("fits 64 bits"))
+            .map(|(i, j)| f(i, j))
             .collect()
     }
 
-    fn at<T: Copy + Into<i128>>(&self, field: &[T], i: i64, j: i64) -> i128 {
+    fn place(&self, i: i64, j: i64) -> usize {
         let (w, n) = (self.p.w as i64, self.p.n as i64);
-        field[(j.rem_euclid(n) * w + i.rem_euclid(w)) as usize].into()
+        (j.rem_euclid(n) * w + i.rem_euclid(w)) as usize
+    }
+
+    fn at(&self, field: &[i64], i: i64, j: i64) -> N {
+        N::of(field[self.place(i, j)])
     }
 
     /// Whether the barrier of a cell closes an edge: 0 its west edge, 1 its south
@@ -201,54 +254,66 @@ impl<'a> Literal<'a> {
         if self.variant.barrier_beyond {
             place = [(i - 1, j), (i, j - 1)][edge as usize];
         }
-        let barrier = self.at(&self.state.barriers, place.0, place.1);
-        !self.variant.boundary_alone && barrier / 2i128.pow(bit) % 2 == 1
+        let barrier = self.state.barriers[self.place(place.0, place.1)];
+        !self.variant.boundary_alone && barrier / 2u8.pow(bit) % 2 == 1
     }
 
-    fn h(&self, i: i64, j: i64) -> i128 {
+    fn h(&self, i: i64, j: i64) -> N {
         self.at(&self.state.h, i, j)
     }
 
-    fn u(&self, i: i64, j: i64) -> i128 {
+    fn u(&self, i: i64, j: i64) -> N {
         self.at(&self.state.u, i, j)
     }
 
-    fn v(&self, i: i64, j: i64) -> i128 {
+    fn v(&self, i: i64, j: i64) -> N {
         self.at(&self.state.v, i, j)
     }
 
-    fn flux_u(&self, i: i64, j: i64) -> i128 {
+    fn flux_u(&self, i: i64, j: i64) -> N {
         self.u(i, j) * (self.h(i - 1, j) + self.h(i, j))
     }
 
-    fn flux_v(&self, i: i64, j: i64) -> i128 {
+    fn flux_v(&self, i: i64, j: i64) -> N {
         self.v(i, j) * (self.h(i, j - 1) + self.h(i, j))
     }
 
-    fn divergence(&self, i: i64, j: i64) -> i128 {
+    fn divergence(&self, i: i64, j: i64) -> N {
         self.flux_u(i + 1, j) - self.flux_u(i, j) + self.flux_v(i, j + 1) - self.flux_v(i, j)
     }
 
-    fn weight(&self, row: usize, i: i64, j: i64) -> i128 {
-        let [ne, nw, sw, se] = self.variant.table[row];
+    fn weight(&self, row: usize, i: i64, j: i64) -> N {
+        let [ne, nw, sw, se] = self.variant.table[row].map(N::of);
         ne * self.at(self.q, i + 1, j + 1)
             + nw * self.at(self.q, i, j + 1)
             + sw * self.at(self.q, i, j)
             + se * self.at(self.q, i + 1, j)
     }
 
-    fn bernoulli(&self, i: i64, j: i64) -> i128 {
-        self.u(i, j).pow(2)
-            + self.u(i + 1, j).pow(2)
-            + self.v(i, j).pow(2)
-            + self.v(i, j + 1).pow(2)
-            + 4 * self.g * (self.h(i, j) + self.at(&self.state.b, i, j))
+    fn bernoulli(&self, i: i64, j: i64) -> N {
+        let square = |x: N| x * x;
+        square(self.u(i, j))
+            + square(self.u(i + 1, j))
+            + square(self.v(i, j))
+            + square(self.v(i, j + 1))
+            + N::of(4) * self.g * (self.h(i, j) + self.at(&self.state.b, i, j))
     }
 
-    fn tendency_u(&self, i: i64, j: i64) -> i128 {
+    fn tendency_u(&self, i: i64, j: i64) -> N {
         if self.p.kind == 2 && i == 0 || self.barred(0, i, j) {
-            return 0;
+            return N::of(0);
         }
+        sum_of(self.terms_u(i, j))
+    }
+
+    fn tendency_v(&self, i: i64, j: i64) -> N {
+        if self.p.kind != 0 && j == 0 || self.barred(1, i, j) {
+            return N::of(0);
+        }
+        sum_of(self.terms_v(i, j))
+    }
+
+    fn terms_u(&self, i: i64, j: i64) -> [N; 7] {
         let p = |i, j| self.weight(0, i, j);
         let m = |i, j| self.weight(1, i, j);
         let e = |i, j| self.weight(2, i, j);
@@ -257,29 +322,38 @@ impl<'a> Literal<'a> {
         } else {
             m(i - 1, j)
         };
-        p(i, j) * self.flux_v(i, j + 1)
-            + beta * self.flux_v(i - 1, j + 1)
-            + p(i - 1, j) * self.flux_v(i - 1, j)
-            + m(i, j) * self.flux_v(i, j)
-            - e(i, j) * self.flux_u(i + 1, j)
-            + e(i - 1, j) * self.flux_u(i - 1, j)
-            - 786_432 * (self.bernoulli(i, j) - self.bernoulli(i - 1, j))
+        [
+            p(i, j) * self.flux_v(i, j + 1),
+            beta * self.flux_v(i - 1, j + 1),
+            p(i - 1, j) * self.flux_v(i - 1, j),
+            m(i, j) * self.flux_v(i, j),
+            -(e(i, j) * self.flux_u(i + 1, j)),
+            e(i - 1, j) * self.flux_u(i - 1, j),
+            -(N::of(786_432) * (self.bernoulli(i, j) - self.bernoulli(i - 1, j))),
+        ]
     }
 
-    fn tendency_v(&self, i: i64, j: i64) -> i128 {
-        if self.p.kind != 0 && j == 0 || self.barred(1, i, j) {
-            return 0;
-        }
+    fn terms_v(&self, i: i64, j: i64) -> [N; 7] {
         let p = |i, j| self.weight(0, i, j);
         let m = |i, j| self.weight(1, i, j);
         let f = |i, j| self.weight(3, i, j);
-        -p(i, j) * self.flux_u(i + 1, j)
-            - m(i, j) * self.flux_u(i, j)
-            - p(i, j - 1) * self.flux_u(i, j - 1)
-            - m(i, j - 1) * self.flux_u(i + 1, j - 1)
-            - f(i, j) * self.flux_v(i, j + 1)
-            + f(i, j - 1) * self.flux_v(i, j - 1)
-            - 786_432 * (self.bernoulli(i, j) - self.bernoulli(i, j - 1))
+        [
+            -(p(i, j) * self.flux_u(i + 1, j)),
+            -(m(i, j) * self.flux_u(i, j)),
+            -(p(i, j - 1) * self.flux_u(i, j - 1)),
+            -(m(i, j - 1) * self.flux_u(i + 1, j - 1)),
+            -(f(i, j) * self.flux_v(i, j + 1)),
+            f(i, j - 1) * self.flux_v(i, j - 1),
+            -(N::of(786_432) * (self.bernoulli(i, j) - self.bernoulli(i, j - 1))),
+        ]
+    }
+}
+
+impl Literal<'_, i128> {
+    /// A whole number of each cell.
+    fn whole(&self, f: impl Fn(i64, i64) -> i128) -> Vec<i64> {
+        let number = |x| i64::try_from(x).expect("fits 64 bits");
+        self.each(|i, j| number(f(i, j)))
     }
 }
 
@@ -305,7 +379,7 @@ pub fn energy_rate(state: &State, rates: &Three) -> i128 {
 
 /// The scaled enstrophy rate of this q under these tendencies.
 pub fn enstrophy_rate(state: &State, q: &[i64], rates: &Three) -> i128 {
-    let l = Literal::new(state, q, &PAPER);
+    let l = Literal::<i128>::new(state, q, &PAPER);
     let (d, tu, tv) = (
         |i, j| -l.at(&rates.h, i, j),
         |i, j| l.at(&rates.u, i, j),
@@ -319,9 +393,6 @@ pub fn enstrophy_rate(state: &State, q: &[i64], rates: &Three) -> i128 {
     })
 }
 
-fn sum(l: &Literal, f: impl Fn(i64, i64) -> i128) -> i128 {
-    (0..l.p.n as i64)
-        .flat_map(|j| (0..l.p.w as i64).map(move |i| (i, j)))
-        .map(|(i, j)| f(i, j))
-        .sum()
+fn sum(l: &Literal<i128>, f: impl Fn(i64, i64) -> i128) -> i128 {
+    l.each(f).into_iter().sum()
 }

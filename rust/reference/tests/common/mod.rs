@@ -13,8 +13,8 @@ use std::fs;
 use std::path::Path;
 
 use literal::Three;
-use reference::{FillAnswer, Parameters, Refusal, RunAnswer, State, StepAnswer};
-use reference::{Timestamp, TotalAnswer};
+use reference::{FillAnswer, Parameters, ProbeAnswer, ProbeGridAnswer, Refusal};
+use reference::{RunAnswer, State, StepAnswer, Timestamp, TotalAnswer};
 
 /// Places of counts by number: 0, and the numbers of the refusals. 02 goes up to
 /// 13.
@@ -22,7 +22,7 @@ pub const NUMBERS: usize = 14;
 
 /// The order in which a call on a state tests for its refusals, and that of a
 /// record that is read.
-pub const TESTED: [usize; 8] = [1, 2, 3, 9, 4, 5, 6, 8];
+pub const TESTED: [usize; 9] = [1, 2, 3, 9, 4, 5, 6, 8, 10];
 pub const TESTED_IN_READ: [usize; 8] = [7, 1, 2, 8, 3, 9, 4, 5];
 /// The order in which 4 tests the fields, by their numbers: h, b, u, v, the
 /// barriers, then q or s.
@@ -180,6 +180,50 @@ pub fn any_state(random: &mut Random) -> State {
     random_state(random, spread, size, kind)
 }
 
+/// A state and a q whose numbers are between these sizes: h and b, u and v, q. The
+/// signs of a field are any, or all alike.
+fn state_of_sizes(
+    random: &mut Random,
+    spread: Spread,
+    size: (usize, usize),
+    kind: u8,
+    [height, speed, vorticity]: [(i64, i64); 3],
+) -> (State, Vec<i64>) {
+    let mut state = random_state(random, spread, size, kind);
+    let cells = state.h.len();
+    let mut sizes = |(low, high)| numbers(random, spread, cells, low, high);
+    let (low, high) = height;
+    state.h = sizes((low.max(1_000), high));
+    state.b = sizes(height);
+    let [u, v] = [(); 2].map(|()| sizes(speed));
+    let q = sizes(vorticity);
+    let mut signed = |mut field: Vec<i64>| {
+        let signs = random.pick(&[&[1][..], &[-1], &[-1, 1], &[-1, 1]]);
+        field.iter_mut().for_each(|x| *x *= random.pick(signs));
+        field
+    };
+    (state.u, state.v) = (signed(u), signed(v));
+    let q = signed(q);
+    clear_closed_edges(&mut state);
+    (state, q)
+}
+
+/// A state and a q that make a narrow grid (02), up to its bounds: 10,000 of h and
+/// b, 500 of u and v, 1,000,000 of q.
+pub fn narrow_state(random: &mut Random, size: (usize, usize), kind: u8) -> (State, Vec<i64>) {
+    let spread = random.pick(&[Spread::Even, Spread::Extreme, Spread::Mixed]);
+    let sizes = [(0, 10_000), (0, 500), (0, 1_000_000)];
+    state_of_sizes(random, spread, size, kind, sizes)
+}
+
+/// A state and a q of numbers so large that doubles round the tendencies most.
+pub fn large_state(random: &mut Random, size: (usize, usize), kind: u8) -> (State, Vec<i64>) {
+    let sizes = [(90_000, 100_000), (4_900, 5_000), (1_900_000, 2_000_000)];
+    let (mut state, q) = state_of_sizes(random, Spread::Even, size, kind, sizes);
+    state.parameters.g = 10_000;
+    (state, q)
+}
+
 /// Whether the west edge of a cell is closed, and its south edge: by the boundary
 /// or by a barrier.
 pub fn closed_edges(state: &State, cell: usize) -> [bool; 2] {
@@ -272,6 +316,49 @@ pub fn tendencies_of(state: &State, q: &[i64]) -> Result<Three, Refusal> {
     );
     let (h, u, v) = (dh, du, dv);
     filled(answer).map(|()| Three { h, u, v })
+}
+
+/// The probe of a cell of an owned state, by the public call.
+pub fn probe_of(state: &State, q: &[i64], cell: usize) -> ProbeAnswer {
+    let State {
+        parameters,
+        h,
+        b,
+        u,
+        v,
+        barriers,
+    } = state;
+    reference::probe(parameters, h, b, u, v, barriers, q, cell)
+}
+
+/// The probe of all cells of an owned state, by the public call, and what it fills
+/// in.
+pub fn probe_grid_of(state: &State, q: &[i64]) -> (ProbeGridAnswer, [Vec<f64>; 3]) {
+    let [mut dh, mut du, mut dv] = [(); 3].map(|()| vec![f64::NAN; state.h.len()]);
+    let State {
+        parameters,
+        h,
+        b,
+        u,
+        v,
+        barriers,
+    } = state;
+    let answer = reference::probe_grid(
+        parameters, h, b, u, v, barriers, q, &mut dh, &mut du, &mut dv,
+    );
+    (answer, [dh, du, dv])
+}
+
+/// The bits of doubles, which tell -0.0 from 0.0.
+pub fn bits(doubles: &[f64]) -> Vec<u64> {
+    doubles.iter().map(|x| x.to_bits()).collect()
+}
+
+/// How far a double is from a whole number; it has to be one too.
+pub fn distance(double: f64, whole: i64) -> u64 {
+    assert_eq!(double.fract(), 0.0, "{double} is no whole number");
+    // Both are below 2^57.
+    (double as i64).abs_diff(whole)
 }
 
 /// The totals of an owned state, by the public calls: depth, and four times energy.
@@ -522,6 +609,190 @@ pub fn one_cell() -> State {
         v: vec![-50],
         barriers: vec![0],
     }
+}
+
+/// Worked numbers of 02's probe: -D, Tu and Tv of a cell.
+pub struct WorkedProbe {
+    pub state: State,
+    pub q: Vec<i64>,
+    pub cell: usize,
+    pub exact: bool,
+    /// Those of the scheme, the doubles, and the bits of these.
+    pub whole: [i64; 3],
+    pub doubles: [f64; 3],
+    pub bits: [u64; 3],
+}
+
+/// Those of worked example 2; of two cells at the narrow bounds, and past one of
+/// them; of numbers that doubles round; and of closed edges, at a wall and at a
+/// barrier.
+pub fn worked_probes() -> [WorkedProbe; 9] {
+    let state = |(w, n, kind, g), fields: [&[i64]; 4], barriers: &[u8]| {
+        let [h, b, u, v] = fields.map(Vec::from);
+        State {
+            parameters: Parameters {
+                w,
+                n,
+                kind,
+                g,
+                c: 10,
+                r: 1_000,
+            },
+            h,
+            b,
+            u,
+            v,
+            barriers: barriers.to_vec(),
+        }
+    };
+    [
+        WorkedProbe {
+            state: state((1, 1, 0, 9_810), [&[2_000], &[0], &[100], &[-50]], &[0]),
+            q: vec![328],
+            cell: 0,
+            exact: true,
+            whole: [0, -1_574_400_000, -3_148_800_000],
+            doubles: [-0.0, -1_574_400_000.0, -3_148_800_000.0],
+            bits: [
+                0x8000_0000_0000_0000,
+                0xC1D7_75DC_0000_0000,
+                0xC1E7_75DC_0000_0000,
+            ],
+        },
+        WorkedProbe {
+            state: state(
+                (2, 1, 0, 10_000),
+                [&[10_000, 10_000], &[10_000, 0], &[500, -500], &[500, -500]],
+                &[0, 0],
+            ),
+            q: vec![1_000_000, -1_000_000],
+            cell: 0,
+            exact: true,
+            whole: [20_000_000, -314_572_800_000_000, 0],
+            doubles: [20_000_000.0, -314_572_800_000_000.0, 0.0],
+            bits: [0x4173_12D0_0000_0000, 0xC2F1_E1A3_0000_0000, 0],
+        },
+        WorkedProbe {
+            state: state(
+                (2, 1, 0, 10_000),
+                [&[10_000, 10_001], &[10_000, 0], &[500, -500], &[500, -500]],
+                &[0, 0],
+            ),
+            q: vec![1_000_000, -1_000_000],
+            cell: 0,
+            exact: false,
+            whole: [20_001_000, -314_541_342_720_000, 0],
+            doubles: [20_001_000.0, -314_541_342_720_000.0, 0.0],
+            bits: [0x4173_130E_8000_0000, 0xC2F1_E12D_D000_0000, 0],
+        },
+        WorkedProbe {
+            state: state(
+                (1, 2, 0, 9_810),
+                [
+                    &[99_999, 87_654],
+                    &[0, 1],
+                    &[-4_999, -4_999],
+                    &[4_997, 4_321],
+                ],
+                &[0, 0],
+            ),
+            q: vec![2_000_000, 1_999_997],
+            cell: 0,
+            exact: false,
+            whole: [126_853_428, 41_965_184_222_088_228, 44_646_748_085_517_588],
+            doubles: [
+                126_853_428.0,
+                41_965_184_222_088_240.0,
+                44_646_748_085_517_584.0,
+            ],
+            bits: [
+                0x419E_3E84_D000_0000,
+                0x4362_A2E3_9B4F_B986,
+                0x4363_D3BF_6300_6FA2,
+            ],
+        },
+        WorkedProbe {
+            state: state(
+                (2, 1, 0, 10_000),
+                [&[99_999, 87_654], &[1, 1], &[1, 5_000], &[4_999, 4_997]],
+                &[0, 0],
+            ),
+            q: vec![2_000_000, 1_234_567],
+            cell: 0,
+            exact: false,
+            whole: [
+                -938_077_347,
+                36_016_112_248_688_268,
+                -18_212_927_894_737_506,
+            ],
+            doubles: [
+                -938_077_347.0,
+                36_016_112_248_688_272.0,
+                -18_212_927_894_737_504.0,
+            ],
+            bits: [
+                0xC1CB_F4F6_5180_0000,
+                0x435F_FD1D_A631_83A4,
+                0xC350_2D23_EE5F_1498,
+            ],
+        },
+        WorkedProbe {
+            state: state(
+                (2, 1, 2, 9_810),
+                [&[2_000, 3_000], &[0, 0], &[0, 10], &[0, 0]],
+                &[0, 0],
+            ),
+            q: vec![1_000, 2_000],
+            cell: 0,
+            exact: true,
+            whole: [-50_000, 0, 0],
+            doubles: [-50_000.0, 0.0, 0.0],
+            bits: [0xC0E8_6A00_0000_0000, 0, 0],
+        },
+        WorkedProbe {
+            state: state(
+                (2, 1, 2, 9_810),
+                [&[2_000, 3_000], &[0, 0], &[0, 10], &[0, 0]],
+                &[0, 0],
+            ),
+            q: vec![1_000, 2_000],
+            cell: 1,
+            exact: true,
+            whole: [50_000, -30_859_591_680_000, 0],
+            doubles: [50_000.0, -30_859_591_680_000.0, 0.0],
+            bits: [0x40E8_6A00_0000_0000, 0xC2BC_110F_0000_0000, 0],
+        },
+        WorkedProbe {
+            state: state(
+                (2, 1, 0, 9_810),
+                [&[2_000, 3_000], &[0, 0], &[10, 0], &[0, 0]],
+                &[0, 1],
+            ),
+            q: vec![1_000, 2_000],
+            cell: 1,
+            exact: true,
+            whole: [-50_000, 0, -900_000_000],
+            doubles: [-50_000.0, 0.0, -900_000_000.0],
+            bits: [0xC0E8_6A00_0000_0000, 0, 0xC1CA_D274_8000_0000],
+        },
+        WorkedProbe {
+            state: state(
+                (2, 1, 0, 9_810),
+                [&[2_000, 3_000], &[0, 0], &[10, 0], &[0, 0]],
+                &[0, 1],
+            ),
+            q: vec![1_000, 2_000],
+            cell: 0,
+            exact: true,
+            whole: [50_000, 30_859_591_680_000, -900_000_000],
+            doubles: [50_000.0, 30_859_591_680_000.0, -900_000_000.0],
+            bits: [
+                0x40E8_6A00_0000_0000,
+                0x42BC_110F_0000_0000,
+                0xC1CA_D274_8000_0000,
+            ],
+        },
+    ]
 }
 
 /// A state at rest with level water.
