@@ -32,63 +32,65 @@ use model::Timestamp;
 
 // ---- the fields
 
-// What a field has beside its numbers: the number that names it in an answer, and 01's bounds.
+// What a field has beside its numbers: the number that names it in an answer, 01's bounds, and 02's narrow ones.
 pub struct FieldRow {
     pub number: u64,
     pub limits: Range,
+    pub narrow: Range,
 }
 
-fn row(number: u64, least: i64, most: i64) -> FieldRow
-    ensures { λ r. ⌜ (r .number ≡ number) × (r .limits .least ≡ least) × (r .limits .most ≡ most) ⌝ }
+// A row by its number, the two ends of 01's bounds, and the two ends of the narrow ones.
+fn row(number: u64, least: i64, most: i64, low: i64, high: i64) -> FieldRow
+    ensures { λ r. ⌜
+        (r .number ≡ number)
+        × (r .limits .least ≡ least)
+        × (r .limits .most ≡ most)
+        × (r .narrow .least ≡ low)
+        × (r .narrow .most ≡ high)
+        ⌝ }
 {
     FieldRow {
         number,
         limits: Range { least, most },
+        narrow: Range {
+            least: low,
+            most: high,
+        },
     }
 }
 
-fn range(least: i64, most: i64) -> Range
-    ensures { λ r. ⌜ (r .least ≡ least) × (r .most ≡ most) ⌝ }
-{
-    Range { least, most }
-}
-
-// The table of the fields. It rules out, for instance: a bound off by one; q's bounds for the inflow; two fields of one number.
+// The table of the fields; those for which 02 names no narrow bounds keep 01's. It rules out, for instance: a bound off by one; q's bounds
+// for the inflow; two fields of one number; a narrow end excluded.
 pub fn row_of(field: Field) -> FieldRow
-    ensures { λ r. ⌜ (r .number ≡ fieldNumber field) × (between (r .limits) ≡ limitsOf field) ⌝ }
+    ensures { λ r. ⌜
+        (r .number ≡ fieldNumber field)
+        × (between (r .limits) ≡ limitsOf field)
+        × (between (r .narrow) ≡ narrowOf field)
+        ⌝ }
 {
     match field {
-        Field::Depth => row(0, 1000, 100000),
-        Field::Bottom => row(1, 0, 100000),
-        Field::VelocityU => row(2, -5000, 5000),
-        Field::VelocityV => row(3, -5000, 5000),
-        Field::Vorticity => row(4, -2000000, 2000000),
-        Field::Inflow => row(5, -1000, 1000),
-        Field::Barriers => row(6, 0, 3),
+        Field::Depth => row(0, 1000, 100000, 1000, 10000),
+        Field::Bottom => row(1, 0, 100000, 0, 10000),
+        Field::VelocityU => row(2, -5000, 5000, -500, 500),
+        Field::VelocityV => row(3, -5000, 5000, -500, 500),
+        Field::Vorticity => row(4, -2000000, 2000000, -1000000, 1000000),
+        Field::Inflow => row(5, -1000, 1000, -1000, 1000),
+        Field::Barriers => row(6, 0, 3, 0, 3),
     }
 }
 
-// 01's bounds of a field. It rules out, for instance: another field's; a bound excluded.
+// 01's bounds of a field, and 02's narrow ones. They rule out, for instance: another field's; a bound excluded; b's narrow bound left at
+// 01's.
 pub fn limits(field: Field) -> Range
     ensures { λ r. ⌜ between r ≡ limitsOf field ⌝ }
 {
     row_of(field).limits
 }
 
-// 02's narrow bounds of a field; those that it does not name keep 01's. It rules out, for instance: an end excluded; b's bound left at
-// 01's.
 pub fn narrow_limits(field: Field) -> Range
     ensures { λ r. ⌜ between r ≡ narrowOf field ⌝ }
 {
-    match field {
-        Field::Depth => range(1000, 10000),
-        Field::Bottom => range(0, 10000),
-        Field::VelocityU => range(-500, 500),
-        Field::VelocityV => range(-500, 500),
-        Field::Vorticity => range(-1000000, 1000000),
-        Field::Inflow => range(-1000, 1000),
-        Field::Barriers => range(0, 3),
-    }
+    row_of(field).narrow
 }
 
 // ---- scans

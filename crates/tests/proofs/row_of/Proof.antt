@@ -4,17 +4,19 @@ use Prim.Native.Nat.{ℕ}
 use lib.IntN.{ℤ}
 use borrow.Author.Needs.{needs}
 use Rattle.model.specs.Numbers.{_to_, depthLimits, bottomLimits, velocityLimits, vorticityLimits, inflowLimits, barrierLimits}
+use Rattle.model.specs.Numbers.{narrowDepthLimits, narrowBottomLimits, narrowVelocityLimits, narrowVorticityLimits}
 use Rattle.integers.specs.Ranges.{between}
 use Rattle.tests.specs.declared.FieldRow.{FieldRow}
 use Rattle.tests.proofs.row_of.Statement.{statement}
 use Rattle.tests.proofs.row_of.Tie as tie
 
 -- a row that `row` made
-told : {r : FieldRow} {k : ℕ} {a b : ℤ} → (r .number ≡ k) × (r .limits .least ≡ a) × (r .limits .most ≡ b) → (r .number ≡ k) × (between (r .limits) ≡ a to b)
-told e = (e .0, ap₂ _to_ (e .1) (e .2))
+told : {r : FieldRow} {k : ℕ} {a b c d : ℤ} → (r .number ≡ k) × (r .limits .least ≡ a) × (r .limits .most ≡ b) × (r .narrow .least ≡ c) × (r .narrow .most ≡ d)
+    → (r .number ≡ k) × (between (r .limits) ≡ a to b) × (between (r .narrow) ≡ c to d)
+told e = (e .0, ap₂ _to_ (e .1) (e .2), ap₂ _to_ (e .3) (e .4))
 
 pub row-of-spec : {M : Type 1} → statement M
-unfolding depthLimits bottomLimits velocityLimits vorticityLimits inflowLimits barrierLimits
+unfolding depthLimits bottomLimits velocityLimits vorticityLimits inflowLimits barrierLimits narrowDepthLimits narrowBottomLimits narrowVelocityLimits narrowVorticityLimits
 row-of-spec =
     tie.close
     (tie.spec
