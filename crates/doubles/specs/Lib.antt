@@ -5,3 +5,5 @@ pub mod Rounded
 pub mod Distances
 pub mod Terms
 pub mod Bound
+-- expressions that are never -0.0
+pub mod Plain

@@ -201,7 +201,7 @@ signed-near x u n e h =
       close = signed-apart u (d .to) n (slip n) (d .most) (d .least);
     }
 
-pub rounded : (x : Float) (z : ℤ) → Rounds binary64 x z → natAbs z < 2 ^ 60 → IsNear (slip (natAbs z)) x z
+pub rounded : (x : Float) (z : ℤ) {u : Bool} → Rounds binary64 x z u → natAbs z < 2 ^ 60 → IsNear (slip (natAbs z)) x z
 rounded x z r h =
     let n : natAbs z ≡ r .size = ap natAbs (r .of) ∙ abs-signed (r .sign) (r .size) in
     let d = signed-near x (r .sign) (r .size) (r .is) (subst (λ a. a < 2 ^ 60) n h) in

@@ -56,11 +56,11 @@ most A (a ⊖ b) = most A a + most A b
 most A (a ⊗ b) = most A a * most A b
 
 -- of a product: m and n are the sizes of the factors, k and l how far they are off
-abbrev productError : (m n k l : ℕ) → ℕ
+abbrev pub productError : (m n k l : ℕ) → ℕ
 productError m n k l = k * n + (m + k) * l
 
 -- a result of size m that is e off before it is rounded
-abbrev rounding : (m e : ℕ) → ℕ
+abbrev pub rounding : (m e : ℕ) → ℕ
 rounding m e = e + slip (m + e)
 
 abbrev pub error : (ℕ → ℕ) → Term → ℕ
@@ -72,7 +72,7 @@ error A (a ⊖ b) = rounding (most A a + most A b) (error A a + error A b)
 error A (a ⊗ b) = rounding (most A a * most A b) (productError (most A a) (most A b) (error A a) (error A b))
 
 -- the numbers put in are held whole, and no result is too large to be rounded as `Rounded` says
-abbrev small : (m e : ℕ) → Bool
+abbrev pub small : (m e : ℕ) → Bool
 small m e = ltb (m + e) (2 ^ 60)
 
 abbrev pub tame : (ℕ → ℕ) → Term → Bool
@@ -95,9 +95,9 @@ neg-near {x = x} {p = p} v =
     record { whole = negℤ (v .whole); is = neg-whole x (v .whole) (v .is); close = negs (v .whole) p (v .close) }
 
 -- the result x is r rounded, and r is e from the number z
-once : {x : Float} (r z : ℤ) {m e : ℕ} → Rounds binary64 x r → natAbs (r -ℤ z) ≤ e → natAbs z ≤ m → m + e < 2 ^ 60
+once : {x : Float} (r z : ℤ) {u : Bool} {m e : ℕ} → Rounds binary64 x r u → natAbs (r -ℤ z) ≤ e → natAbs z ≤ m → m + e < 2 ^ 60
     → IsNear (rounding m e) x z
-once {x} r z {m} {e} o c s h =
+once {x} r z {m = m} {e = e} o c s h =
     let i : natAbs r ≤ m + e = far r z c s in
     let d = rounded x r o (lt-of-le-of-lt i h) in
     record {
