@@ -1,5 +1,5 @@
 -- laws of ℤ; polynomial identities, inequalities by a certificate, and bounds for what must fit 64 bits, by computation; how large
--- numbers within the limits are; ranges; rounding
+-- numbers within the limits are; ranges; rounding; the weight table's rows as sums
 pub mod Laws
 pub mod Ring
 pub mod Order
@@ -7,3 +7,4 @@ pub mod Bounds
 pub mod Magnitudes
 pub mod Ranges
 pub mod Rounding
+pub mod Formulas

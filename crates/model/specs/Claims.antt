@@ -16,6 +16,7 @@ use Rattle.model.specs.State.{State, Fields, stateFrom, parametersOf, wi
 use Rattle.model.specs.Answers.{number}
 use Rattle.model.specs.Tests.{Test, asks, seeks, firstFound}
 use Rattle.model.specs.Refusals.{Taken, workLength, stateTests, callTests}
+use Rattle.model.specs.Weights.{weighted, formulaP, formulaM, formulaE, formulaF}
 use Rattle.model.specs.Scheme.{vorticityAt, vorticity, D, tendencyU, tendencyV}
 use Rattle.model.specs.Doubles.{IsWhole, IsNear}
 use Rattle.model.specs.Rates.{energyRate, enstrophyRate}
@@ -301,6 +302,13 @@ pub record WorkClaim : Type 0 where
 abbrev pub RoundingClaim : Type 0
 RoundingClaim = (a b : ℤ) → pos 1 ≤ℤ b → let away = 2 * natAbs (a -ℤ b *ℤ rnd a b) in
     (away ≤ natAbs b) × (away ≡ natAbs b → natAbs a < natAbs (b *ℤ rnd a b))
+
+-- a row of the weight table over four corners is its sum of corners, at any four whole numbers
+pub record FormulaClaim : Type 0 where
+  pub p : (ne nw sw se : ℤ) → formulaP ne nw sw se ≡ weighted 0 ne nw sw se
+  pub m : (ne nw sw se : ℤ) → formulaM ne nw sw se ≡ weighted 1 ne nw sw se
+  pub e : (ne nw sw se : ℤ) → formulaE ne nw sw se ≡ weighted 2 ne nw sw se
+  pub f : (ne nw sw se : ℤ) → formulaF ne nw sw se ≡ weighted 3 ne nw sw se
 
 -- a field holds f at every cell, in its first w·n places
 abbrev pub Holds : State → List ℤ → (ℕ → ℕ → ℤ) → Type 0

@@ -12,6 +12,7 @@ use Rattle.model.specs.Numbers.{rnd, eqℤ, sameBy, all}
 use Rattle.model.specs.Grid.{filled}
 use Rattle.model.specs.State.{State, Fields, withFlow, cells}
 use Rattle.model.specs.Answers.{toldAnswer, toldProbe, toldProbeGrid, toldStep, toldRun, toldTotal, toldWrite, toldRead, toldCompare}
+use Rattle.model.specs.Weights.{weighted, formulaP, formulaM, formulaE, formulaF}
 use Rattle.model.specs.Scheme.{vorticity, hTendencies, uTendencies, vTendencies}
 use Rattle.model.specs.Doubles.{double, narrow, hDoubles, uDoubles, vDoubles}
 use Rattle.model.specs.Rates.{energyRate, enstrophyRate}
@@ -27,6 +28,7 @@ use Rattle.model.specs.Opened.{everything}
 
 pub data Example : Type 0 where
   rounds : (a b r : ℤ) → Example
+  weighs : (ne nw sw se : ℤ) → (p m e f : ℤ) → Example
   vorticities : State → (d : List ℤ) → (answer d′ : List ℤ) → Example
   tends : State → (q dh du dv : List ℤ) → (answer dh′ du′ dv′ : List ℤ) → Example
   probes : State → (q : List ℤ) (k : ℕ) → (answer doubles : List ℤ) (bits : List ℕ) → Example
@@ -69,6 +71,10 @@ ranIs r s a h u v = toldRun (r .answer) is a && stateIs s (r .state) h u v
 
 abbrev pub holds : Example → Bool
 holds (rounds a b r) = eqℤ (rnd a b) r
+-- by the table, and by the sums of corners
+holds (weighs ne nw sw se p m e f) =
+    (weighted 0 ne nw sw se ∷ weighted 1 ne nw sw se ∷ weighted 2 ne nw sw se ∷ weighted 3 ne nw sw se ∷ []) is (p ∷ m ∷ e ∷ f ∷ [])
+    && (formulaP ne nw sw se ∷ formulaM ne nw sw se ∷ formulaE ne nw sw se ∷ formulaF ne nw sw se ∷ []) is (p ∷ m ∷ e ∷ f ∷ [])
 holds (vorticities s d a d′) =
     toldAnswer (answerOf (vorticityTest s (length d))) is a && leftBy (vorticityTest s (length d)) (filled (cells s) (vorticity s) d) d is d′
 holds (tends s q dh du dv a dh′ du′ dv′) =
@@ -684,6 +690,19 @@ probed =
     ∷ probesGrid (two 2 (pos 1000)) (zeros 2) [] [] [] (pos 5 ∷ pos 2 ∷ pos 0 ∷ []) [] [] []
     ∷ []
 
+-- ---- weights of four corners (02, U4): ne, nw, sw, se, and then P, M, E, F
+
+abbrev pub weighed : List Example
+weighed =
+    -- each corner by its own power of ten
+    weighs (pos 1) (pos 10) (pos 100) (pos 1000) (pos 1212) (pos 2121) (minus 1089) (minus 891)
+    -- the bounds: as far apart as corners can be, and the largest weights
+    ∷ weighs (minus 2000000) (pos 2000000) (minus 2000000) (pos 2000000) (minus 4000000) (pos 4000000) (pos 0) (pos 0)
+    ∷ weighs (pos 2000000) (pos 2000000) (pos 2000000) (pos 2000000) (pos 12000000) (pos 12000000) (pos 0) (pos 0)
+    ∷ weighs (pos 2000000) (pos 2000000) (minus 2000000) (minus 2000000) (pos 0) (pos 0) (pos 8000000) (pos 0)
+    ∷ weighs (minus 2000000) (pos 2000000) (pos 2000000) (minus 2000000) (pos 0) (pos 0) (pos 0) (pos 8000000)
+    ∷ []
+
 -- ---- each bound at both ends, and one past
 
 abbrev pub bounds : List Example
@@ -738,6 +757,6 @@ bounds =
     ∷ steps (cell 0 (pos 1) (pos 0) (pos 1000) (pos 50000) (pos 0) (pos 0) (pos 0)) (just (pos 1001)) (sevens 8) (pos 4 ∷ pos 5 ∷ pos 0 ∷ []) (just (pos 50000)) (zeros 1) (zeros 1) (zeros 8)
     ∷ []
 
-pub all-hold : T (all holds (workedExamples ++ (timestamps ++ (barriers ++ (probed ++ (bounds ++ orders))))))
+pub all-hold : T (all holds (workedExamples ++ (timestamps ++ (barriers ++ (probed ++ (weighed ++ (bounds ++ orders)))))))
 unfolding everything
 all-hold = tt

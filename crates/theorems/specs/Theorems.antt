@@ -1,5 +1,5 @@
 -- Every theorem. `theorems` has each claim of the model, proved. Assumes nothing.
-use Rattle.model.specs.Claims.{LimitsClaim, AcceptedClaim, ScanClaim, TestClaim, CausesClaim, ReadCausesClaim, MetClaim, FixedClaim, RefusedClaim, WorkClaim, RoundingClaim, OwnVorticityClaim, VorticityClaim, TendenciesAcceptedClaim, TendenciesClaim, ProbeClaim, ProbeGridClaim, PassClaim, StepClaim, RunClaim, RunEndsClaim, RunStepsClaim, TotalsClaim, WriteAcceptedClaim, RoundTripClaim, ReadClaim, ProgramClaim, OutputClaim, RewriteClaim, RestoredClaim, AnyOrderClaim, AbsentClaim, CompareClaim, EnergyRateClaim, EnergyClaim, EnstrophyClaim, PeriodicEnstrophyClaim, BalanceClaim, KeptClaim}
+use Rattle.model.specs.Claims.{LimitsClaim, AcceptedClaim, ScanClaim, TestClaim, CausesClaim, ReadCausesClaim, MetClaim, FixedClaim, RefusedClaim, WorkClaim, RoundingClaim, FormulaClaim, OwnVorticityClaim, VorticityClaim, TendenciesAcceptedClaim, TendenciesClaim, ProbeClaim, ProbeGridClaim, PassClaim, StepClaim, RunClaim, RunEndsClaim, RunStepsClaim, TotalsClaim, WriteAcceptedClaim, RoundTripClaim, ReadClaim, ProgramClaim, OutputClaim, RewriteClaim, RestoredClaim, AnyOrderClaim, AbsentClaim, CompareClaim, EnergyRateClaim, EnergyClaim, EnstrophyClaim, PeriodicEnstrophyClaim, BalanceClaim, KeptClaim}
 use Rattle.model.specs.Step.{Place}
 use Rattle.model.specs.declared.Refusal.{Refusal}
 use Rattle.theorems.specs.Limits.{limits-tested, accepted}
@@ -10,6 +10,7 @@ use Rattle.theorems.specs.ReadCauses.{read-causes}
 use Rattle.theorems.specs.Fixed.{met, fixed}
 use Rattle.theorems.specs.Refused.{refused-leaves, work-left}
 use Rattle.integers.specs.Rounding.{rounding}
+use Rattle.integers.specs.Formulas.{formulas}
 use Rattle.theorems.specs.Vorticity.{within-limit, vorticity-within}
 use Rattle.theorems.specs.Filling.{tendencies-accepted, tendencies-fill}
 use Rattle.theorems.specs.Probes.{probe, probe-grid}
@@ -48,6 +49,7 @@ pub record Theorems : Type 0 where
   pub work : WorkClaim
   -- demand 2: the published scheme and 01's rules, at every cell
   pub rounding : RoundingClaim
+  pub formulas : FormulaClaim
   pub own-vorticity : OwnVorticityClaim
   pub vorticity : VorticityClaim
   pub tendencies-accepted : TendenciesAcceptedClaim
@@ -93,6 +95,7 @@ theorems =
       refused = refused-leaves;
       work = work-left;
       rounding = rounding;
+      formulas = formulas;
       own-vorticity = within-limit;
       vorticity = vorticity-within;
       tendencies-accepted = tendencies-accepted;
