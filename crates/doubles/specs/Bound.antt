@@ -144,7 +144,7 @@ abbrev flux : ℕ → Term
 flux k = var k ⊗ (var (k + 1) ⊕ var (k + 2))
 
 -- a row of the weight table over four corners
-abbrev weigh : (row k : ℕ) → Term
+abbrev pub weigh : (row k : ℕ) → Term
 weigh row k =
     con (weightAt row 0) ⊗ var k
     ⊕ con (weightAt row 1) ⊗ var (k + 1)

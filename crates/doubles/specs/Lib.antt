@@ -5,5 +5,6 @@ pub mod Rounded
 pub mod Distances
 pub mod Terms
 pub mod Bound
--- expressions that are never -0.0
+-- expressions that are never -0.0; the weights of a cell as sums of its corners
 pub mod Plain
+pub mod Corners

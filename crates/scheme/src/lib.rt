@@ -87,7 +87,7 @@ pub fn vorticity_at(p: Parameters, h: &[i64], u: &[i64], v: &[i64], i: usize, j:
 const WEIGHTS: [[i64; 4]; 4] = [[2, 1, 2, 1], [1, 2, 1, 2], [1, 1, -1, -1], [-1, 1, 1, -1]];
 
 // The weight of a row at a corner: the model's table. It rules out, for instance: P and M swapped; E without its signs.
-pub fn weight_at(row: usize, corner: usize) -> i64
+fn weight_at(row: usize, corner: usize) -> i64
     requires { ⌜ (row < 4) × (corner < 4) ⌝ }
     ensures { λ r. ⌜ r ≡ weightAt row corner ⌝ }
 {
@@ -125,8 +125,9 @@ fn corners_at(q: &[i64], ne: usize, nw: usize, sw: usize, se: usize) -> Corners
     }
 }
 
-// A row's weights over the corners.
-fn weighted(row: usize, c: Corners) -> i64
+// A row's weights over the corners. No tendency calls it: it is 01's table as the measure of `weights_of`, whose contract says that each
+// sum of corners is such a row. It rules out, for instance: a corner left out; the weights of another row.
+pub fn weighted(row: usize, c: Corners) -> i64
     requires { ⌜ (row < 4) × CornersWithin c ⌝ }
     ensures { λ r. ⌜ r ≡ weightedBy row c ⌝ }
 {
@@ -145,6 +146,8 @@ pub struct Weights {
     pub f: i64,
 }
 
+// As sums of corners (02, U4): P is all four and ne and sw, M all four and nw and se, E north less south, F west less east. It rules out,
+// for instance: nw for sw in P; E or F turned.
 fn weights_of(c: Corners) -> Weights
     requires { ⌜ CornersWithin c ⌝ }
     ensures { λ r. ⌜
@@ -154,11 +157,16 @@ fn weights_of(c: Corners) -> Weights
         × (r .f ≡ weightedBy 3 c)
         ⌝ }
 {
+    let ne = c.ne;
+    let nw = c.nw;
+    let sw = c.sw;
+    let se = c.se;
+    let all = ne + nw + sw + se;
     Weights {
-        p: weighted(0, c),
-        m: weighted(1, c),
-        e: weighted(2, c),
-        f: weighted(3, c),
+        p: all + ne + sw,
+        m: all + nw + se,
+        e: (ne + nw) - (sw + se),
+        f: (nw + sw) - (ne + se),
     }
 }
 

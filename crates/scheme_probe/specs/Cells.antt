@@ -11,10 +11,12 @@ use Rattle.model.specs.State.{State, cells, boundaryOf, wallSouth, closedWest, 
 use Rattle.model.specs.Weights.{weightAt}
 use Rattle.model.specs.Scheme.{toEast, toWest, toNorth, toSouth}
 use Rattle.model.specs.Doubles.{_⊞_, _⊟_, _⊠_, double, weight, fluxU, fluxV, D, B, Tu, Tv, tendencyH, tendencyU, tendencyV}
+use Rattle.integers.specs.Bounds.{Abs}
 use Rattle.grid.specs.Cells.{previous-next}
 use Rattle.grid.specs.Stencils.{IsAround}
 use Rattle.grid.specs.declared.Stencil.{Stencil}
 use Rattle.scheme.specs.Ready.{TendenciesReady}
+use Rattle.scheme.specs.Shares.{mostCorner}
 use Rattle.scheme.specs.Masking.{unbarred}
 use Rattle.scheme_probe.specs.declared.Corners.{Corners}
 use Rattle.scheme_probe.specs.declared.Cell.{Cell}
@@ -33,7 +35,19 @@ bernoulliAt g h b u v here east north =
     ⊞ double (getD v north (pos 0)) ⊠ double (getD v north (pos 0))
     ⊞ double (pos 4) ⊠ double g ⊠ (double (getD h here (pos 0)) ⊞ double (getD b here (pos 0)))
 
--- of corners
+-- of corners, each of which is the double of a whole number within the bounds of q
+pub record IsCorner (x : Float) : Type 0 where
+  pub number : ℤ
+  pub is : x ≡ double number
+  pub small : Abs number mostCorner
+
+pub record CornersWithin (c : Corners) : Type 0 where
+  pub ne : IsCorner (c .ne)
+  pub nw : IsCorner (c .nw)
+  pub sw : IsCorner (c .sw)
+  pub se : IsCorner (c .se)
+
+-- a row of the table
 abbrev pub weightedBy : ℕ → Corners → Float
 weightedBy row c =
     double (weightAt row 0) ⊠ c .ne

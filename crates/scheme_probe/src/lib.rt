@@ -12,14 +12,13 @@ ghost use Rattle.model.specs.Numbers.{Within, gravityLimits};
 ghost use Rattle.model.specs.Grid.{filled};
 ghost use Rattle.model.specs.State.{State, cells, lent, before, barrierAt};
 ghost use Rattle.model.specs.Doubles.{double, tendencyH, tendencyU, tendencyV, hDoubles, uDoubles, vDoubles, narrow};
-ghost use Rattle.model.specs.Weights.{weightAt};
 ghost use Rattle.model.specs.Promises.{marked, markedGrid, ProbePromise, ProbeGridPromise};
 ghost use Rattle.grid.specs.Stencils.{Below};
 ghost use Rattle.grid.specs.WritingLoops.{RowWriting};
 ghost use Rattle.scheme.specs.Ready.{TendenciesReady, walled, walledBefore};
 ghost use Rattle.scheme_tendencies.specs.CallLaws.{Room};
 ghost use Rattle.scheme_probe.specs.Held.{HoldsAt, Holds};
-ghost use Rattle.scheme_probe.specs.Cells.{Ready, weightedBy, fluxAt, bernoulliAt, IsCell};
+ghost use Rattle.scheme_probe.specs.Cells.{Ready, CornersWithin, weightedBy, fluxAt, bernoulliAt, IsCell};
 ghost use Rattle.scheme_probe.specs.Cells.{Gives, AreCells, AreDoubles, convergenceOf, momentumU, momentumV};
 ghost use Rattle.scheme_probe.specs.Rows.{RowFromSouth};
 use grid::Edge;
@@ -65,20 +64,37 @@ fn corners_at(q: &[i64], a: Stencil) -> Corners
     }
 }
 
-// A weight of 01's table, as a double.
-fn weight(row: usize, corner: usize) -> f64
-    requires { ⌜ (row < 4) × (corner < 4) ⌝ }
-    ensures { λ r. ⌜ r ≡ double (weightAt row corner) ⌝ }
-{
-    scheme::weight_at(row, corner) as f64
+// 01's P, M, E and F of a cell.
+pub struct Weights {
+    pub p: f64,
+    pub m: f64,
+    pub e: f64,
+    pub f: f64,
 }
 
-// A row of the table over the corners.
-fn weighted(row: usize, c: Corners) -> f64
-    requires { ⌜ row < 4 ⌝ }
-    ensures { λ r. ⌜ r ≡ weightedBy row c ⌝ }
+// As sums of corners, as in `scheme::weights_of` (02, U4). Each is its row of 01's table, worked out in doubles, bit by bit: where corners
+// are whole numbers within their bounds, a sum of them rounds nothing, and neither it nor a row is ever -0.0. It rules out, for instance:
+// F turned; P and M swapped.
+fn weights_of(c: Corners) -> Weights
+    requires { ⌜ CornersWithin c ⌝ }
+    ensures { λ r. ⌜
+        (r .p ≡ weightedBy 0 c)
+        × (r .m ≡ weightedBy 1 c)
+        × (r .e ≡ weightedBy 2 c)
+        × (r .f ≡ weightedBy 3 c)
+        ⌝ }
 {
-    weight(row, 0) * c.ne + weight(row, 1) * c.nw + weight(row, 2) * c.sw + weight(row, 3) * c.se
+    let ne = c.ne;
+    let nw = c.nw;
+    let sw = c.sw;
+    let se = c.se;
+    let all = ne + nw + sw + se;
+    Weights {
+        p: all + ne + sw,
+        m: all + nw + se,
+        e: (ne + nw) - (sw + se),
+        f: (nw + sw) - (ne + se),
+    }
 }
 
 // The mass flux through an edge, from the velocity x there and the depths of the cells k and l beside it.
@@ -140,12 +156,12 @@ fn cell_at(
     ensures { λ r. ⌜ IsCell (walledBefore p h b u v) (now (q .entry)) i j r ⌝ }
 {
     let a = grid::around(p.w, p.n, i, j);
-    let corners = corners_at(q, a);
+    let weights = weights_of(corners_at(q, a));
     Cell {
-        p: weighted(0, corners),
-        m: weighted(1, corners),
-        e: weighted(2, corners),
-        f: weighted(3, corners),
+        p: weights.p,
+        m: weights.m,
+        e: weights.e,
+        f: weights.f,
         west: flux_at(u, h, a.here, a.west),
         east: flux_at(u, h, a.east, a.here),
         south: flux_at(v, h, a.here, a.south),

@@ -55,13 +55,26 @@ corners-at-requires c κs =
     let q = s .args .q .now in
     subst (λ m. Holds m q × Below m (c .around .result)) (sym (s .pre .0 .vorticity .long)) (all s .corners, below c)
 
+weights-of-requires : tie.Need-weights-of-requires
+weights-of-requires c κs =
+    let a = c .before in
+    let b = below a in
+    let q = a .before .pre .0 .vorticity .each in
+    let e = c .corners-at .ensures in
+    record {
+      ne = record { number = _; is = e .0; small = vorticity-size (q _ (b .northeast)) };
+      nw = record { number = _; is = e .1; small = vorticity-size (q _ (b .north)) };
+      sw = record { number = _; is = e .2; small = vorticity-size (q _ (b .here)) };
+      se = record { number = _; is = e .3; small = vorticity-size (q _ (b .east)) };
+    }
+
 -- g as the machine holds it
-g-is : (c : tie.After-struct-told) → let p = c .before .before .before .before .before .before .before .before .before .before .before .args .p in held w64 (p .g) ≡ p .g
+g-is : (c : tie.After-struct-told) → let p = c .before .before .before .before .before .before .before .before .args .p in held w64 (p .g) ≡ p .g
 g-is c = toZ-ofZ {w = w64} (record { sfits = c .struct-told .given .1 .1 .1 .0 .1 })
 
 bernoulli-at-requires : tie.Need-bernoulli-at-requires
 bernoulli-at-requires c κs =
-    let a = c .before .before .before .before .before .before .before .before .before .before in
+    let a = c .before .before .before .before .before .before .before in
     let f = all (a .before) in
     let b = below a in (
       subst (Within gravityLimits) (sym (g-is c)) (a .before .pre .0 .state .gravity),
@@ -80,23 +93,21 @@ returns c =
     let south = north .before in
     let east = south .before in
     let west = east .before in
-    let f = west .before in
-    let e = f .before in
-    let m = e .before in
-    let p = m .before in
-    let k = p .before in
+    let weights = west .before in
+    let k = weights .before in
     let a = k .before in
     let x = a .before in
     let s = state x in
     let q = x .args .q .now in
     let r = a .around .ensures in
     let corners = k .corners-at .result in
-    let ne = k .corners-at .ensures in
+    let read = k .corners-at .ensures in
+    let rows = weights .weights-of .ensures in
     record {
-      p = p .weighted .ensures ∙ weight-around s r q 0 corners ne;
-      m = m .weighted2 .ensures ∙ weight-around s r q 1 corners ne;
-      e = e .weighted3 .ensures ∙ weight-around s r q 2 corners ne;
-      f = f .weighted4 .ensures ∙ weight-around s r q 3 corners ne;
+      p = rows .0 ∙ weight-around s r q 0 corners read;
+      m = rows .1 ∙ weight-around s r q 1 corners read;
+      e = rows .2 ∙ weight-around s r q 2 corners read;
+      f = rows .3 ∙ weight-around s r q 3 corners read;
       west = west .flux-at .ensures ∙ west-around s r;
       east = east .flux-at2 .ensures ∙ east-around s r (x .pre .1);
       south = south .flux-at3 .ensures ∙ south-around s r;
@@ -110,13 +121,10 @@ cell-at-spec =
     (tie.spec
     (λ c κs. search needs)
     corners-at-requires
-    (λ c κs. search needs)
-    (λ c κs. search needs)
-    (λ c κs. search needs)
-    (λ c κs. search needs)
-    (λ c κs. let a = c .before .before .before .before .before in let f = all (a .before) in let b = below a in (f .u _ (b .here), f .h _ (b .west), f .h _ (b .here)))
-    (λ c κs. let a = c .before .before .before .before .before .before in let f = all (a .before) in let b = below a in (f .u _ (b .east), f .h _ (b .here), f .h _ (b .east)))
-    (λ c κs. let a = c .before .before .before .before .before .before .before in let f = all (a .before) in let b = below a in (f .v _ (b .here), f .h _ (b .south), f .h _ (b .here)))
-    (λ c κs. let a = c .before .before .before .before .before .before .before .before in let f = all (a .before) in let b = below a in (f .v _ (b .north), f .h _ (b .here), f .h _ (b .north)))
+    weights-of-requires
+    (λ c κs. let a = c .before .before in let f = all (a .before) in let b = below a in (f .u _ (b .here), f .h _ (b .west), f .h _ (b .here)))
+    (λ c κs. let a = c .before .before .before in let f = all (a .before) in let b = below a in (f .u _ (b .east), f .h _ (b .here), f .h _ (b .east)))
+    (λ c κs. let a = c .before .before .before .before in let f = all (a .before) in let b = below a in (f .v _ (b .here), f .h _ (b .south), f .h _ (b .here)))
+    (λ c κs. let a = c .before .before .before .before .before in let f = all (a .before) in let b = below a in (f .v _ (b .north), f .h _ (b .here), f .h _ (b .north)))
     bernoulli-at-requires
     returns)
