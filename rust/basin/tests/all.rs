@@ -21,6 +21,7 @@ mod scheme;
 mod soak;
 mod stepping;
 mod version;
+mod weights;
 
 #[test]
 fn every_file_of_tests_is_named_here() {
