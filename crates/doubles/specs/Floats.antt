@@ -141,7 +141,7 @@ scaled-lt a b c p h = lt-ltb (a * c) (b * c) (mul-lt-mul-of-pos-right h p)
 pub scaled-le : (a b c : ℕ) → b ≤ a → ltb (a * c) (b * c) ≡ false
 scaled-le a b c h = le-ltb (a * c) (b * c) (mul-le-mul-right c h)
 
--- a difference of two numbers is no zero
+-- a number less a smaller one is no zero
 no-zero : {a b : ℕ} {A : Type 0} → a < b → b - a ≡ 0 → A
 no-zero h z = absurd (omega arith)
 

@@ -8,6 +8,11 @@ use lib.Ieee.{Float}
 use Rattle.model.specs.Doubles.{IsWhole, IsNear}
 use Rattle.integers.specs.Laws.{eq-of-sub}
 
+-- the number of no size
+pub is-zero : (d : ℤ) → natAbs d ≤ 0 → d ≡ pos 0
+is-zero (pos n) h = ap pos (omega arith)
+is-zero (negsuc n) h = absurd (not-suc-le-zero h)
+
 module _ {x : Float} {z : ℤ} where
   pub near-weaken : {k l : ℕ} → k ≤ l → IsNear k x z → IsNear l x z
   near-weaken h n = record { whole = n .whole; is = n .is; close = le-trans (n .close) h }
@@ -16,8 +21,4 @@ module _ {x : Float} {z : ℤ} where
   whole-near {k} w = record { whole = z; is = w; close = subst (λ d. natAbs d ≤ k) (sym (+ℤ-invr z)) zero-le }
 
   pub near-exact : IsNear 0 x z → IsWhole x z
-  near-exact n = subst (IsWhole x) (eq-of-sub (n .whole) z (none (n .whole -ℤ z) (n .close))) (n .is)
-    where
-      none : (d : ℤ) → natAbs d ≤ 0 → d ≡ pos 0
-      none (pos n) h = ap pos (omega arith)
-      none (negsuc n) h = absurd (not-suc-le-zero h)
+  near-exact n = subst (IsWhole x) (eq-of-sub (n .whole) z (is-zero (n .whole -ℤ z) (n .close))) (n .is)

@@ -8,14 +8,13 @@ use Prim.Native.Nat.{ℕ, zero, suc, _+_, _-_, _*_, _/_, _%_, _^_, _≤_, _<_, c
 use native.Mathlib.Nat.{mul-pos, zero-lt-suc}
 use native.Mathlib.Omega.{arith}
 use lib.Dec.{T, leb, leb→le, le→leb, ltb}
-use lib.Count.{trailingZeros}
 use lib.IntN.{ℤ, pos, negsuc, negℤ, natAbs, _+ℤ_, _*ℤ_, negℤ-+ℤ}
-use lib.Ieee.{Float, inf, fin, Format, binary64, prec, low, emax, size, nearest, unlike, round, units, odd, ofInt, sub}
+use lib.Ieee.{Float, inf, Format, binary64, prec, low, emax, size, nearest, unlike, round, units, odd, ofInt, sub}
 use Rattle.model.specs.Doubles.{signed, IsWhole, double, _⊞_, _⊠_}
 use Rattle.integers.specs.Laws.{abs-neg, abs-mul}
 use Rattle.integers.specs.Ring.{_and_, and-l, and-r}
 use Rattle.integers.specs.Bounds.{Sizes, valued, sized, split}
-use Rattle.doubles.specs.Near.{near-exact}
+use Rattle.doubles.specs.Near.{is-zero, near-exact}
 use Rattle.doubles.specs.Floats.{signOf, Value, value-of, Rounds, add-rounds, mul-rounds, neg-whole}
 use Rattle.doubles.specs.Terms.{Term, var, con, minus, _⊕_, _⊖_, _⊗_, whole, doubled, most, productError, error, small, tame, of-int, near}
 
@@ -55,7 +54,7 @@ plus-zero : {x : Float} {z : ℤ} → x ≡ double z → z ≡ pos 0 → signOf 
 unfolding ofInt
 plus-zero e o = ap signOf (e ∙ ap double o) ∙ sign-round binary64 false 0 1
 
--- ---- a sum is -0.0 only where both operands are
+-- ---- a sum is -0.0 only where both operands are: it is its number's double where one of them is
 
 not-both : (s t : Bool) (m n : ℕ) → signed s m +ℤ signed t n ≡ pos 0 → (signed s m ≡ pos 0 → s ≡ false) ⊎ (signed t n ≡ pos 0 → t ≡ false)
     → (s && t) ≡ false
@@ -88,7 +87,7 @@ sum-double x y p q v w o =
     plus a b (inl e) = inl (λ z. plus-zero e (a .is ∙ z))
     plus a b (inr e) = inr (λ z. plus-zero e (b .is ∙ z))
 
--- ---- and a product with a positive number only where the other factor is
+-- ---- and a product with a positive number only where the other factor is -0.0
 
 product-double : (c : ℕ) (y : Float) (q : ℤ) → suc c ≤ 2 ^ 53 → IsWhole y q → y ≡ double q
     → double (pos (suc c)) ⊠ y ≡ double (pos (suc c) *ℤ q)
@@ -101,15 +100,11 @@ product-double c y q h w e =
     above = sign-round binary64 false (suc c) 1
 
     factor : (q : ℤ) → pos (suc c) *ℤ q ≡ pos 0 → q ≡ pos 0
-    factor q z = zero-abs q (cut (natAbs q) (sym (abs-mul (pos (suc c)) q) ∙ ap natAbs z))
+    factor q z = is-zero q (cut (natAbs q) (sym (abs-mul (pos (suc c)) q) ∙ ap natAbs z))
       where
-        cut : (n : ℕ) → suc c * n ≡ 0 → n ≡ 0
-        cut zero z = refl
+        cut : (n : ℕ) → suc c * n ≡ 0 → n ≤ 0
+        cut zero z = omega arith
         cut (suc n) z = absurd (omega arith)
-
-        zero-abs : (q : ℤ) → natAbs q ≡ 0 → q ≡ pos 0
-        zero-abs (pos n) z = ap pos z
-        zero-abs (negsuc n) z = absurd (omega arith)
 
 -- ---- expressions
 
@@ -136,67 +131,73 @@ plain (a ⊗ b) = positive a and plain b
 abbrev pub Plainly : List ℕ → Term → Type 0
 Plainly bs e = T (tame (sized bs) e) × T (leb (error (sized bs) e) 0) × T (plain e)
 
-first : (m n s : ℕ) → m + n + s ≤ 0 → m ≤ 0
-first m n s h = omega arith
-
-second : (m n s : ℕ) → m + n + s ≤ 0 → n ≤ 0
-second m n s h = omega arith
+-- the first of these: nothing in it is rounded
+abbrev Exact : List ℕ → Term → Type 0
+Exact bs e = T (tame (sized bs) e) × (error (sized bs) e ≤ 0)
 
 one-of : (a b : Bool) {P Q : Type 0} → (T a → P) → (T b → Q) → T (a || b) → P ⊎ Q
 one-of true b f g t = inl (f tt)
 one-of false b f g t = inr (g t)
 
+-- the operands of an exact sum are exact; those of a difference too, since its size and its error are the sum's
+operands : (bs : List ℕ) (a b : Term) → Exact bs (a ⊕ b) → Exact bs a × Exact bs b
+operands bs a b x =
+    let A = sized bs in
+    let t = split (small (most A a + most A b) (error A a + error A b)) (tame A a) (tame A b) (x .0) in
+    let none = both (error A a) (error A b) _ (x .1) in
+    ((t .1, none .0), (t .2, none .1))
+  where
+    both : (m n s : ℕ) → m + n + s ≤ 0 → (m ≤ 0) × (n ≤ 0)
+    both m n s h = (omega arith, omega arith)
+
+-- and so is what is multiplied by a positive number
+multiplied : (bs : List ℕ) (c : ℕ) (b : Term) → Exact bs (con (pos (suc c)) ⊗ b) → (suc c ≤ 2 ^ 53) × Exact bs b
+multiplied bs c b x =
+    let A = sized bs in
+    let t = split (small (suc c * most A b) (productError (suc c) (most A b) 0 (error A b))) (leb (suc c) (2 ^ 53)) (tame A b) (x .0) in
+    (leb→le (suc c) (2 ^ 53) (t .1), (t .2, alone (suc c + 0) (error A b) _ _ (omega arith) (x .1)))
+  where
+    alone : (m n r s : ℕ) → 0 < m → r + m * n + s ≤ 0 → n ≤ 0
+    alone m zero r s z h = omega arith
+    alone m (suc n) r s z h = absurd (omega (arith, mul-pos z (zero-lt-suc n)))
+
 module _ {zs : List ℤ} {bs : List ℕ} (h : Sizes zs bs) where
-  exactly : (e : Term) → T (tame (sized bs) e) → error (sized bs) e ≤ 0 → IsWhole (doubled (valued zs) e) (whole (valued zs) e)
-  exactly e t l = near-exact (near e h t (le→leb _ 0 l))
+  exactly : (e : Term) → Exact bs e → IsWhole (doubled (valued zs) e) (whole (valued zs) e)
+  exactly e x = near-exact (near e h (x .0) (le→leb _ 0 (x .1)))
 
-  times : (a b : Term) → T (positive a) → T (tame (sized bs) (a ⊗ b)) → error (sized bs) (a ⊗ b) ≤ 0
-      → (T (tame (sized bs) b) → error (sized bs) b ≤ 0 → doubled (valued zs) b ≡ double (whole (valued zs) b))
+  times : (a b : Term) → T (positive a) → Exact bs (a ⊗ b) → (Exact bs b → doubled (valued zs) b ≡ double (whole (valued zs) b))
       → doubled (valued zs) (a ⊗ b) ≡ double (whole (valued zs) (a ⊗ b))
-  times (con (pos (suc c))) b k t l f =
-      let A = sized bs in
-      let x = con (pos (suc c)) in
-      let p = split (small (suc c * most A b) (productError (suc c) (most A b) 0 (error A b))) (tame A x) (tame A b) t in
-      let none : error A b ≤ 0 = alone (suc c + 0) (error A b) _ _ (omega arith) l in
-      product-double c (doubled (valued zs) b) (whole (valued zs) b) (leb→le (suc c) (2 ^ 53) (p .1)) (exactly b (p .2) none) (f (p .2) none)
-    where
-      alone : (m n r s : ℕ) → 0 < m → r + m * n + s ≤ 0 → n ≤ 0
-      alone m zero r s z h = omega arith
-      alone m (suc n) r s z h = absurd (omega (arith, mul-pos z (zero-lt-suc n)))
-  times (var n) b k t l f = absurd k
-  times (con (pos zero)) b k t l f = absurd k
-  times (con (negsuc n)) b k t l f = absurd k
-  times (minus a) b k t l f = absurd k
-  times (a ⊕ a′) b k t l f = absurd k
-  times (a ⊖ a′) b k t l f = absurd k
-  times (a ⊗ a′) b k t l f = absurd k
+  times (con (pos (suc c))) b k x f =
+      let y = multiplied bs c b x in
+      product-double c (doubled (valued zs) b) (whole (valued zs) b) (y .0) (exactly b (y .1)) (f (y .1))
+  times (var n) b k x f = absurd k
+  times (con (pos zero)) b k x f = absurd k
+  times (con (negsuc n)) b k x f = absurd k
+  times (minus a) b k x f = absurd k
+  times (a ⊕ a′) b k x f = absurd k
+  times (a ⊖ a′) b k x f = absurd k
+  times (a ⊗ a′) b k x f = absurd k
 
-  by-parts : (e : Term) → T (tame (sized bs) e) → error (sized bs) e ≤ 0 → T (plain e) → doubled (valued zs) e ≡ double (whole (valued zs) e)
+  by-parts : (e : Term) → Exact bs e → T (plain e) → doubled (valued zs) e ≡ double (whole (valued zs) e)
   unfolding sub
-  by-parts (var n) t l p = refl
-  by-parts (con z) t l p = refl
-  by-parts (minus a) t l p = absurd p
-  by-parts (a ⊕ b) t l p =
-      let A = sized bs in
-      let s = split (small (most A a + most A b) (error A a + error A b)) (tame A a) (tame A b) t in
-      let la = first (error A a) (error A b) _ l in
-      let lb = second (error A a) (error A b) _ l in
+  by-parts (var n) x p = refl
+  by-parts (con z) x p = refl
+  by-parts (minus a) x p = absurd p
+  by-parts (a ⊕ b) x p =
+      let y = operands bs a b x in
       sum-double (doubled (valued zs) a) (doubled (valued zs) b) (whole (valued zs) a) (whole (valued zs) b)
-      (exactly a (s .1) la) (exactly b (s .2) lb)
-      (one-of (plain a) (plain b) (by-parts a (s .1) la) (by-parts b (s .2) lb) p)
-  by-parts (a ⊖ b) t l p =
-      let A = sized bs in
-      let s = split (small (most A a + most A b) (error A a + error A b)) (tame A a) (tame A b) t in
-      let la = first (error A a) (error A b) _ l in
-      let lb = second (error A a) (error A b) _ l in
+      (exactly a (y .0)) (exactly b (y .1))
+      (one-of (plain a) (plain b) (by-parts a (y .0)) (by-parts b (y .1)) p)
+  by-parts (a ⊖ b) x p =
+      let y = operands bs a b x in
       sum-double (doubled (valued zs) a) _ (whole (valued zs) a) (negℤ (whole (valued zs) b))
-      (exactly a (s .1) la) (neg-whole (doubled (valued zs) b) (whole (valued zs) b) (exactly b (s .2) lb))
-      (inl (by-parts a (s .1) la p))
-  by-parts (a ⊗ b) t l p = times a b (and-l (positive a) (plain b) p) t l (λ t′ l′. by-parts b t′ l′ (and-r (positive a) (plain b) p))
+      (exactly a (y .0)) (neg-whole (doubled (valued zs) b) (whole (valued zs) b) (exactly b (y .1)))
+      (inl (by-parts a (y .0) p))
+  by-parts (a ⊗ b) x p = times a b (and-l (positive a) (plain b) p) x (λ y. by-parts b y (and-r (positive a) (plain b) p))
 
   -- the law
   pub plain-double : (e : Term) → Plainly bs e → doubled (valued zs) e ≡ double (whole (valued zs) e)
-  plain-double e t = by-parts e (t .0) (leb→le _ 0 (t .1)) (t .2)
+  plain-double e t = by-parts e (t .0, leb→le _ 0 (t .1)) (t .2)
 
   -- one whole number is one double
   pub same-double : (a b : Term) → Plainly bs a → Plainly bs b → whole (valued zs) a ≡ whole (valued zs) b

@@ -60,7 +60,7 @@ abbrev pub productError : (m n k l : ℕ) → ℕ
 productError m n k l = k * n + (m + k) * l
 
 -- a result of size m that is e off before it is rounded
-abbrev pub rounding : (m e : ℕ) → ℕ
+abbrev rounding : (m e : ℕ) → ℕ
 rounding m e = e + slip (m + e)
 
 abbrev pub error : (ℕ → ℕ) → Term → ℕ
