@@ -8,7 +8,7 @@
 //! where the grid is narrow, none by more than 64 elsewhere, and -D never
 //! ([`cases::calls`]). Doubles are compared by their bits.
 
-use crate::cases::calls::{compare, expect, farthest, Doubles, Outcome};
+use crate::cases::calls::{assert_alone, compare, expect, farthest, Doubles, Outcome};
 use crate::cases::common::{large_state, narrow_state, worked_probes, Random, WorkedProbe};
 use crate::cases::{random_size, Call, Case, BARRIERS, H, PROBING, Q, U, V};
 use basin::{Probe, Trust};
@@ -25,17 +25,6 @@ fn probed(case: &Case, at: &str) -> Outcome {
     let grid = compare(case, Call::ProbeGrid, at);
     assert_eq!(grid.told[0], 0, "{at}: {case:?}");
     grid
-}
-
-/// A cell by itself is told what the grid is told, and has its doubles.
-fn assert_alone(case: &Case, cell: usize, grid: &Outcome, at: &str) {
-    let mut case = case.clone();
-    case.cell = cell;
-    let alone = compare(&case, Call::Probe, at);
-    assert_eq!(alone.told, grid.told, "{at}: {case:?}");
-    let of_grid = grid.written.doubles.each_ref().map(|list| list.0[cell]);
-    let of_grid = Doubles(of_grid.to_vec());
-    assert_eq!(alone.written.probed, of_grid, "{at}: {case:?}");
 }
 
 // ---- worked numbers

@@ -3,7 +3,7 @@
 //! zeros, with opposite numbers and at their bounds. Doubles are compared by their
 //! bits, since a sum and a row could differ in the sign of a zero.
 
-use crate::cases::calls::{compare, Doubles};
+use crate::cases::calls::{assert_alone, compare, Doubles};
 use crate::cases::common::Random;
 use crate::cases::{Call, Case, H, Q, U, V};
 
@@ -26,15 +26,9 @@ fn corners() -> impl Iterator<Item = Vec<i64>> {
 fn both(case: &Case, at: &str) -> ([Vec<i64>; 3], [Doubles; 3]) {
     let tendencies = compare(case, Call::Tendencies, at);
     assert_eq!(tendencies.told, [0], "{at}: {case:?}");
-    let doubles = compare(case, Call::ProbeGrid, at).written.doubles;
-    for cell in 0..SIDE * SIDE {
-        let mut alone = case.clone();
-        alone.cell = cell;
-        let alone = compare(&alone, Call::Probe, at).written.probed;
-        let of_grid = doubles.each_ref().map(|list| list.0[cell]);
-        assert_eq!(alone, Doubles(of_grid.to_vec()), "{at}: {case:?}");
-    }
-    (tendencies.written.destinations, doubles)
+    let grid = compare(case, Call::ProbeGrid, at);
+    (0..SIDE * SIDE).for_each(|cell| assert_alone(case, cell, &grid, at));
+    (tendencies.written.destinations, grid.written.doubles)
 }
 
 #[test]

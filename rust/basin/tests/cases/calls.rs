@@ -452,6 +452,17 @@ pub fn farthest(case: &Case, call: Call, written: &Written) -> u64 {
     far(1, &du).max(far(2, &dv))
 }
 
+/// A probed cell by itself is told what the grid is told, and has its doubles.
+pub fn assert_alone(case: &Case, cell: usize, grid: &Outcome, at: &str) {
+    let mut case = case.clone();
+    case.cell = cell;
+    let alone = compare(&case, Call::Probe, at);
+    assert_eq!(alone.told, grid.told, "{at}: {case:?}");
+    let of_grid = grid.written.doubles.each_ref().map(|list| list.0[cell]);
+    let of_grid = Doubles(of_grid.to_vec());
+    assert_eq!(alone.written.probed, of_grid, "{at}: {case:?}");
+}
+
 fn sides(case: &Case, call: Call, at: &str) -> String {
     format!(
         "{at}: the proved library (left) and the independent version (right) on {call:?} {case:?}"
