@@ -8,7 +8,8 @@ use lib.IntN.{ℤ, pos, negℤ}
 use lib.ListN.{getD}
 use lib.Ieee.{size, span, climb}
 use Rattle.model.specs.Numbers.{bernoulliScale}
-use Rattle.model.specs.State.{State, cells}
+use Rattle.model.specs.Grid.{next}
+use Rattle.model.specs.State.{State, cells, walledWest, walledSouth, cornerColumns, cornerRows, corners}
 use Rattle.model.specs.Weights.{weights, weightAt, weighted}
 use Rattle.model.specs.Scheme as Whole
 use Rattle.model.specs.Scheme.{toEast, toWest, toNorth, toSouth, divergence, momentumU, momentumV, cornerWeight}
@@ -16,6 +17,7 @@ use Rattle.model.specs.Doubles as Double
 use Rattle.model.specs.Doubles.{IsWhole, IsNear}
 use Rattle.integers.specs.Bounds.{Abs, Sizes, ∎, _◂_, sized}
 use Rattle.grid.specs.Cells.{cell-lt, previous-lt, next-lt}
+use Rattle.grid.specs.Corners.{corners-some, corners-more}
 use Rattle.doubles.specs.Near.{near-exact}
 use Rattle.doubles.specs.Terms.{Term, var, con, minus, _⊕_, _⊖_, _⊗_, near, tame, error}
 
@@ -41,7 +43,7 @@ pub record Sized (m : Most) (s : State) (q : List ℤ) : Type 0 where
   pub b : (k : ℕ) → k < cells s → Abs (getD (s .b) k (pos 0)) (m .bottom)
   pub u : (k : ℕ) → k < cells s → Abs (getD (s .u) k (pos 0)) (m .velocity)
   pub v : (k : ℕ) → k < cells s → Abs (getD (s .v) k (pos 0)) (m .velocity)
-  pub corner : (k : ℕ) → k < cells s → Abs (getD q k (pos 0)) (m .corner)
+  pub corner : (k : ℕ) → k < corners s → Abs (getD q k (pos 0)) (m .corner)
 
 -- ---- cells, and what the formulas read around them
 
@@ -77,11 +79,18 @@ module _ {s : State} where
   abbrev on : List ℤ → Spot s → ℤ
   on f c = getD f (index c) (pos 0)
 
+  -- the next corner to the east, and to the north
+  abbrev eastOf : Spot s → ℕ
+  eastOf c = next (cornerColumns s) (c .i)
+
+  abbrev northOf : Spot s → ℕ
+  northOf c = next (cornerRows s) (c .j)
+
 -- what a formula is made of: gravity; the corners ne, nw, sw, se of a cell; a flux, which is a velocity and two depths; a Bernoulli value,
 -- which is four velocities, a depth and a bottom height
 data Piece (s : State) : Type 0 where
   gravity : Piece s
-  corners : Spot s → Piece s
+  cornersAt : Spot s → Piece s
   flux-u : Spot s → Piece s
   flux-v : Spot s → Piece s
   bernoulli : Spot s → Piece s
@@ -90,7 +99,8 @@ data Piece (s : State) : Type 0 where
 module _ {s : State} (q : List ℤ) where
   abbrev numbersOf : Piece s → List ℤ → List ℤ
   numbersOf gravity l = s .G ∷ l
-  numbersOf (corners c) l = on q (north (east c)) ∷ on q (north c) ∷ on q c ∷ on q (east c) ∷ l
+  numbersOf (cornersAt c) l =
+      Whole.corner s q (eastOf c) (northOf c) ∷ Whole.corner s q (c .i) (northOf c) ∷ Whole.corner s q (c .i) (c .j) ∷ Whole.corner s q (eastOf c) (c .j) ∷ l
   numbersOf (flux-u c) l = on (s .u) c ∷ on (s .h) (west c) ∷ on (s .h) c ∷ l
   numbersOf (flux-v c) l = on (s .v) c ∷ on (s .h) (south c) ∷ on (s .h) c ∷ l
   numbersOf (bernoulli c) l = on (s .u) c ∷ on (s .u) (east c) ∷ on (s .v) c ∷ on (s .v) (north c) ∷ on (s .h) c ∷ on (s .b) c ∷ l
@@ -102,7 +112,7 @@ module _ {s : State} (q : List ℤ) where
 module _ {s : State} (m : Most) where
   abbrev sizesOf : Piece s → List ℕ → List ℕ
   sizesOf gravity l = 10000 ∷ l
-  sizesOf (corners c) l = m .corner ∷ m .corner ∷ m .corner ∷ m .corner ∷ l
+  sizesOf (cornersAt c) l = m .corner ∷ m .corner ∷ m .corner ∷ m .corner ∷ l
   sizesOf (flux-u c) l = m .velocity ∷ m .depth ∷ m .depth ∷ l
   sizesOf (flux-v c) l = m .velocity ∷ m .depth ∷ m .depth ∷ l
   sizesOf (bernoulli c) l = m .velocity ∷ m .velocity ∷ m .velocity ∷ m .velocity ∷ m .depth ∷ m .bottom ∷ l
@@ -124,12 +134,26 @@ module _ {m : Most} {s : State} {q : List ℤ} (z : Sized m s q) where
   v : (c : Spot s) → Abs (on (s .v) c) (m .velocity)
   v c = z .v (index c) (index-lt c)
 
-  corner : (c : Spot s) → Abs (on q c) (m .corner)
-  corner c = z .corner (index c) (index-lt c)
+  corner : {x y : ℕ} → x < cornerColumns s → y < cornerRows s → Abs (Whole.corner s q x y) (m .corner)
+  corner p r = z .corner _ (cell-lt p r)
+
+  -- a cell's corners are corners of the grid
+  column-in : (c : Spot s) → c .i < cornerColumns s
+  column-in c = corners-more (walledWest s) (c .column)
+
+  row-in : (c : Spot s) → c .j < cornerRows s
+  row-in c = corners-more (walledSouth s) (c .row)
+
+  east-in : (c : Spot s) → eastOf c < cornerColumns s
+  east-in c = next-lt (cornerColumns s) (c .i) (corners-some (walledWest s) (some (c .column)))
+
+  north-in : (c : Spot s) → northOf c < cornerRows s
+  north-in c = next-lt (cornerRows s) (c .j) (corners-some (walledSouth s) (some (c .row)))
 
   piece-sized : (p : Piece s) {zs : List ℤ} {bs : List ℕ} → Sizes zs bs → Sizes (numbersOf q p zs) (sizesOf m p bs)
   piece-sized gravity l = z .g ◂ l
-  piece-sized (corners c) l = corner (north (east c)) ◂ corner (north c) ◂ corner c ◂ corner (east c) ◂ l
+  piece-sized (cornersAt c) l =
+      corner (east-in c) (north-in c) ◂ corner (column-in c) (north-in c) ◂ corner (column-in c) (row-in c) ◂ corner (east-in c) (row-in c) ◂ l
   piece-sized (flux-u c) l = u c ◂ h (west c) ◂ h c ◂ l
   piece-sized (flux-v c) l = v c ◂ h (south c) ◂ h c ◂ l
   piece-sized (bernoulli c) l = u c ◂ u (east c) ◂ v c ◂ v (north c) ◂ h c ◂ b c ◂ l
@@ -176,7 +200,7 @@ u-term =
 
 abbrev u-pieces : {s : State} → Spot s → List (Piece s)
 u-pieces c =
-    gravity ∷ corners c ∷ corners (west c)
+    gravity ∷ cornersAt c ∷ cornersAt (west c)
     ∷ flux-v (north c) ∷ flux-v (north (west c)) ∷ flux-v (west c) ∷ flux-v c
     ∷ flux-u (east c) ∷ flux-u (west c)
     ∷ bernoulli c ∷ bernoulli (west c)
@@ -194,7 +218,7 @@ v-term =
 
 abbrev v-pieces : {s : State} → Spot s → List (Piece s)
 v-pieces c =
-    gravity ∷ corners c ∷ corners (south c)
+    gravity ∷ cornersAt c ∷ cornersAt (south c)
     ∷ flux-u (east c) ∷ flux-u c ∷ flux-u (south c) ∷ flux-u (east (south c))
     ∷ flux-v (north c) ∷ flux-v (south c)
     ∷ bernoulli c ∷ bernoulli (south c)

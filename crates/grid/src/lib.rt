@@ -6,10 +6,11 @@ ghost use lib.IntN.{pos};
 ghost use lib.ListN.{length, getD, replicate};
 ghost use Rattle.model.specs.Grid;
 ghost use Rattle.model.specs.State;
-ghost use Rattle.model.specs.Grid.{filled};
-ghost use Rattle.model.specs.State.{State, boundaryOf, wallWest, wallSouth, barrierAt, closedWest, closedSouth};
+ghost use Rattle.model.specs.Grid.{filled, cornersOf, lower, upper};
+ghost use Rattle.model.specs.State.{State, Side, boundaryOf, wallWest, wallSouth, barrierAt, closedWest, closedSouth};
 ghost use Rattle.grid.specs.Cells.{Cell};
 ghost use Rattle.grid.specs.Stencils.{IsAround};
+ghost use Rattle.grid.specs.Corners.{Corner, onAWall, AreCells, AreCorners};
 ghost use Rattle.grid.specs.Parts.{part, replaced};
 ghost use Rattle.grid.specs.Barred.{bars, closedAt, Cleared};
 use model::Boundary;
@@ -211,6 +212,135 @@ pub fn around(w: usize, n: usize, i: usize, j: usize) -> Stencil
         southwest: cell_index(w, n, west, south),
     }
 }
+
+// ---- corners (02, U5)
+
+// How many corners a side of w places has, by whether walls end it. It rules out, for instance: as many as places where there are walls; one
+// more where there are none.
+pub fn corners_of(walled: bool, w: usize) -> usize
+    requires { ⌜ w ≤ 64 ⌝ }
+    ensures { λ r. ⌜ r ≡ cornersOf walled w ⌝ }
+{
+    if walled { w + 1 } else { w }
+}
+
+// The columns and the rows of the grid of corners. They rule out, for instance: a channel with a column of corners more; a basin without one.
+pub fn corner_columns(kind: u8, w: usize) -> usize
+    requires { ⌜ w ≤ 64 ⌝ }
+    ensures { λ r. ⌜ r ≡ cornersOf (wallWest (boundaryOf kind) 0) w ⌝ }
+{
+    corners_of(walled_west(kind, 0), w)
+}
+
+pub fn corner_rows(kind: u8, n: usize) -> usize
+    requires { ⌜ n ≤ 64 ⌝ }
+    ensures { λ r. ⌜ r ≡ cornersOf (wallSouth (boundaryOf kind) 0) n ⌝ }
+{
+    corners_of(walled_south(kind, 0), n)
+}
+
+// How many corners the grid has. It rules out, for instance: as many as cells in a basin; a column counted for a row.
+pub fn corner_count(kind: u8, w: usize, n: usize) -> usize
+    requires { ⌜ Side w × Side n ⌝ }
+    ensures { λ r. ⌜
+        (r ≡ cornersOf (wallWest (boundaryOf kind) 0) w * cornersOf (wallSouth (boundaryOf kind) 0) n)
+        × (r ≤ 4225)
+        ⌝ }
+{
+    corner_columns(kind, w) * corner_rows(kind, n)
+}
+
+// The two places beside corner x of a side of w places: at a wall both are the one inside. They rule out, for instance: the place across the
+// wall; the corner's own number at the last wall.
+fn lower_place(walled: bool, w: usize, x: usize) -> usize
+    requires { ⌜ (1 ≤ w) × (x < cornersOf walled w) ⌝ }
+    ensures { λ r. ⌜ (r ≡ lower walled w x) × (r < w) ⌝ }
+{
+    if x > 0 {
+        return x - 1;
+    }
+    if walled { 0 } else { w - 1 }
+}
+
+fn upper_place(walled: bool, w: usize, x: usize) -> usize
+    requires { ⌜ (1 ≤ w) × (x < cornersOf walled w) ⌝ }
+    ensures { λ r. ⌜ (r ≡ upper walled w x) × (r < w) ⌝ }
+{
+    if x == w { w - 1 } else { x }
+}
+
+// Whether corner x of a side of w places is on a wall.
+fn on_wall(walled: bool, w: usize, x: usize) -> bool
+    ensures { λ r. ⌜ r ≡ Grid.onWall walled w x ⌝ }
+{
+    if !walled {
+        return false;
+    }
+    x == 0 || x == w
+}
+
+// Whether corner (x, y) is on a wall. It rules out, for instance: the walls of row 0 and column 0 alone; a wall corner in a periodic grid.
+pub fn is_on_wall(kind: u8, w: usize, n: usize, x: usize, y: usize) -> bool
+    ensures { λ r. ⌜ r ≡ onAWall kind w n x y ⌝ }
+{
+    on_wall(walled_west(kind, 0), w, x) || on_wall(walled_south(kind, 0), n, y)
+}
+
+// Four indices: of the cells around a corner, or of the corners of a cell.
+pub struct Four {
+    pub ne: usize,
+    pub nw: usize,
+    pub sw: usize,
+    pub se: usize,
+}
+
+// The cells around corner (x, y): on a wall the cells inside, each as often as 02 counts it. It rules out, for instance: a cell across the wall;
+// the cells of row 0 for row n.
+pub fn cells_around(kind: u8, w: usize, n: usize, x: usize, y: usize) -> Four
+    requires { ⌜ Corner kind w n x y ⌝ }
+    ensures { λ r. ⌜ AreCells kind w n x y r ⌝ }
+{
+    let wall_west = walled_west(kind, 0);
+    let wall_south = walled_south(kind, 0);
+    let east = upper_place(wall_west, w, x);
+    let west = lower_place(wall_west, w, x);
+    let north = upper_place(wall_south, n, y);
+    let south = lower_place(wall_south, n, y);
+    Four {
+        ne: cell_index(w, n, east, north),
+        nw: cell_index(w, n, west, north),
+        sw: cell_index(w, n, west, south),
+        se: cell_index(w, n, east, south),
+    }
+}
+
+// The corners of cell (i, j), in a grid of corners with so many columns and rows: they wrap where that grid does.
+fn corners_around(columns: usize, rows: usize, i: usize, j: usize) -> Four
+    requires { ⌜ (columns ≤ 65) × (rows ≤ 65) × (i < columns) × (j < rows) ⌝ }
+    ensures { λ r. ⌜ AreCorners columns rows i j r ⌝ }
+{
+    let east = next(columns, i);
+    let south_row = j * columns;
+    let north_row = next(rows, j) * columns;
+    Four {
+        ne: north_row + east,
+        nw: north_row + i,
+        sw: south_row + i,
+        se: south_row + east,
+    }
+}
+
+// The same in a grid of that kind. It rules out, for instance: row 0's corners for the last row of a basin; an index by the columns of cells.
+pub fn cell_corners(kind: u8, w: usize, n: usize, i: usize, j: usize) -> Four
+    requires { ⌜ Cell w n i j ⌝ }
+    ensures { λ r. ⌜
+        AreCorners (cornersOf (wallWest (boundaryOf kind) 0) w) (cornersOf (wallSouth (boundaryOf kind) 0) n) i j r
+        ⌝ }
+{
+    corners_around(corner_columns(kind, w), corner_rows(kind, n), i, j)
+}
+
+// ---- parts of a work space
 
 // The m numbers of a work space from place a on. It rules out, for instance: a part of another length; the part one place on.
 pub fn part_of(work: &[i64], a: usize, m: usize) -> &[i64]

@@ -4,7 +4,7 @@ use mathlib.Core.Bool.{Bool, false}
 use mathlib.Core.Logic.{_↔_, _⊎_}
 use mathlib.Core.List.{List, [], _∷_, _++_}
 use mathlib.Core.Option.{Option, none, some}
-use Prim.Native.Nat.{ℕ, zero, suc, _+_, _*_, _^_, _≤_, _<_}
+use Prim.Native.Nat.{ℕ, zero, suc, _+_, _-_, _*_, _^_, _≤_, _<_}
 use lib.Dec.{T}
 use lib.IntN.{ℤ, pos, negℤ, natAbs, _+ℤ_, _-ℤ_, _*ℤ_}
 use lib.ListN.{length, getD, take, drop, replicate}
@@ -12,12 +12,12 @@ use lib.Signed.{_≤ℤ_}
 use lib.Ieee.{Float, nan}
 use Rattle.model.specs.Numbers.{rnd, vorticityLimits, inflowLimits, longestRun, mostMilliseconds, tendencyScale, divergenceScale}
 use Rattle.model.specs.Grid.{at, byCell, firstFrom}
-use Rattle.model.specs.State.{State, Fields, stateFrom, parametersOf, withFlow, cells, WithinLimits, FieldWithin, OpenEverywhere}
+use Rattle.model.specs.State.{State, Fields, stateFrom, parametersOf, withFlow, cells, cornerColumns, cornerRows, corners, WithinLimits, FieldWithin, OpenEverywhere}
 use Rattle.model.specs.Answers.{number}
 use Rattle.model.specs.Tests.{Test, asks, seeks, firstFound}
 use Rattle.model.specs.Refusals.{Taken, workLength, stateTests, callTests}
 use Rattle.model.specs.Weights.{weighted, formulaP, formulaM, formulaE, formulaF}
-use Rattle.model.specs.Scheme.{vorticityAt, vorticity, D, tendencyU, tendencyV}
+use Rattle.model.specs.Scheme.{toEast, toWest, toNorth, toSouth, vorticityAt, vorticity, D, weight, tendencyU, tendencyV, hTendencies, uTendencies, vTendencies}
 use Rattle.model.specs.Doubles.{IsWhole, IsNear}
 use Rattle.model.specs.Rates.{energyRate, enstrophyRate}
 use Rattle.model.specs.Totals.{totalDepth, energy4}
@@ -314,20 +314,84 @@ pub record FormulaClaim : Type 0 where
 abbrev pub Holds : State → List ℤ → (ℕ → ℕ → ℤ) → Type 0
 Holds s d f = (i j : ℕ) → i < s .w → j < s .n → at (s .w) d i j ≡ f i j
 
+-- the same of every corner, in its first places
+abbrev pub HoldsCorners : State → List ℤ → (ℕ → ℕ → ℤ) → Type 0
+HoldsCorners s d f = (x y : ℕ) → x < cornerColumns s → y < cornerRows s → at (cornerColumns s) d x y ≡ f x y
+
 -- the potential vorticity of a state within the limits is within its own limits
 abbrev pub OwnVorticityClaim : Type 0
-OwnVorticityClaim = (s : State) → WithinLimits s → FieldWithin vorticityLimits (cells s) (vorticity s)
+OwnVorticityClaim = (s : State) → WithinLimits s → FieldWithin vorticityLimits (corners s) (vorticity s)
 
 -- an accepted potential vorticity call fills it in, and it may then be lent to the tendency call
 abbrev pub VorticityClaim : Type 0
 VorticityClaim = (s : State) (d d′ : List ℤ) → VorticityPromise s d Answer.Accepted d′
-    → Holds s d′ (vorticityAt s) × FieldWithin vorticityLimits (cells s) (take (cells s) d′) × (drop (cells s) d′ ≡ drop (cells s) d)
+    → HoldsCorners s d′ (vorticityAt s) × FieldWithin vorticityLimits (corners s) (take (corners s) d′)
+    × (drop (corners s) d′ ≡ drop (corners s) d)
+
+-- ---- corners on a wall (02, U5), in the request's words
+
+-- q of a corner on a wall: c is its Z, and its H is twice the sum of the two cells on its own side, or four times the one where two walls meet
+abbrev pub besideTwo : State → (h h′ : ℤ) → ℤ
+besideTwo s h h′ = rnd (pos 262144 *ℤ s .c) (pos 2 *ℤ (h +ℤ h′))
+
+abbrev pub besideOne : State → (h : ℤ) → ℤ
+besideOne s h = rnd (pos 262144 *ℤ s .c) (pos 4 *ℤ h)
+
+-- q of any other corner, by 01's rule
+abbrev pub ordinary : State → (x y : ℕ) → ℤ
+ordinary s x y =
+    let h = at (s .w) (s .h) in
+    let u = at (s .w) (s .u) in
+    let v = at (s .w) (s .v) in
+    rnd (pos 262144 *ℤ (s .c +ℤ v x y -ℤ v (toWest s x) y +ℤ u x (toSouth s y) -ℤ u x y))
+    (h x y +ℤ h (toWest s x) y +ℤ h x (toSouth s y) +ℤ h (toWest s x) (toSouth s y))
+
+pub record WallCornerClaim : Type 0 where
+  -- how many corners there are
+  pub periodic : (s : State) → s .kind ≡ 0 → (cornerColumns s ≡ s .w) × (cornerRows s ≡ s .n)
+  pub channel : (s : State) → s .kind ≡ 1 → (cornerColumns s ≡ s .w) × (cornerRows s ≡ s .n + 1)
+  pub basin : (s : State) → s .kind ≡ 2 → (cornerColumns s ≡ s .w + 1) × (cornerRows s ≡ s .n + 1)
+  -- a channel's rows 0 and n
+  pub channel-south : (s : State) (x : ℕ) → s .kind ≡ 1
+      → vorticityAt s x 0 ≡ besideTwo s (at (s .w) (s .h) x 0) (at (s .w) (s .h) (toWest s x) 0)
+  pub channel-north : (s : State) (x : ℕ) → s .kind ≡ 1 → 1 ≤ s .n
+      → vorticityAt s x (s .n) ≡ besideTwo s (at (s .w) (s .h) x (s .n - 1)) (at (s .w) (s .h) (toWest s x) (s .n - 1))
+  -- a basin's rows 0 and n, and its columns 0 and w
+  pub basin-south : (s : State) (x : ℕ) → s .kind ≡ 2 → 1 ≤ x → x < s .w
+      → vorticityAt s x 0 ≡ besideTwo s (at (s .w) (s .h) x 0) (at (s .w) (s .h) (x - 1) 0)
+  pub basin-north : (s : State) (x : ℕ) → s .kind ≡ 2 → 1 ≤ x → x < s .w → 1 ≤ s .n
+      → vorticityAt s x (s .n) ≡ besideTwo s (at (s .w) (s .h) x (s .n - 1)) (at (s .w) (s .h) (x - 1) (s .n - 1))
+  pub basin-west : (s : State) (y : ℕ) → s .kind ≡ 2 → 1 ≤ y → y < s .n
+      → vorticityAt s 0 y ≡ besideTwo s (at (s .w) (s .h) 0 y) (at (s .w) (s .h) 0 (y - 1))
+  pub basin-east : (s : State) (y : ℕ) → s .kind ≡ 2 → 1 ≤ y → y < s .n → 1 ≤ s .w
+      → vorticityAt s (s .w) y ≡ besideTwo s (at (s .w) (s .h) (s .w - 1) y) (at (s .w) (s .h) (s .w - 1) (y - 1))
+  -- where two of its walls meet
+  pub southwest : (s : State) → s .kind ≡ 2 → vorticityAt s 0 0 ≡ besideOne s (at (s .w) (s .h) 0 0)
+  pub southeast : (s : State) → s .kind ≡ 2 → 1 ≤ s .w → vorticityAt s (s .w) 0 ≡ besideOne s (at (s .w) (s .h) (s .w - 1) 0)
+  pub northwest : (s : State) → s .kind ≡ 2 → 1 ≤ s .n → vorticityAt s 0 (s .n) ≡ besideOne s (at (s .w) (s .h) 0 (s .n - 1))
+  pub northeast : (s : State) → s .kind ≡ 2 → 1 ≤ s .w → 1 ≤ s .n
+      → vorticityAt s (s .w) (s .n) ≡ besideOne s (at (s .w) (s .h) (s .w - 1) (s .n - 1))
+  -- all others, whatever barriers stand there
+  pub periodic-other : (s : State) (x y : ℕ) → s .kind ≡ 0 → vorticityAt s x y ≡ ordinary s x y
+  pub channel-other : (s : State) (x y : ℕ) → s .kind ≡ 1 → 1 ≤ y → y < s .n → vorticityAt s x y ≡ ordinary s x y
+  pub basin-other : (s : State) (x y : ℕ) → s .kind ≡ 2 → 1 ≤ x → x < s .w → 1 ≤ y → y < s .n → vorticityAt s x y ≡ ordinary s x y
+
+-- each cell uses its own four corners, ne, nw, sw and se: the next corner along a side wraps only where the side has no walls
+pub record CellCornersClaim : Type 0 where
+  pub periodic : (s : State) (q : List ℤ) (row i j : ℕ) → s .kind ≡ 0 → let c = at (s .w) q in
+      weight s q row i j ≡ weighted row (c (toEast s i) (toNorth s j)) (c i (toNorth s j)) (c i j) (c (toEast s i) j)
+  pub channel : (s : State) (q : List ℤ) (row i j : ℕ) → s .kind ≡ 1 → j < s .n → let c = at (s .w) q in
+      weight s q row i j ≡ weighted row (c (toEast s i) (j + 1)) (c i (j + 1)) (c i j) (c (toEast s i) j)
+  pub basin : (s : State) (q : List ℤ) (row i j : ℕ) → s .kind ≡ 2 → i < s .w → j < s .n → let c = at (s .w + 1) q in
+      weight s q row i j ≡ weighted row (c (i + 1) (j + 1)) (c i (j + 1)) (c i j) (c (i + 1) j)
+
+-- ---- tendencies
 
 -- the tendency call accepts any state within the limits, any q within its bound and destinations that have room, and these alone
 abbrev pub TendenciesAcceptedClaim : Type 0
 TendenciesAcceptedClaim = (s : State) (q dh du dv dh′ du′ dv′ : List ℤ) (answer : Answer)
     → TendenciesPromise s q dh du dv answer dh′ du′ dv′
-    → (answer ≡ Answer.Accepted) ↔ (WithinLimits s × FieldWithin vorticityLimits (cells s) q × (cells s ≤ length dh) × (cells s ≤ length du) × (cells s ≤ length dv))
+    → (answer ≡ Answer.Accepted) ↔ (WithinLimits s × FieldWithin vorticityLimits (corners s) q × (cells s ≤ length dh) × (cells s ≤ length du) × (cells s ≤ length dv))
 
 -- it then fills in -D, Tu and Tv
 abbrev pub TendenciesClaim : Type 0
@@ -343,11 +407,11 @@ pub record Narrow (s : State) (q : List ℤ) : Type 0 where
   pub bottoms : (k : ℕ) → k < cells s → getD (s .b) k (pos 0) ≤ℤ pos 10000
   pub us : (k : ℕ) → k < cells s → natAbs (getD (s .u) k (pos 0)) ≤ 500
   pub vs : (k : ℕ) → k < cells s → natAbs (getD (s .v) k (pos 0)) ≤ 500
-  pub corners : (k : ℕ) → k < cells s → natAbs (getD q k (pos 0)) ≤ 1000000
+  pub vorticities : (k : ℕ) → k < corners s → natAbs (getD q k (pos 0)) ≤ 1000000
 
 -- what a probe takes, with nothing wrong
 abbrev pub ProbeTaken : State → List ℤ → Type 0
-ProbeTaken s q = WithinLimits s × FieldWithin vorticityLimits (cells s) q
+ProbeTaken s q = WithinLimits s × FieldWithin vorticityLimits (corners s) q
 
 -- three doubles, and the whole numbers that the tendency call has filled in at index k: -D is the same; Tu and Tv too, or they are whole
 -- numbers at most 64 away
@@ -417,7 +481,7 @@ pub record Given (s : State) (du dv : List ℤ) : Type 0 where
   pub dv₀ : List ℤ
   pub dh : List ℤ
   pub vorticity : VorticityPromise s d Answer.Accepted q
-  pub tendencies : TendenciesPromise s (take (cells s) q) dh₀ du₀ dv₀ Answer.Accepted dh du dv
+  pub tendencies : TendenciesPromise s (take (corners s) q) dh₀ du₀ dv₀ Answer.Accepted dh du dv
 
 abbrev pub PassClaim : Type 0
 PassClaim = (base given : State) (inflow du dv : List ℤ) → given .w ≡ base .w → given .n ≡ base .n → Given given du dv
@@ -625,6 +689,10 @@ EnergyRateClaim = (s : State) (dh du dv : List ℤ) (e : ℤ)
 abbrev pub EnergyClaim : Type 0
 EnergyClaim = (s : State) (q dh du dv dh′ du′ dv′ : List ℤ) → TendenciesPromise s q dh du dv Answer.Accepted dh′ du′ dv′
     → energyRate s dh′ du′ dv′ ≡ pos 0
+
+-- and so it is by the definitions with any corners at all (02, U5): q may be any list, of any length and without bounds
+abbrev pub AnyCornersEnergyClaim : Type 0
+AnyCornersEnergyClaim = (s : State) (q : List ℤ) → WithinLimits s → energyRate s (hTendencies s) (uTendencies s q) (vTendencies s q) ≡ pos 0
 
 -- the scaled enstrophy rate is zero where the grid wraps both ways: no edge is closed
 abbrev pub EnstrophyClaim : Type 0

@@ -8,8 +8,8 @@ use Prim.Native.Nat.{ℕ, _*_, _≤_}
 use lib.IntN.{ℤ, pos, negℤ, _-ℤ_, natAbs}
 use lib.Ieee.{Float, nan, inf, fin, up, down, binary64, ofInt, add, sub, mul, neg}
 use Rattle.model.specs.Numbers.{bernoulliScale}
-use Rattle.model.specs.Grid.{at, byCell}
-use Rattle.model.specs.State.{State, closedWest, closedSouth}
+use Rattle.model.specs.Grid.{next, at, byCell}
+use Rattle.model.specs.State.{State, cornerColumns, cornerRows, closedWest, closedSouth}
 use Rattle.model.specs.Tests.{firstFound}
 use Rattle.model.specs.Refusals.{Taken, narrowed, valueTests}
 use Rattle.model.specs.Weights.{weightAt}
@@ -96,15 +96,17 @@ module _ (s : State) where
 
   module _ (q : List ℤ) where
     abbrev corner : ℕ → ℕ → Float
-    corner i j = double (at (s .w) q i j)
+    corner x y = double (at (cornerColumns s) q x y)
 
     -- a row of the weight table over the corners ne, nw, sw, se of a cell
     unfoldable pub weight : ℕ → ℕ → ℕ → Float
     weight row i j =
-        double (weightAt row 0) ⊠ corner (toEast s i) (toNorth s j)
-        ⊞ double (weightAt row 1) ⊠ corner i (toNorth s j)
+        let east = next (cornerColumns s) i in
+        let north = next (cornerRows s) j in
+        double (weightAt row 0) ⊠ corner east north
+        ⊞ double (weightAt row 1) ⊠ corner i north
         ⊞ double (weightAt row 2) ⊠ corner i j
-        ⊞ double (weightAt row 3) ⊠ corner (toEast s i) j
+        ⊞ double (weightAt row 3) ⊠ corner east j
 
     unfoldable pub Tu : ℕ → ℕ → Float
     Tu i j =

@@ -10,7 +10,7 @@ use lib.Ieee as Ieee
 use lib.Ieee.{Float, binary64, toBits}
 use Rattle.model.specs.Numbers.{rnd, eqℤ, sameBy, all}
 use Rattle.model.specs.Grid.{filled}
-use Rattle.model.specs.State.{State, Fields, withFlow, cells}
+use Rattle.model.specs.State.{State, Fields, withFlow, cells, corners}
 use Rattle.model.specs.Answers.{toldAnswer, toldProbe, toldProbeGrid, toldStep, toldRun, toldTotal, toldWrite, toldRead, toldCompare}
 use Rattle.model.specs.Weights.{weighted, formulaP, formulaM, formulaE, formulaF}
 use Rattle.model.specs.Scheme.{vorticity, hTendencies, uTendencies, vTendencies}
@@ -76,7 +76,7 @@ holds (weighs ne nw sw se p m e f) =
     (weighted 0 ne nw sw se ∷ weighted 1 ne nw sw se ∷ weighted 2 ne nw sw se ∷ weighted 3 ne nw sw se ∷ []) is (p ∷ m ∷ e ∷ f ∷ [])
     && (formulaP ne nw sw se ∷ formulaM ne nw sw se ∷ formulaE ne nw sw se ∷ formulaF ne nw sw se ∷ []) is (p ∷ m ∷ e ∷ f ∷ [])
 holds (vorticities s d a d′) =
-    toldAnswer (answerOf (vorticityTest s (length d))) is a && leftBy (vorticityTest s (length d)) (filled (cells s) (vorticity s) d) d is d′
+    toldAnswer (answerOf (vorticityTest s (length d))) is a && leftBy (vorticityTest s (length d)) (filled (corners s) (vorticity s) d) d is d′
 holds (tends s q dh du dv a dh′ du′ dv′) =
     let t = tendenciesTest s q (length dh) (length du) (length dv) in
     toldAnswer (answerOf t) is a
@@ -297,7 +297,7 @@ workedExamples =
     -- 5
     ∷ steps (two 0 (pos 100000)) (zeros 2) (sevens 16) done (pos 2005 ∷ pos 2995 ∷ []) (pos 108 ∷ minus 98 ∷ []) (zeros 2) (zeros 16)
     -- 6: refusal 5, field u, cell 0
-    ∷ tends (two 2 (pos 1000)) (zeros 2) (zeros 2) (zeros 2) (zeros 2) (pos 5 ∷ pos 2 ∷ pos 0 ∷ []) (zeros 2) (zeros 2) (zeros 2)
+    ∷ tends (two 2 (pos 1000)) (zeros 6) (zeros 2) (zeros 2) (zeros 2) (pos 5 ∷ pos 2 ∷ pos 0 ∷ []) (zeros 2) (zeros 2) (zeros 2)
     -- 7: refusal 4, field h, cell 0; and accepted
     ∷ vorticities (one (pos 999)) (zeros 1) (pos 4 ∷ pos 0 ∷ pos 0 ∷ []) (zeros 1)
     ∷ tends (one (pos 999)) (just (pos 328)) (zeros 1) (zeros 1) (zeros 1) (pos 4 ∷ pos 0 ∷ pos 0 ∷ []) (zeros 1) (zeros 1) (zeros 1)
@@ -333,19 +333,19 @@ orders =
     ∷ vorticities (faulty 1 (pos 1) (just (pos 1000)) (zeros 1) (just (pos 1)) (zeros 1)) [] (pos 5 ∷ pos 2 ∷ pos 0 ∷ []) []
     ∷ vorticities (faulty 1 (pos 1) (just (pos 1000)) (zeros 1) (zeros 1) (zeros 1)) [] (just (pos 8)) []
     -- 4 by h, b, u, v, then q; then lowest cell
-    ∷ tends (faulty 2 (pos 1) (pos 1000 ∷ pos 999 ∷ []) (minus 1 ∷ pos 0 ∷ []) (zeros 2) (zeros 2)) (zeros 2) (zeros 2) (zeros 2) (zeros 2) (pos 4 ∷ pos 0 ∷ pos 1 ∷ []) (zeros 2) (zeros 2) (zeros 2)
-    ∷ tends (faulty 2 (pos 1) (replicate 2 (pos 1000)) (zeros 2) (pos 0 ∷ pos 5001 ∷ []) (pos 5001 ∷ pos 0 ∷ [])) (zeros 2) (zeros 2) (zeros 2) (zeros 2) (pos 4 ∷ pos 2 ∷ pos 1 ∷ []) (zeros 2) (zeros 2) (zeros 2)
-    ∷ tends (faulty 2 (pos 1) (replicate 2 (pos 1000)) (zeros 2) (zeros 2) (zeros 2)) (replicate 2 (pos 2000001)) (zeros 2) (zeros 2) (zeros 2) (pos 4 ∷ pos 4 ∷ pos 0 ∷ []) (zeros 2) (zeros 2) (zeros 2)
-    ∷ tends (faulty 2 (pos 1) (replicate 2 (pos 1000)) (zeros 2) (pos 0 ∷ pos 1 ∷ []) (pos 0 ∷ pos 1 ∷ [])) (zeros 2) (zeros 2) (zeros 2) (zeros 2) (pos 5 ∷ pos 3 ∷ pos 1 ∷ []) (zeros 2) (zeros 2) (zeros 2)
+    ∷ tends (faulty 2 (pos 1) (pos 1000 ∷ pos 999 ∷ []) (minus 1 ∷ pos 0 ∷ []) (zeros 2) (zeros 2)) (zeros 6) (zeros 2) (zeros 2) (zeros 2) (pos 4 ∷ pos 0 ∷ pos 1 ∷ []) (zeros 2) (zeros 2) (zeros 2)
+    ∷ tends (faulty 2 (pos 1) (replicate 2 (pos 1000)) (zeros 2) (pos 0 ∷ pos 5001 ∷ []) (pos 5001 ∷ pos 0 ∷ [])) (zeros 6) (zeros 2) (zeros 2) (zeros 2) (pos 4 ∷ pos 2 ∷ pos 1 ∷ []) (zeros 2) (zeros 2) (zeros 2)
+    ∷ tends (faulty 2 (pos 1) (replicate 2 (pos 1000)) (zeros 2) (zeros 2) (zeros 2)) (replicate 6 (pos 2000001)) (zeros 2) (zeros 2) (zeros 2) (pos 4 ∷ pos 4 ∷ pos 0 ∷ []) (zeros 2) (zeros 2) (zeros 2)
+    ∷ tends (faulty 2 (pos 1) (replicate 2 (pos 1000)) (zeros 2) (pos 0 ∷ pos 1 ∷ []) (pos 0 ∷ pos 1 ∷ [])) (zeros 6) (zeros 2) (zeros 2) (zeros 2) (pos 5 ∷ pos 3 ∷ pos 1 ∷ []) (zeros 2) (zeros 2) (zeros 2)
     -- 4 and 5 by field, whatever the cell
-    ∷ tends (faulty 2 (pos 1) (replicate 2 (pos 1000)) (pos 0 ∷ minus 1 ∷ []) (pos 5001 ∷ pos 0 ∷ []) (zeros 2)) (zeros 2) (zeros 2) (zeros 2) (zeros 2) (pos 4 ∷ pos 1 ∷ pos 1 ∷ []) (zeros 2) (zeros 2) (zeros 2)
-    ∷ tends (faulty 2 (pos 1) (replicate 2 (pos 1000)) (zeros 2) (zeros 2) (pos 0 ∷ pos 5001 ∷ [])) (replicate 2 (pos 2000001)) (zeros 2) (zeros 2) (zeros 2) (pos 4 ∷ pos 3 ∷ pos 1 ∷ []) (zeros 2) (zeros 2) (zeros 2)
-    ∷ tends (faulty 1 (pos 1) (just (pos 1000)) (zeros 1) (just (pos 1)) (zeros 1)) (just (pos 2000001)) (zeros 1) (zeros 1) (zeros 1) (pos 4 ∷ pos 4 ∷ pos 0 ∷ []) (zeros 1) (zeros 1) (zeros 1)
+    ∷ tends (faulty 2 (pos 1) (replicate 2 (pos 1000)) (pos 0 ∷ minus 1 ∷ []) (pos 5001 ∷ pos 0 ∷ []) (zeros 2)) (zeros 6) (zeros 2) (zeros 2) (zeros 2) (pos 4 ∷ pos 1 ∷ pos 1 ∷ []) (zeros 2) (zeros 2) (zeros 2)
+    ∷ tends (faulty 2 (pos 1) (replicate 2 (pos 1000)) (zeros 2) (zeros 2) (pos 0 ∷ pos 5001 ∷ [])) (replicate 6 (pos 2000001)) (zeros 2) (zeros 2) (zeros 2) (pos 4 ∷ pos 3 ∷ pos 1 ∷ []) (zeros 2) (zeros 2) (zeros 2)
+    ∷ tends (faulty 1 (pos 1) (just (pos 1000)) (zeros 1) (just (pos 1)) (zeros 1)) (replicate 4 (pos 2000001)) (zeros 1) (zeros 1) (zeros 1) (pos 4 ∷ pos 4 ∷ pos 0 ∷ []) (zeros 1) (zeros 1) (zeros 1)
     ∷ depth (faulty 1 (pos 1) (just (pos 1000)) (zeros 1) (just (pos 1)) (just (pos 1))) (pos 5 ∷ pos 2 ∷ pos 0 ∷ [])
     -- 8 of each destination
-    ∷ tends (faulty 1 (pos 1) (just (pos 1000)) (zeros 1) (zeros 1) (zeros 1)) (zeros 1) [] (zeros 1) (zeros 1) (just (pos 8)) [] (zeros 1) (zeros 1)
-    ∷ tends (faulty 1 (pos 1) (just (pos 1000)) (zeros 1) (zeros 1) (zeros 1)) (zeros 1) (zeros 1) [] (zeros 1) (just (pos 8)) (zeros 1) [] (zeros 1)
-    ∷ tends (faulty 1 (pos 1) (just (pos 1000)) (zeros 1) (zeros 1) (zeros 1)) (zeros 1) (zeros 1) (zeros 1) [] (just (pos 8)) (zeros 1) (zeros 1) []
+    ∷ tends (faulty 1 (pos 1) (just (pos 1000)) (zeros 1) (zeros 1) (zeros 1)) (zeros 4) [] (zeros 1) (zeros 1) (just (pos 8)) [] (zeros 1) (zeros 1)
+    ∷ tends (faulty 1 (pos 1) (just (pos 1000)) (zeros 1) (zeros 1) (zeros 1)) (zeros 4) (zeros 1) [] (zeros 1) (just (pos 8)) (zeros 1) [] (zeros 1)
+    ∷ tends (faulty 1 (pos 1) (just (pos 1000)) (zeros 1) (zeros 1) (zeros 1)) (zeros 4) (zeros 1) (zeros 1) [] (just (pos 8)) (zeros 1) (zeros 1) []
     ∷ writes (one (pos 2000)) (timeOf 0 0) (replicate 64 7) (just (pos 8)) (replicate 64 7)
     -- a state alone, with a potential vorticity, with an inflow and a work space, and with a run length too
     ∷ depth (one (pos 2000)) (pos 0 ∷ pos 2000 ∷ [])
@@ -625,9 +625,9 @@ farV x = twoCells 2 1 (pos 1) (pair (pos 1000) (pos 1000)) (zeros 2) (zeros 2) (
 abbrev lend : ℤ → List ℤ
 lend x = pair (pos 0) x
 
--- a channel of three columns and two rows
+-- a q to lend of a channel of three columns and two rows, which has three rows of corners
 abbrev channelVorticity : List ℤ
-channelVorticity = pos 1000 ∷ minus 2000 ∷ pos 3000 ∷ minus 4000 ∷ pos 5000 ∷ minus 6000 ∷ []
+channelVorticity = pos 1000 ∷ minus 2000 ∷ pos 3000 ∷ minus 4000 ∷ pos 5000 ∷ minus 6000 ∷ pos 7000 ∷ minus 8000 ∷ pos 9000 ∷ []
 
 abbrev pub probed : List Example
 probed =
@@ -644,12 +644,12 @@ probed =
     ∷ probes (twoCells 2 1 (pos 10000) (pair (pos 99999) (pos 87654)) (pair (pos 1) (pos 1)) (pair (pos 1) (pos 5000)) (pair (pos 4999) (pos 4997))) (pair (pos 2000000) (pos 1234567)) 0 near
     (minus 938077347 ∷ pos 36016112248688272 ∷ minus 18212927894737504 ∷ []) (13964524408358830080 ∷ 4854877227112825764 ∷ 14073798467879113880 ∷ [])
     -- closed edges have +0.0: a wall, and a barrier
-    ∷ probes (record { w = 2; n = 1; kind = 2; G = pos 9810; c = pos 0; R = pos 1000; h = pair (pos 2000) (pos 3000); b = zeros 2; u = pair (pos 0) (pos 10); v = zeros 2; barriers = unbarred 2 }) (pair (pos 1000) (pos 2000)) 0 exact
+    ∷ probes (record { w = 2; n = 1; kind = 2; G = pos 9810; c = pos 0; R = pos 1000; h = pair (pos 2000) (pos 3000); b = zeros 2; u = pair (pos 0) (pos 10); v = zeros 2; barriers = unbarred 2 }) (pos 1000 ∷ pos 2000 ∷ pos 3000 ∷ pos 4000 ∷ pos 5000 ∷ pos 6000 ∷ []) 0 exact
     (minus 50000 ∷ pos 0 ∷ pos 0 ∷ []) (13900476798111580160 ∷ 0 ∷ 0 ∷ [])
     ∷ probes (barred (pair (pos 10) (pos 0)) (zeros 2) (0 ∷ 1 ∷ [])) (pair (pos 1000) (pos 2000)) 1 exact
     (minus 50000 ∷ pos 0 ∷ minus 900000000 ∷ []) (13900476798111580160 ∷ 0 ∷ 13964204992421167104 ∷ [])
     -- the last cell of a channel
-    ∷ probes sixState channelVorticity 5 exact (pos 31090 ∷ pos 45949523790064 ∷ pos 61317903193648 ∷ []) (4674275168082722816 ∷ 4811222341449447424 ∷ 4813189494013106176 ∷ [])
+    ∷ probes sixState channelVorticity 5 exact (pos 31090 ∷ pos 45950228490064 ∷ pos 61318679713648 ∷ []) (4674275168082722816 ∷ 4811222431651047424 ∷ 4813189593407666176 ∷ [])
     -- narrow at both ends and one past, in the cell that is not probed
     ∷ marks (farDepth (pos 9999)) (zeros 2) 0 exact
     ∷ marks (farDepth (pos 10000)) (zeros 2) 0 exact
@@ -672,7 +672,7 @@ probed =
     ∷ marks (farU (pos 0)) (zeros 2) 1 exact
     ∷ marks (farU (pos 0)) (zeros 2) 2 (just (pos 10))
     ∷ marks (farU (pos 0)) (zeros 2) 18446744073709551615 (just (pos 10))
-    ∷ marks (two 2 (pos 1000)) (zeros 2) 2 (pos 5 ∷ pos 2 ∷ pos 0 ∷ [])
+    ∷ marks (two 2 (pos 1000)) (zeros 6) 2 (pos 5 ∷ pos 2 ∷ pos 0 ∷ [])
     ∷ marks (farU (pos 0)) (lend (pos 2000001)) 2 (pos 4 ∷ pos 4 ∷ pos 1 ∷ [])
     ∷ marks (farU (pos 5001)) (lend (pos 2000001)) 2 (pos 4 ∷ pos 2 ∷ pos 1 ∷ [])
     ∷ marks (cell 0 (pos 0) (pos 0) (pos 1000) (pos 999) (pos 0) (pos 0) (pos 0)) (zeros 1) 1 (just (pos 3))
@@ -687,7 +687,110 @@ probed =
     ∷ probesGrid (farU (pos 0)) (zeros 2) (sevens 1) (sevens 2) (sevens 2) (just (pos 8)) (seven ∷ []) (replicate 2 seven) (replicate 2 seven)
     ∷ probesGrid (farU (pos 0)) (zeros 2) (sevens 2) (sevens 1) (sevens 2) (just (pos 8)) (replicate 2 seven) (seven ∷ []) (replicate 2 seven)
     ∷ probesGrid (farU (pos 0)) (zeros 2) (sevens 2) (sevens 2) (sevens 1) (just (pos 8)) (replicate 2 seven) (replicate 2 seven) (seven ∷ [])
-    ∷ probesGrid (two 2 (pos 1000)) (zeros 2) [] [] [] (pos 5 ∷ pos 2 ∷ pos 0 ∷ []) [] [] []
+    ∷ probesGrid (two 2 (pos 1000)) (zeros 6) [] [] [] (pos 5 ∷ pos 2 ∷ pos 0 ∷ []) [] [] []
+    ∷ []
+
+-- ---- corners on a wall (02, U5)
+
+-- a shoal along the south wall and a deep dock along the north wall, of two columns and two rows
+abbrev shoal : (kind : ℕ) (u v : List ℤ) (barriers : List ℕ) → State
+shoal kind u v barriers = record {
+  w = 2;
+  n = 2;
+  kind = kind;
+  G = pos 9810;
+  c = pos 100;
+  R = pos 1000;
+  h = pos 2000 ∷ pos 3000 ∷ pos 50000 ∷ pos 60000 ∷ [];
+  b = zeros 4;
+  u = u;
+  v = v;
+  barriers = barriers;
+}
+
+abbrev shoalChannel : State
+shoalChannel = shoal 1 (pos 30 ∷ minus 20 ∷ pos 10 ∷ pos 40 ∷ []) (pos 0 ∷ pos 0 ∷ pos 7 ∷ minus 9 ∷ []) (unbarred 4)
+
+abbrev shoalBasin : State
+shoalBasin = shoal 2 (pos 0 ∷ minus 20 ∷ pos 0 ∷ pos 40 ∷ []) (pos 0 ∷ pos 0 ∷ pos 7 ∷ minus 9 ∷ []) (unbarred 4)
+
+-- a q to lend of such a basin, with this number at its last corner
+abbrev nine : ℤ → List ℤ
+nine x = pos 1000 ∷ minus 2000 ∷ pos 3000 ∷ minus 4000 ∷ pos 5000 ∷ minus 6000 ∷ pos 7000 ∷ minus 8000 ∷ x ∷ []
+
+-- the tendency call refuses such a grid, with this q, and fills in nothing
+abbrev refusesShoal : State → (q answer : List ℤ) → Example
+refusesShoal s q answer = tends s q (sevens 4) (sevens 4) (sevens 4) answer (sevens 4) (sevens 4) (sevens 4)
+
+-- one column in a channel, and a deeper shoal that is stepped
+abbrev narrowChannel : State
+narrowChannel = record {
+  w = 1;
+  n = 2;
+  kind = 1;
+  G = pos 10;
+  c = pos 0;
+  R = pos 1000;
+  h = pair (pos 2000) (pos 4000);
+  b = zeros 2;
+  u = pair (pos 50) (minus 50);
+  v = pair (pos 0) (pos 20);
+  barriers = unbarred 2;
+}
+
+abbrev deepBasin : State
+deepBasin = record {
+  w = 2;
+  n = 2;
+  kind = 2;
+  G = pos 1;
+  c = pos 10000;
+  R = pos 50000;
+  h = pos 20000 ∷ pos 30000 ∷ pos 50000 ∷ pos 60000 ∷ [];
+  b = zeros 4;
+  u = pos 0 ∷ minus 200 ∷ pos 0 ∷ pos 400 ∷ [];
+  v = pos 0 ∷ pos 0 ∷ pos 70 ∷ minus 90 ∷ [];
+  barriers = unbarred 4;
+}
+
+abbrev pub wallCorners : List Example
+wallCorners =
+    -- where two walls meet: four times the one cell
+    vorticities (cell 2 (pos 9810) (pos 10) (pos 1000) (pos 2000) (pos 0) (pos 0) (pos 0)) (zeros 4) done (replicate 4 (pos 328))
+    -- rows 0 and n of a channel, which wraps from west to east; rows 0 and n and columns 0 and w of a basin
+    ∷ vorticities shoalChannel (sevens 7) done (pos 2621 ∷ pos 2621 ∷ pos 310 ∷ pos 55 ∷ pos 119 ∷ pos 119 ∷ pos 7 ∷ [])
+    ∷ vorticities shoalBasin (zeros 9) done (pos 3277 ∷ pos 2621 ∷ pos 2185 ∷ pos 252 ∷ pos 55 ∷ pos 208 ∷ pos 131 ∷ pos 119 ∷ pos 109 ∷ [])
+    -- barriers that end at the walls make no wall corner, and take none away; all along row 0 and column 0 they make no basin
+    ∷ vorticities (shoal 2 (pos 0 ∷ minus 20 ∷ pos 0 ∷ pos 0 ∷ []) (pos 0 ∷ pos 0 ∷ pos 0 ∷ minus 9 ∷ []) (0 ∷ 0 ∷ 2 ∷ 1 ∷ [])) (zeros 9) done
+    (pos 3277 ∷ pos 2621 ∷ pos 2185 ∷ pos 252 ∷ pos 162 ∷ pos 208 ∷ pos 131 ∷ pos 119 ∷ pos 109 ∷ [])
+    ∷ vorticities (shoal 0 (zeros 4) (zeros 4) (3 ∷ 2 ∷ 1 ∷ 0 ∷ [])) (zeros 4) done (replicate 4 (pos 228))
+    -- 8: as many places as there are corners, not as there are cells
+    ∷ vorticities shoalChannel (sevens 5) (just (pos 8)) (sevens 5)
+    ∷ vorticities shoalBasin (sevens 8) (just (pos 8)) (sevens 8)
+    ∷ vorticities shoalBasin (sevens 4) (just (pos 8)) (sevens 4)
+    -- each cell has its own four corners: the last row those of row n, the last column those of column w
+    ∷ tends narrowChannel (pos 1000 ∷ pos 2000 ∷ pos 3000 ∷ []) (zeros 2) (zeros 2) (zeros 2) done (pair (minus 120000) (pos 120000)) (pair (pos 2160000000) (pos 3600000000)) (pair (pos 0) (minus 54514560000))
+    ∷ tends shoalBasin (nine (pos 9000)) (zeros 4) (zeros 4) (zeros 4) done
+    (minus 264000 ∷ pos 467000 ∷ minus 4036000 ∷ pos 3833000 ∷ [])
+    (pos 0 ∷ minus 30857264845824 ∷ pos 0 ∷ minus 308592371965824 ∷ [])
+    (pos 0 ∷ pos 0 ∷ minus 1481209144358400 ∷ minus 1758936869478400 ∷ [])
+    ∷ probes shoalBasin (nine (pos 9000)) 3 near (pos 3833000 ∷ minus 308592371965824 ∷ minus 1758936869478400 ∷ []) (4705485716170211328 ∷ 14047161116092659712 ∷ 14058266584873861120 ∷ [])
+    -- 2: w·n numbers of q, one too few, one too many; 4: the last corner, named by its index
+    ∷ refusesShoal shoalBasin (zeros 4) (just (pos 2))
+    ∷ refusesShoal shoalBasin (zeros 8) (just (pos 2))
+    ∷ refusesShoal shoalBasin (zeros 10) (just (pos 2))
+    ∷ refusesShoal shoalBasin (zeros 6) (just (pos 2))
+    ∷ refusesShoal shoalChannel (zeros 4) (just (pos 2))
+    ∷ refusesShoal shoalChannel (zeros 9) (just (pos 2))
+    ∷ refusesShoal (shoal 0 (zeros 4) (zeros 4) (unbarred 4)) (zeros 9) (just (pos 2))
+    ∷ refusesShoal shoalBasin (nine (pos 2000001)) (pos 4 ∷ pos 4 ∷ pos 8 ∷ [])
+    ∷ refusesShoal shoalChannel (zeros 5 ++ just (minus 2000001)) (pos 4 ∷ pos 4 ∷ pos 5 ∷ [])
+    -- narrow looks at the last corner too
+    ∷ marks (cell 2 (pos 1) (pos 0) (pos 1000) (pos 1000) (pos 0) (pos 0) (pos 0)) (zeros 3 ++ just (pos 1000000)) 0 exact
+    ∷ marks (cell 2 (pos 1) (pos 0) (pos 1000) (pos 1000) (pos 0) (pos 0) (pos 0)) (zeros 3 ++ just (pos 1000001)) 0 near
+    -- a step in work space of 8w·n, also where the corners would not fit what is free in it. With 01's corners v would be 48 and -113
+    ∷ steps deepBasin (zeros 4) (sevens 32) done (pos 20064 ∷ pos 29995 ∷ pos 49598 ∷ pos 60343 ∷ []) (pos 0 ∷ minus 204 ∷ pos 0 ∷ pos 397 ∷ []) (pos 0 ∷ pos 0 ∷ pos 53 ∷ minus 106 ∷ []) (zeros 32)
+    ∷ steps (cell 2 (pos 9810) (pos 10) (pos 1000) (pos 2000) (pos 0) (pos 0) (pos 0)) (just (pos 1)) (sevens 9) done (just (pos 2001)) (zeros 1) (zeros 1) (zeros 8 ++ sevens 1)
     ∷ []
 
 -- ---- weights of four corners (02, U4): ne, nw, sw, se, and then P, M, E, F
@@ -757,6 +860,6 @@ bounds =
     ∷ steps (cell 0 (pos 1) (pos 0) (pos 1000) (pos 50000) (pos 0) (pos 0) (pos 0)) (just (pos 1001)) (sevens 8) (pos 4 ∷ pos 5 ∷ pos 0 ∷ []) (just (pos 50000)) (zeros 1) (zeros 1) (zeros 8)
     ∷ []
 
-pub all-hold : T (all holds (workedExamples ++ (timestamps ++ (barriers ++ (probed ++ (weighed ++ (bounds ++ orders)))))))
+pub all-hold : T (all holds (workedExamples ++ (timestamps ++ (barriers ++ (probed ++ (wallCorners ++ (weighed ++ (bounds ++ orders))))))))
 unfolding everything
 all-hold = tt

@@ -1,8 +1,10 @@
--- The cells of a grid of w columns and n rows: cell (i, j) has index j·w + i, and indices wrap in both ways.
-use mathlib.Core.Bool.{Bool, cond}
+-- The cells of a grid of w columns and n rows: cell (i, j) has index j·w + i, and indices wrap in both ways. And the corners of a side, which has
+-- its own at a wall (02, U5).
+use mathlib.Core.Bool.{Bool, true, false, _||_, cond}
 use mathlib.Core.List.{List, [], _∷_, _++_}
 use mathlib.Core.Option.{Option, none, some}
-use Prim.Native.Nat.{ℕ, zero, suc, _+_, _-_, _*_, _/_, _%_}
+use Prim.Native.Nat.{ℕ, zero, suc, _+_, _-_, _*_, _/_, _%_, min}
+use lib.Dec.{eqb}
 use lib.IntN.{ℤ, pos, _+ℤ_}
 use lib.ListN.{getD, drop}
 
@@ -12,6 +14,26 @@ next w i = (i + 1) % w
 
 abbrev pub previous : ℕ → ℕ → ℕ
 previous w i = (i + (w - 1)) % w
+
+-- the corners of a side of w places: one before each place, which without walls is the one after the last place too; with walls at its ends
+-- the side has one corner more
+abbrev pub cornersOf : (walled : Bool) → ℕ → ℕ
+cornersOf false w = w
+cornersOf true w = w + 1
+
+-- the places beside corner x, the lower and the upper one: without walls they wrap; at a wall both are the one inside
+abbrev pub lower : (walled : Bool) → (w x : ℕ) → ℕ
+lower false w x = previous w x
+lower true w x = x - 1
+
+abbrev pub upper : (walled : Bool) → (w x : ℕ) → ℕ
+upper false w x = x
+upper true w x = min x (w - 1)
+
+-- whether corner x is on a wall
+abbrev pub onWall : (walled : Bool) → (w x : ℕ) → Bool
+onWall false w x = false
+onWall true w x = eqb x 0 || eqb x w
 
 -- what a field has at cell (i, j)
 abbrev pub at : ℕ → List ℤ → ℕ → ℕ → ℤ

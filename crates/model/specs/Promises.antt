@@ -13,7 +13,7 @@ use lib.IntN.{ℤ}
 use lib.ListN.{length}
 use lib.Ieee.{Float}
 use Rattle.model.specs.Grid.{filled}
-use Rattle.model.specs.State.{State, parametersOf, cells, Fields}
+use Rattle.model.specs.State.{State, parametersOf, cells, corners, Fields}
 use Rattle.model.specs.Answers.{toldAnswer, toldProbe, toldProbeGrid, toldStep, toldRun, toldTotal, toldWrite, toldRead, toldCompare}
 use Rattle.model.specs.Tests.{Test, firstFound}
 use Rattle.model.specs.Refusals.{taken, cellTest, roomTests, stateTests, timedTests, callTests}
@@ -75,14 +75,15 @@ pub record Fills {B A : Type 0} (by : Option Refusal → B) (tell : B → List �
 -- ---- potential vorticity, into d: 1, 2, 3, 4, 5, 8
 
 abbrev pub vorticityTests : State → (room : ℕ) → List (Test Refusal)
-vorticityTests s room = callTests s [] (cells s) (room ∷ [])
+vorticityTests s room = callTests s [] (corners s) (room ∷ [])
 
 unfoldable pub vorticityTest : State → ℕ → Option Refusal
 vorticityTest s room = firstFound (vorticityTests s room)
 
--- It rules out, for instance: q of the neighbour's corner; a refusal that has filled a part of d.
+-- It rules out, for instance: q of the neighbour's corner; a wall corner that takes a depth across the wall; a refusal that has filled a part
+-- of d.
 abbrev pub VorticityPromise : State → (d : List ℤ) (answer : Answer) (d′ : List ℤ) → Type 0
-VorticityPromise s d answer d′ = Fills answerOf toldAnswer (vorticityTest s (length d)) (cells s) (vorticity s into d ∷ []) answer (d′ ∷ [])
+VorticityPromise s d answer d′ = Fills answerOf toldAnswer (vorticityTest s (length d)) (corners s) (vorticity s into d ∷ []) answer (d′ ∷ [])
 
 -- ---- tendencies, from a lent q into dh (-D), du (Tu) and dv (Tv): 1, 2, 3, 4, 5, 8
 

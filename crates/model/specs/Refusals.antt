@@ -7,12 +7,12 @@ use lib.IntN.{ℤ, pos}
 use lib.ListN.{length, getD}
 use Rattle.model.specs.Numbers.{Limits, within, eqℤ, gravityLimits, coriolisLimits, ratioLimits, longestSide, longestRun, mostMilliseconds}
 use Rattle.model.specs.Fields.{limitsOf, narrowOf}
-use Rattle.model.specs.State.{State, parametersOf, cells, barrierNumbers, known, boundaryOf, closedWest, closedSouth}
+use Rattle.model.specs.State.{State, parametersOf, cells, corners, barrierNumbers, known, boundaryOf, closedWest, closedSouth}
 use Rattle.model.specs.Tests.{Test, asks, seeks}
 use Rattle.model.specs.declared.Parameters.{Parameters}
 use Rattle.model.specs.declared.Timestamp.{Timestamp}
 use Rattle.model.specs.declared.Field.{Field}
-use Rattle.model.specs.declared.Field.the-variants.{Depth, Bottom, VelocityU, VelocityV, Barriers}
+use Rattle.model.specs.declared.Field.the-variants.{Depth, Bottom, VelocityU, VelocityV, Vorticity, Inflow, Barriers}
 use Rattle.model.specs.declared.Refusal.{Refusal}
 use Rattle.model.specs.declared.Refusal.the-variants.{Grid, Lengths, Constants, Value, ClosedEdge, Destination, Milliseconds, NoSuchCell}
 
@@ -25,13 +25,26 @@ pub record Taken : Type 0 where
   pub limits : Limits
   pub numbers : List ℤ
 
--- a field with 01's bounds, one number a cell
+-- how many numbers a field has: q one a corner, every other field one a cell
+abbrev pub countOf : State → Field → ℕ
+countOf s Depth = cells s
+countOf s Bottom = cells s
+countOf s VelocityU = cells s
+countOf s VelocityV = cells s
+countOf s Vorticity = corners s
+countOf s Inflow = cells s
+countOf s Barriers = cells s
+
+-- m numbers of a field, with 01's bounds; and as many as it has in a state
+abbrev pub takenOf : ℕ → Field → List ℤ → Taken
+takenOf m f numbers = record { field = f; count = m; limits = limitsOf f; numbers = numbers }
+
 abbrev pub taken : State → Field → List ℤ → Taken
-taken s f numbers = record { field = f; count = cells s; limits = limitsOf f; numbers = numbers }
+taken s f numbers = takenOf (countOf s f) f numbers
 
 -- the same with 02's narrow bounds
 abbrev pub narrowed : State → Field → List ℤ → Taken
-narrowed s f numbers = record { field = f; count = cells s; limits = narrowOf f; numbers = numbers }
+narrowed s f numbers = record { field = f; count = countOf s f; limits = narrowOf f; numbers = numbers }
 
 -- the state's own, in 01's order, and 02's barriers; a call takes others after these
 abbrev pub fieldsOf : State → List Taken

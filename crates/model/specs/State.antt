@@ -9,7 +9,7 @@ use lib.ListN.{length, getD, take}
 use denote.Ref.{RefT, now}
 use denote.Triple.Both.{Both}
 use Rattle.model.specs.Numbers.{Limits, Within, depthLimits, bottomLimits, velocityLimits, gravityLimits, coriolisLimits, ratioLimits, barrierLimits, longestSide}
-use Rattle.model.specs.Grid.{at}
+use Rattle.model.specs.Grid.{at, cornersOf}
 use Rattle.model.specs.declared.Parameters.{Parameters}
 use Rattle.model.specs.declared.Boundary.the-variants.{Periodic, Channel, Basin}
 use Rattle.model.specs.declared.BoundaryByte.{BoundaryByte}
@@ -107,6 +107,27 @@ wallSouth (Known Periodic) j = false
 wallSouth (Known Channel) j = eqb j 0
 wallSouth (Known Basin) j = eqb j 0
 wallSouth Unknown j = false
+
+-- ---- corners (02, U5)
+
+-- whether rows end at walls, in the west and in the east, and columns in the south and in the north: the wrap makes the wall along the first
+-- edges of a side the wall at its other end too
+abbrev pub walledWest : State → Bool
+walledWest s = wallWest (boundaryOf (s .kind)) 0
+
+abbrev pub walledSouth : State → Bool
+walledSouth s = wallSouth (boundaryOf (s .kind)) 0
+
+-- the grid of corners, which potential vorticity is held at: corner (x, y) has index y·cornerColumns + x. A side with walls has corners of its
+-- own at either end: kind 0 has w by n corners, kind 1 w by n + 1, kind 2 w + 1 by n + 1
+abbrev pub cornerColumns : State → ℕ
+cornerColumns s = cornersOf (walledWest s) (s .w)
+
+abbrev pub cornerRows : State → ℕ
+cornerRows s = cornersOf (walledSouth s) (s .n)
+
+abbrev pub corners : State → ℕ
+corners s = cornerColumns s * cornerRows s
 
 -- ---- barriers (02: piers)
 

@@ -7,10 +7,10 @@ use Prim.Native.Nat.{ℕ, _+_, _*_, _/_, _%_, _<_}
 use lib.IntN.{ℤ, pos, negℤ}
 use lib.ListN.{length, getD, take, drop}
 use Rattle.model.specs.Grid.{at, filled, byCell}
-use Rattle.model.specs.State.{State, cells, WithinLimits}
+use Rattle.model.specs.State.{State, cells, cornerColumns, cornerRows, corners, WithinLimits}
 use Rattle.model.specs.Scheme.{D, tendencyU, tendencyV, hTendencies, uTendencies, vTendencies, vorticityAt, vorticity}
 use Rattle.model.specs.Promises.{leftBy, answerOf, vorticityTests, vorticityTest, VorticityPromise, tendenciesTest, TendenciesPromise}
-use Rattle.model.specs.Claims.{Holds, TendenciesAcceptedClaim, TendenciesClaim}
+use Rattle.model.specs.Claims.{HoldsCorners, TendenciesAcceptedClaim, TendenciesClaim}
 use Rattle.model.specs.declared.Refusal.{Refusal}
 use Rattle.model.specs.declared.Answer.the-variants as Answer
 use Rattle.theorems.specs.Truth.{_⟫_, differ}
@@ -87,18 +87,18 @@ tendencies-fill s q dh du dv dh′ du′ dv′ p =
 -- the potential vorticity of a state that is within the limits
 pub record Vorticities (s : State) (d d′ : List ℤ) : Type 0 where
   pub inside : WithinLimits s
-  pub cell : Holds s d′ (vorticityAt s)
-  pub first : take (cells s) d′ ≡ vorticity s
-  pub rest : drop (cells s) d′ ≡ drop (cells s) d
+  pub corner : HoldsCorners s d′ (vorticityAt s)
+  pub first : take (corners s) d′ ≡ vorticity s
+  pub rest : drop (corners s) d′ ≡ drop (corners s) d
 
 pub vorticity-fill : (s : State) (d d′ : List ℤ) → VorticityPromise s d Answer.Accepted d′ → Vorticities s d d′
 unfolding vorticityTest vorticity
 vorticity-fill s d d′ p =
     let e = done-iff (vorticityTest s (length d)) .0 (sym (p .answers)) in
-    let l = left (s .w) (s .n) (vorticityAt s) d d′ (vorticityTest s (length d)) e (cc (p .fills)) in
+    let l = left (cornerColumns s) (cornerRows s) (vorticityAt s) d d′ (vorticityTest s (length d)) e (cc (p .fills)) in
     record {
-      inside = (passes (vorticityTests s (length d)) ⟫ accepted .call s [] (cells s) (length d ∷ [])) .0 e .0;
-      cell = left-at l;
+      inside = (passes (vorticityTests s (length d)) ⟫ accepted .call s [] (corners s) (length d ∷ [])) .0 e .0;
+      corner = left-at l;
       first = l .first;
       rest = l .rest;
     }

@@ -12,6 +12,7 @@ pub mod Refused
 pub mod Filling
 pub mod Probes
 pub mod Vorticity
+pub mod WallCorners
 -- what is kept
 pub mod Conservation
 pub mod ZeroRates

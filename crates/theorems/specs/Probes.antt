@@ -13,7 +13,7 @@ use lib.ListN.{length, getD}
 use lib.Ieee.{Float, nan}
 use Rattle.model.specs.Numbers.{Within, depthLimits, bottomLimits}
 use Rattle.model.specs.Numbers.{narrowDepthLimits, narrowBottomLimits, narrowVelocityLimits, narrowVorticityLimits}
-use Rattle.model.specs.State.{State, cells, closedWest, closedSouth}
+use Rattle.model.specs.State.{State, cells, corners, closedWest, closedSouth}
 use Rattle.model.specs.Answers.{toldProbe}
 use Rattle.model.specs.Tests.{firstFound}
 use Rattle.model.specs.Refusals.{narrowed, valueTests}
@@ -45,7 +45,7 @@ record Inside (s : State) (q : List ℤ) : Type 0 where
   bottoms : (k : ℕ) → k < cells s → Within narrowBottomLimits (getD (s .b) k (pos 0))
   us : (k : ℕ) → k < cells s → Within narrowVelocityLimits (getD (s .u) k (pos 0))
   vs : (k : ℕ) → k < cells s → Within narrowVelocityLimits (getD (s .v) k (pos 0))
-  corners : (k : ℕ) → k < cells s → Within narrowVorticityLimits (getD q k (pos 0))
+  vorticities : (k : ℕ) → k < corners s → Within narrowVorticityLimits (getD q k (pos 0))
 
 none-iff : {R : Type 0} (o : Option R) → T (isNone o) ↔ (o ≡ none)
 none-iff none = (λ t. refl, λ e. tt)
@@ -69,9 +69,9 @@ module _ (s : State) (q : List ℤ) where
               bottoms = b .0 (p .1 .0);
               us = u .0 (p .1 .1 .0);
               vs = v .0 (p .1 .1 .1 .0);
-              corners = c .0 (p .1 .1 .1 .1 .0);
+              vorticities = c .0 (p .1 .1 .1 .1 .0);
             },
-        λ n. i .1 (h .1 (n .depths), (b .1 (n .bottoms), (u .1 (n .us), (v .1 (n .vs), (c .1 (n .corners), tt))))),
+        λ n. i .1 (h .1 (n .depths), (b .1 (n .bottoms), (u .1 (n .us), (v .1 (n .vs), (c .1 (n .vorticities), tt))))),
       )
 
   module _ (t : ProbeTaken s q) where
@@ -84,14 +84,14 @@ module _ (s : State) (q : List ℤ) where
         bottoms = λ k l. n .bottoms k l .high;
         us = λ k l. abs-within (n .us k l) tt .abs;
         vs = λ k l. abs-within (n .vs k l) tt .abs;
-        corners = λ k l. abs-within (n .corners k l) tt .abs;
+        vorticities = λ k l. abs-within (n .vorticities k l) tt .abs;
       },
       λ n. record {
         depths = λ k l. record { low = t .0 .depths .each k l .low; high = n .depths k l };
         bottoms = λ k l. record { low = t .0 .bottoms .each k l .low; high = n .bottoms k l };
         us = λ k l. within-abs 499 _ (n .us k l);
         vs = λ k l. within-abs 499 _ (n .vs k l);
-        corners = λ k l. within-abs 999999 _ (n .corners k l);
+        vorticities = λ k l. within-abs 999999 _ (n .vorticities k l);
       },
     )
 
@@ -118,7 +118,7 @@ module _ (s : State) (q : List ℤ) where
       b = λ k l. abs-within (n .bottoms k l) tt;
       u = λ k l. abs-within (n .us k l) tt;
       v = λ k l. abs-within (n .vs k l) tt;
-      corner = λ k l. abs-within (n .corners k l) tt;
+      corner = λ k l. abs-within (n .vorticities k l) tt;
     }
 
 -- what an answer's mark says of the grid

@@ -10,7 +10,7 @@ use lib.IntN.{ℤ, pos, _+ℤ_, _*ℤ_}
 use lib.ListN.{length, take}
 use Rattle.model.specs.Numbers.{rnd, total}
 use Rattle.model.specs.Grid.{at, byCell}
-use Rattle.model.specs.State.{State, withFlow, cells, closedWest, closedSouth, WithinLimits}
+use Rattle.model.specs.State.{State, withFlow, cells, corners, closedWest, closedSouth, WithinLimits}
 use Rattle.model.specs.Refusals.{Taken, taken, lengthTests}
 use Rattle.model.specs.Scheme.{vorticity, Tu, Tv, tendencyU, tendencyV}
 use Rattle.model.specs.Step.{Place, place, leavesTests, X, Y, newDepth, newU, newV, pass, leaves, Outcome, moved, stuck, passed, second, twoPass, afterStep, stepTest, stepStateBy, stepState}
@@ -29,7 +29,7 @@ use Rattle.theorems.specs.Depth.{depth-sum}
 
 module _ (base given : State) (du dv : List ℤ) (ew : given .w ≡ base .w) (en : given .n ≡ base .n) (g : Given given du dv) (i j : ℕ) (p : i < base .w) (r : j < base .n) where
   abbrev q : List ℤ
-  q = take (cells given) (g .q)
+  q = take (corners given) (g .q)
 
   own : q ≡ vorticity given
   own = vorticity-fill given (g .d) (g .q) (g .vorticity) .first

@@ -1,5 +1,5 @@
 -- Every theorem. `theorems` has each claim of the model, proved. Assumes nothing.
-use Rattle.model.specs.Claims.{LimitsClaim, AcceptedClaim, ScanClaim, TestClaim, CausesClaim, ReadCausesClaim, MetClaim, FixedClaim, RefusedClaim, WorkClaim, RoundingClaim, FormulaClaim, OwnVorticityClaim, VorticityClaim, TendenciesAcceptedClaim, TendenciesClaim, ProbeClaim, ProbeGridClaim, PassClaim, StepClaim, RunClaim, RunEndsClaim, RunStepsClaim, TotalsClaim, WriteAcceptedClaim, RoundTripClaim, ReadClaim, ProgramClaim, OutputClaim, RewriteClaim, RestoredClaim, AnyOrderClaim, AbsentClaim, CompareClaim, EnergyRateClaim, EnergyClaim, EnstrophyClaim, PeriodicEnstrophyClaim, BalanceClaim, KeptClaim}
+use Rattle.model.specs.Claims.{LimitsClaim, AcceptedClaim, ScanClaim, TestClaim, CausesClaim, ReadCausesClaim, MetClaim, FixedClaim, RefusedClaim, WorkClaim, RoundingClaim, FormulaClaim, OwnVorticityClaim, VorticityClaim, WallCornerClaim, CellCornersClaim, TendenciesAcceptedClaim, TendenciesClaim, ProbeClaim, ProbeGridClaim, PassClaim, StepClaim, RunClaim, RunEndsClaim, RunStepsClaim, TotalsClaim, WriteAcceptedClaim, RoundTripClaim, ReadClaim, ProgramClaim, OutputClaim, RewriteClaim, RestoredClaim, AnyOrderClaim, AbsentClaim, CompareClaim, EnergyRateClaim, EnergyClaim, AnyCornersEnergyClaim, EnstrophyClaim, PeriodicEnstrophyClaim, BalanceClaim, KeptClaim}
 use Rattle.model.specs.Step.{Place}
 use Rattle.model.specs.declared.Refusal.{Refusal}
 use Rattle.theorems.specs.Limits.{limits-tested, accepted}
@@ -12,6 +12,7 @@ use Rattle.theorems.specs.Refused.{refused-leaves, work-left}
 use Rattle.integers.specs.Rounding.{rounding}
 use Rattle.integers.specs.Formulas.{formulas}
 use Rattle.theorems.specs.Vorticity.{within-limit, vorticity-within}
+use Rattle.theorems.specs.WallCorners.{wall-corners, cell-corners}
 use Rattle.theorems.specs.Filling.{tendencies-accepted, tendencies-fill}
 use Rattle.theorems.specs.Probes.{probe, probe-grid}
 use Rattle.theorems.specs.Stepping.{pass-given, step-within}
@@ -26,7 +27,7 @@ use Rattle.theorems.specs.AnyOrder.{any-order}
 use Rattle.theorems.specs.AbsentTag.{absent-tag}
 use Rattle.theorems.specs.Comparing.{comparison}
 use Rattle.theorems.specs.ProductRule.{energy-rate}
-use Rattle.theorems.specs.ZeroRates.{energy-zero, enstrophy-zero, periodic-enstrophy}
+use Rattle.theorems.specs.ZeroRates.{energy-zero, any-corners-energy, enstrophy-zero, periodic-enstrophy}
 use Rattle.theorems.specs.Balances.{totals, balance, kept}
 -- The laws behind energy, enstrophy and total depth, for any fluxes, Bernoulli function, weights of each cell and closed edges
 pub use Rattle.theorems.specs.Conservation.{mass-law, energy-law, enstrophy-law}
@@ -52,6 +53,8 @@ pub record Theorems : Type 0 where
   pub formulas : FormulaClaim
   pub own-vorticity : OwnVorticityClaim
   pub vorticity : VorticityClaim
+  pub wall-corners : WallCornerClaim
+  pub cell-corners : CellCornersClaim
   pub tendencies-accepted : TendenciesAcceptedClaim
   pub tendencies : TendenciesClaim
   pub probe : ProbeClaim
@@ -75,6 +78,7 @@ pub record Theorems : Type 0 where
   -- demand 3: what is kept
   pub energy-rate : EnergyRateClaim
   pub energy : EnergyClaim
+  pub any-corners-energy : AnyCornersEnergyClaim
   pub enstrophy : EnstrophyClaim
   pub periodic-enstrophy : PeriodicEnstrophyClaim
   pub balance : BalanceClaim
@@ -98,6 +102,8 @@ theorems =
       formulas = formulas;
       own-vorticity = within-limit;
       vorticity = vorticity-within;
+      wall-corners = wall-corners;
+      cell-corners = cell-corners;
       tendencies-accepted = tendencies-accepted;
       tendencies = tendencies-fill;
       probe = probe;
@@ -120,6 +126,7 @@ theorems =
       compare = comparison;
       energy-rate = energy-rate;
       energy = energy-zero;
+      any-corners-energy = any-corners-energy;
       enstrophy = enstrophy-zero;
       periodic-enstrophy = periodic-enstrophy;
       balance = balance;
