@@ -11,7 +11,7 @@ use lib.Dec.{lit≤}
 use lib.IntN.{pos}
 use lib.ListN.{length, getD, replicate}
 use Rattle.model.specs.Numbers.{vorticityLimits}
-use Rattle.model.specs.State.{stateOf, cells, FieldWithin, WithinLimits}
+use Rattle.model.specs.State.{stateOf, cells, corners, FieldWithin, WithinLimits}
 use Rattle.model.specs.Answers.{number, answerNumbers}
 use Rattle.model.specs.Rates.{energyRate, enstrophyRate}
 use Rattle.model.specs.Promises.{TendenciesPromise}
@@ -44,7 +44,7 @@ done (Refused x) e = absurd (omega (arith, from-one x, e))
 -- a state within the limits, with any q within its bound and destinations that have room
 pub record Taken (call : TendenciesCall) : Type 0 where
   pub state : WithinLimits (call .state)
-  pub vorticity : FieldWithin vorticityLimits (cells (call .state)) (call .q)
+  pub vorticity : FieldWithin vorticityLimits (corners (call .state)) (call .q)
   pub depth : cells (call .state) ≤ length (call .dh)
   pub velocity-u : cells (call .state) ≤ length (call .du)
   pub velocity-v : cells (call .state) ≤ length (call .dv)

@@ -105,6 +105,6 @@ pub record Rounded (a b entry : ℤ) (k : ℕ) (exit : ℤ) : Type 0 where
 
 -- ---- version
 
--- 0.7.0
+-- 0.8.0
 abbrev pub version : ℕ
-version = 700
+version = 800

@@ -375,5 +375,5 @@ pub extern "C" fn basin_rnd(a: i64, b: i64, rounded: &mut i64) -> u64
 pub extern "C" fn basin_version() -> u64
     ensures { λ k. ⌜ k ≡ version ⌝ }
 {
-    700
+    800
 }

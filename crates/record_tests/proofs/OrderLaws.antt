@@ -10,8 +10,7 @@ use lib.ListN.{length, getD, replicate}
 use Rattle.model.specs.Numbers.{eqℤ}
 use Rattle.model.specs.State.{State, stateOf, parametersOf, cells, boundaryOf, wallWest, wallSouth, barsWest, barsSouth, closedWest, closedSouth}
 use Rattle.model.specs.Tests.{Test, seeks, must, _then_, firstFound}
-use Rattle.model.specs.Refusals.{taken, fieldsOf, gridKnown, edgeTests, timedContentTests, roomTests}
-use Rattle.model.specs.Fields.{limitsOf}
+use Rattle.model.specs.Refusals.{takenOf, fieldsOf, gridKnown, edgeTests, timedContentTests, roomTests}
 use Rattle.model.specs.Record.{Size, fixed, perCell, tagTable, Part, bytesTest, bytesTests, recordTest, Walked, damaged, whole, walked, stateIn, timestampIn, judged, readBy, decode}
 use Rattle.model.specs.Promises.{answerOf}
 use Rattle.model.specs.Claims.{Missing, BytesOf}
@@ -29,7 +28,7 @@ use Rattle.theorems.specs.RoundTrip.{bytes-iff}
 use Rattle.grid.specs.CellFields.{same-at}
 use Rattle.grid.specs.declared.Edge.{Edge}
 use Rattle.grid.specs.declared.Edge.the-variants.{West, South}
-use Rattle.tests.specs.Sought.{bare, stillTest, edges-are, barriersTest}
+use Rattle.tests.specs.Sought.{stillTest, edges-are, barriersTest}
 use Rattle.tests.specs.Links.{after, Chain, idle, passed, small-inside, accepted-none, refused-some}
 use Rattle.record_tags.specs.Places.{partsIn, Placed, Found}
 use Rattle.record_tests.specs.RecordTested.{stateRead, Meant, Examined}
@@ -44,8 +43,8 @@ module _ {rec at : List ℕ} {p : Parameters} (z : Meant rec at p) where
   cells-are = ap (λ (p : Parameters). p .w * p .n) (z .parameters)
 
   -- as test 4 takes one
-  pub own-taken : (field : Field) {l f : List ℤ} → l ≡ f → taken (bare p) field l ≡ taken s field f
-  own-taken field e = λ i. record { field = field; count = cells-are i; limits = limitsOf field; numbers = e i }
+  pub own-taken : (field : Field) {l f : List ℤ} → l ≡ f → takenOf (p .w * p .n) field l ≡ takenOf (cells s) field f
+  own-taken field e = λ i. takenOf (cells-are i) field (e i)
 
   -- u's edges, then v's
   pub own-edges : stillTest p (s .barriers) West VelocityU (s .u) ∷ stillTest p (s .barriers) South VelocityV (s .v) ∷ [] ≡ edgeTests s

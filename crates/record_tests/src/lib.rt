@@ -6,14 +6,14 @@ ghost use Prim.Native.Nat.{_*_, _≤_};
 ghost use lib.ListN.{length, replicate};
 ghost use Rattle.model.specs.Grid.{firstFrom};
 ghost use Rattle.model.specs.State.{parametersOf};
-ghost use Rattle.model.specs.Refusals.{taken, fieldsOf, valueTest, valueTests, edgeTests};
+ghost use Rattle.model.specs.Refusals.{takenOf, fieldsOf, valueTest, valueTests, edgeTests};
 ghost use Rattle.model.specs.Record.{tagTable, sizeIn, has, valueOf, timestampIn, bytesTest, bytesTests, recordTest};
 ghost use Rattle.model.specs.Promises.{answerOf};
 ghost use Rattle.model.specs.Claims.{BytesOf};
 ghost use Rattle.model.specs.declared.Answer.the-variants.{Accepted};
 ghost use Rattle.model.specs.declared.Refusal.the-variants.{Value};
 ghost use Rattle.integers.specs.Ranges.{between};
-ghost use Rattle.tests.specs.Sought.{bare, edgesOf, foundBy, outsideIn, movingAt, badIn, stillTest};
+ghost use Rattle.tests.specs.Sought.{edgesOf, foundBy, outsideIn, movingAt, badIn, stillTest};
 ghost use Rattle.tests.specs.Links.{after};
 ghost use Rattle.record_bytes.specs.NumberSizes.{sizeOf, numbersBy};
 ghost use Rattle.record_bytes.specs.TagSizes.{lastTag};
@@ -170,7 +170,7 @@ fn then_field_in(earlier: Answer, p: Parameters, value: &[u8], size: Size, field
     requires { ⌜ (earlier ≡ Accepted → length (now value) ≡ p .w * p .n * sizeOf size) ⌝ }
     ensures { λ r. ⌜
         (let numbers = numbersBy size (p .w * p .n) (now (value .entry)) in
-        r ≡ after earlier (valueTest Value (taken (bare p) field numbers) ∷ []))
+        r ≡ after earlier (valueTest Value (takenOf (p .w * p .n) field numbers) ∷ []))
         ⌝ }
 {
     then_within_in(earlier, p, value, size, field, tests::limits(field))

@@ -7,7 +7,7 @@ use lib.ListN.{length, getD}
 use denote.Ref.{RefT, now}
 use denote.Triple.Both.{Both}
 use Rattle.model.specs.Numbers.{Limits, Within, gravityLimits, coriolisLimits, ratioLimits, depthLimits, bottomLimits, velocityLimits, vorticityLimits}
-use Rattle.model.specs.State.{State, stateOf, Side, cells, FieldWithin, WithinLimits}
+use Rattle.model.specs.State.{State, stateOf, Side, cells, corners, FieldWithin, WithinLimits}
 use Rattle.model.specs.declared.Parameters.{Parameters}
 use Rattle.grid.specs.Stencils.{Below}
 use Rattle.grid.specs.declared.Stencil.{Stencil}
@@ -65,7 +65,7 @@ pub record StateReady (s : State) : Type 0 where
 
 pub record TendenciesReady (s : State) (q : List ℤ) : Type 0 where
   pub state : StateReady s
-  pub vorticity : FieldWithin vorticityLimits (cells s) q
+  pub vorticity : FieldWithin vorticityLimits (corners s) q
 
-pub ready : {s : State} {q : List ℤ} → WithinLimits s → FieldWithin vorticityLimits (cells s) q → TendenciesReady s q
+pub ready : {s : State} {q : List ℤ} → WithinLimits s → FieldWithin vorticityLimits (corners s) q → TendenciesReady s q
 ready l v = record { state = search l; vorticity = v }

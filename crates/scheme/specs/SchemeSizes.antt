@@ -10,13 +10,14 @@ use mir.Syntax.{w64}
 use mir.Facts.{and-yes}
 use Rattle.model.specs.Numbers.{Within, all, depthLimits, bottomLimits, velocityLimits, gravityLimits}
 use Rattle.model.specs.Grid.{at}
-use Rattle.model.specs.State.{State, Side, cells, FieldWithin}
+use Rattle.model.specs.State.{State, Side, cells, walledWest, walledSouth, cornerColumns, cornerRows, FieldWithin}
 use Rattle.model.specs.Scheme.{cornerWeight, weight, fluxU, fluxV, B}
 use Rattle.model.specs.Weights.{weights, weightAt, weighted}
 use Rattle.integers.specs.Ring.{Expr, var, con, _⊕_, _⊖_, _⊗_}
 use Rattle.integers.specs.Bounds.{Abs, Sizes, ∎, _◂_, held, size, exact}
 use Rattle.integers.specs.Magnitudes.{depth-size, bottom-size, velocity-size, gravity-size, vorticity-size}
 use Rattle.grid.specs.Cells.{cell-lt, previous-lt, next-lt}
+use Rattle.grid.specs.Corners.{corners-some, corners-more}
 use Rattle.scheme.specs.Ready.{ReadsAt, reads, StateReady, TendenciesReady}
 use Rattle.scheme.specs.Shares.{mostCorner, mostWeight, mostFlux, mostBernoulli, mostHead, mostShare, fluxAt, squaresAt, geopotentialAt, Fit, westShare, eastShare, southShare, northShare, weightsIn, fluxesIn, headIn}
 use Rattle.scheme.specs.declared.Weights.{Weights}
@@ -141,13 +142,15 @@ module _ {s : State} {q : List ℤ} (l : TendenciesReady s q) {i j : ℕ} (p : i
   weight-size : (row : ℕ) → Abs (weight s q row i j) mostWeight
   unfolding cornerWeight
   weight-size row =
-      let east = next-lt (s .w) i (l .state .columns .some) in
-      let north = next-lt (s .n) j (l .state .rows .some) in
+      let west = corners-more (walledWest s) p in
+      let south = corners-more (walledSouth s) r in
+      let east = next-lt (cornerColumns s) i (corners-some (walledWest s) (l .state .columns .some)) in
+      let north = next-lt (cornerRows s) j (corners-some (walledSouth s) (l .state .rows .some)) in
       weighted-size row
       (vorticity-size (reads (l .vorticity) (cell-lt east north) .value))
-      (vorticity-size (reads (l .vorticity) (cell-lt p north) .value))
-      (vorticity-size (reads (l .vorticity) (cell-lt p r) .value))
-      (vorticity-size (reads (l .vorticity) (cell-lt east r) .value))
+      (vorticity-size (reads (l .vorticity) (cell-lt west north) .value))
+      (vorticity-size (reads (l .vorticity) (cell-lt west south) .value))
+      (vorticity-size (reads (l .vorticity) (cell-lt east south) .value))
 
   pub fit-in : Fit (weightsIn s q i j) (fluxesIn s i j) (headIn s i j)
   fit-in =

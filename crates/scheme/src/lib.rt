@@ -14,11 +14,13 @@ ghost use lib.IntN.{pos, negℤ, _+ℤ_, _-ℤ_, _*ℤ_};
 ghost use lib.ListN.{length, getD};
 ghost use Rattle.model.specs.Numbers.{rnd, bernoulliScale, tendencyScale, Within, gravityLimits, coriolisLimits, ratioLimits, depthLimits};
 ghost use Rattle.model.specs.Numbers.{bottomLimits, velocityLimits};
-ghost use Rattle.model.specs.State.{FieldWithin, stateOf};
+ghost use Rattle.model.specs.Grid.{filled};
+ghost use Rattle.model.specs.State.{FieldWithin, stateOf, corners};
 ghost use Rattle.model.specs.Weights.{weightAt};
-ghost use Rattle.model.specs.Scheme.{vorticityAt};
+ghost use Rattle.model.specs.Scheme.{vorticityAt, vorticity};
 ghost use Rattle.model.specs.Step.{X, Y};
 ghost use Rattle.integers.specs.Bounds.{Abs};
+ghost use Rattle.grid.specs.Corners.{Corner};
 ghost use Rattle.scheme.specs.Ready.{ReadsAt, VorticityReady, FlowReady, Flow, TendenciesReady, walled, walledBefore};
 ghost use Rattle.scheme.specs.Shares.{mostFlux, mostBernoulli, mostShare, mostTendency, weightedBy, CornersWithin, squaresAt, fluxAt};
 ghost use Rattle.scheme.specs.Shares.{geopotentialAt, westShare, eastShare, southShare, northShare, Fit, IsShares, AreShares};
@@ -36,49 +38,85 @@ const VORTICITY_SCALE: i64 = 262144;
 
 // ---- potential vorticity
 
-// The depth of the four cells around a corner: 01's H.
-fn depth_around(h: &[i64], here: usize, west: usize, south: usize, southwest: usize) -> i64
+// The depth of the four cells around a corner: 01's H. On a wall a cell inside comes more than once.
+fn depth_around(h: &[i64], ne: usize, nw: usize, se: usize, sw: usize) -> i64
     requires { ⌜
-        ReadsAt depthLimits (now h) here
-        × ReadsAt depthLimits (now h) west
-        × ReadsAt depthLimits (now h) south
-        × ReadsAt depthLimits (now h) southwest
+        ReadsAt depthLimits (now h) ne
+        × ReadsAt depthLimits (now h) nw
+        × ReadsAt depthLimits (now h) se
+        × ReadsAt depthLimits (now h) sw
         ⌝ }
     ensures { λ r. ⌜
-        r ≡ getD (now (h .entry)) here (pos 0) +ℤ getD (now (h .entry)) west (pos 0) +ℤ getD
-        (now (h .entry)) south (pos 0) +ℤ getD (now (h .entry)) southwest (pos 0)
+        (let depth = now (h .entry) in
+        r ≡ getD depth ne (pos 0) +ℤ getD depth nw (pos 0) +ℤ getD depth se (pos 0) +ℤ getD depth sw (pos 0))
         ⌝ }
 {
-    h[here] + h[west] + h[south] + h[southwest]
+    h[ne] + h[nw] + h[se] + h[sw]
 }
 
-// The absolute vorticity at a corner, times spacing: 01's Z.
-fn absolute_vorticity(c: i64, u: &[i64], v: &[i64], here: usize, west: usize, south: usize) -> i64
+// The absolute vorticity at a corner, times spacing: 01's Z. On a wall it is c.
+fn absolute_vorticity(
+    wall: bool,
+    c: i64,
+    u: &[i64],
+    v: &[i64],
+    ne: usize,
+    nw: usize,
+    se: usize,
+) -> i64
     requires { ⌜
         Within coriolisLimits c
-        × ReadsAt velocityLimits (now v) here
-        × ReadsAt velocityLimits (now v) west
-        × ReadsAt velocityLimits (now u) south
-        × ReadsAt velocityLimits (now u) here
+        × ReadsAt velocityLimits (now v) ne
+        × ReadsAt velocityLimits (now v) nw
+        × ReadsAt velocityLimits (now u) se
+        × ReadsAt velocityLimits (now u) ne
         ⌝ }
     ensures { λ r. ⌜
-        r ≡ c +ℤ getD (now (v .entry)) here (pos 0) -ℤ getD (now (v .entry)) west (pos 0) +ℤ getD
-        (now (u .entry)) south (pos 0) -ℤ getD (now (u .entry)) here (pos 0)
+        (let west = now (u .entry) in
+        let south = now (v .entry) in
+        r ≡ cond wall c
+        (c +ℤ getD south ne (pos 0) -ℤ getD south nw (pos 0) +ℤ getD west se (pos 0) -ℤ getD west ne (pos 0)))
         ⌝ }
 {
-    c + v[here] - v[west] + u[south] - u[here]
+    if wall {
+        return c;
+    }
+    c + v[ne] - v[nw] + u[se] - u[ne]
 }
 
-// The potential vorticity at a cell's southwest corner. The bottom and the barriers do not enter: in the contract there are none. It
-// rules out, for instance: one of the four depths left out; the difference of v taken backwards.
-pub fn vorticity_at(p: Parameters, h: &[i64], u: &[i64], v: &[i64], i: usize, j: usize) -> i64
-    requires { ⌜ VorticityReady p (now h) (now u) (now v) × (i < p .w) × (j < p .n) ⌝ }
-    ensures { λ r. ⌜ r ≡ vorticityAt (stateOf p (now (h .entry)) [] (now (u .entry)) (now (v .entry)) []) i j ⌝ }
+// The potential vorticity at corner (x, y). The bottom and the barriers do not enter: in the contract there are none. It rules out, for
+// instance: a depth across a wall; velocities at a wall; the difference of v taken backwards.
+pub fn vorticity_at(p: Parameters, h: &[i64], u: &[i64], v: &[i64], x: usize, y: usize) -> i64
+    requires { ⌜ VorticityReady p (now h) (now u) (now v) × Corner (p .kind) (p .w) (p .n) x y ⌝ }
+    ensures { λ r. ⌜ r ≡ vorticityAt (stateOf p (now (h .entry)) [] (now (u .entry)) (now (v .entry)) []) x y ⌝ }
 {
-    let a = grid::around(p.w, p.n, i, j);
-    let z = absolute_vorticity(p.c, u, v, a.here, a.west, a.south);
-    let depth = depth_around(h, a.here, a.west, a.south, a.southwest);
+    let a = grid::cells_around(p.kind, p.w, p.n, x, y);
+    let wall = grid::is_on_wall(p.kind, p.w, p.n, x, y);
+    let z = absolute_vorticity(wall, p.c, u, v, a.ne, a.nw, a.se);
+    let depth = depth_around(h, a.ne, a.nw, a.se, a.sw);
     integers::rnd(VORTICITY_SCALE * z, depth)
+}
+
+// Fills the first places of d with the potential vorticity at every corner. The potential vorticity call and a pass share this loop. It rules
+// out, for instance: the corners of row n left out; corner (y, x) for (x, y).
+pub fn fill_vorticity(p: Parameters, h: &[i64], u: &[i64], v: &[i64], d: &mut [i64])
+    requires { ⌜
+        VorticityReady p (now h) (now u) (now v)
+        × (corners (stateOf p [] [] [] [] []) ≤ length (now d))
+        ⌝ }
+    ensures { λ _. ⌜
+        (let s = stateOf p (now (h .entry)) [] (now (u .entry)) (now (v .entry)) [] in
+        now (d .exit) ≡ filled (corners s) (vorticity s) (now (d .entry)))
+        ⌝ }
+{
+    let columns = grid::corner_columns(p.kind, p.w);
+    let rows = grid::corner_rows(p.kind, p.n);
+    for y in 0..rows {
+        for x in 0..columns {
+            let k = y * columns + x;
+            d[k] = vorticity_at(p, h, u, v, x, y);
+        }
+    }
 }
 
 // ---- weights
@@ -102,7 +140,7 @@ pub struct Corners {
     pub se: i64,
 }
 
-// Each is held at the southwest corner of its cell.
+// By their indices.
 fn corners_at(q: &[i64], ne: usize, nw: usize, sw: usize, se: usize) -> Corners
     requires { ⌜
         (ne < length (now q))
@@ -327,7 +365,8 @@ pub fn shares_at(
     ensures { λ r. ⌜ IsShares (walledBefore p h b u v) (now (q .entry)) i j r ⌝ }
 {
     let a = grid::around(p.w, p.n, i, j);
-    let weights = weights_of(corners_at(q, a.northeast, a.north, a.here, a.east));
+    let k = grid::cell_corners(p.kind, p.w, p.n, i, j);
+    let weights = weights_of(corners_at(q, k.ne, k.nw, k.sw, k.se));
     let fluxes = fluxes_at(h, u, v, a);
     let bernoulli = bernoulli_at(p.g, h, b, u, v, a);
     shares_of(weights, fluxes, bernoulli)

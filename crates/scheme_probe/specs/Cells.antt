@@ -7,14 +7,16 @@ use lib.IntN.{ℤ, pos}
 use lib.ListN.{length, getD}
 use lib.Ieee.{Float, neg}
 use Rattle.model.specs.Numbers.{bernoulliScale}
-use Rattle.model.specs.State.{State, cells, boundaryOf, wallSouth, closedWest, closedSouth}
+use Rattle.model.specs.State.{State, cells, cornerColumns, cornerRows, boundaryOf, wallSouth, closedWest, closedSouth}
 use Rattle.model.specs.Weights.{weightAt}
 use Rattle.model.specs.Scheme.{toEast, toWest, toNorth, toSouth}
 use Rattle.model.specs.Doubles.{_⊞_, _⊟_, _⊠_, double, weight, fluxU, fluxV, D, B, Tu, Tv, tendencyH, tendencyU, tendencyV}
 use Rattle.integers.specs.Bounds.{Abs}
 use Rattle.grid.specs.Cells.{previous-next}
 use Rattle.grid.specs.Stencils.{IsAround}
+use Rattle.grid.specs.Corners.{AreCorners}
 use Rattle.grid.specs.declared.Stencil.{Stencil}
+use Rattle.grid.specs.declared.Four.{Four}
 use Rattle.scheme.specs.Ready.{TendenciesReady}
 use Rattle.scheme.specs.Shares.{mostCorner}
 use Rattle.scheme.specs.Masking.{unbarred}
@@ -130,14 +132,15 @@ from-barred s g = record { given = λ o. given-barred s (g .given o) }
 
 -- ---- what is read around a cell is the model's
 
-module _ (s : State) {i j : ℕ} {a : Stencil} (r : IsAround (s .w) (s .n) i j a) where
-  pub weight-around : (q : List ℤ) (row : ℕ) (c : Corners)
-      → (c .ne ≡ double (getD q (a .northeast) (pos 0))) × (c .nw ≡ double (getD q (a .north) (pos 0)))
-      × (c .sw ≡ double (getD q (a .here) (pos 0))) × (c .se ≡ double (getD q (a .east) (pos 0)))
-      → weightedBy row c ≡ weight s q row i j
-  unfolding weight
-  weight-around q row c e = rw (e .0, e .1, e .2, e .3, r .northeast, r .north, r .here, r .east)
+-- its weights, by its corners
+pub weight-around : (s : State) {i j : ℕ} {a : Four} → AreCorners (cornerColumns s) (cornerRows s) i j a → (q : List ℤ) (row : ℕ) (c : Corners)
+    → (c .ne ≡ double (getD q (a .ne) (pos 0))) × (c .nw ≡ double (getD q (a .nw) (pos 0)))
+    × (c .sw ≡ double (getD q (a .sw) (pos 0))) × (c .se ≡ double (getD q (a .se) (pos 0)))
+    → weightedBy row c ≡ weight s q row i j
+unfolding weight
+weight-around s r q row c e = rw (e .0, e .1, e .2, e .3, r .ne, r .nw, r .sw, r .se)
 
+module _ (s : State) {i j : ℕ} {a : Stencil} (r : IsAround (s .w) (s .n) i j a) where
   pub west-around : fluxAt (s .u) (s .h) (a .here) (a .west) ≡ fluxU s i j
   unfolding fluxU
   west-around = rw (r .here, r .west)

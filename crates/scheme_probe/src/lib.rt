@@ -13,7 +13,7 @@ ghost use Rattle.model.specs.Grid.{filled};
 ghost use Rattle.model.specs.State.{State, cells, lent, before, barrierAt};
 ghost use Rattle.model.specs.Doubles.{double, tendencyH, tendencyU, tendencyV, hDoubles, uDoubles, vDoubles, narrow};
 ghost use Rattle.model.specs.Promises.{marked, markedGrid, ProbePromise, ProbeGridPromise};
-ghost use Rattle.grid.specs.Stencils.{Below};
+ghost use Rattle.grid.specs.Corners.{Below4};
 ghost use Rattle.grid.specs.WritingLoops.{RowWriting};
 ghost use Rattle.scheme.specs.Ready.{TendenciesReady, walled, walledBefore};
 ghost use Rattle.scheme_tendencies.specs.CallLaws.{Room};
@@ -22,6 +22,7 @@ ghost use Rattle.scheme_probe.specs.Cells.{Ready, CornersWithin, weighte
 ghost use Rattle.scheme_probe.specs.Cells.{Gives, AreCells, AreDoubles, convergenceOf, momentumU, momentumV};
 ghost use Rattle.scheme_probe.specs.Rows.{RowFromSouth};
 use grid::Edge;
+use grid::Four;
 use grid::Stencil;
 use model::Answer;
 use model::Field;
@@ -47,20 +48,21 @@ pub struct Corners {
     pub se: f64,
 }
 
-fn corners_at(q: &[i64], a: Stencil) -> Corners
-    requires { ⌜ Holds (length (now q)) (now q) × Below (length (now q)) a ⌝ }
+// By their indices.
+fn corners_at(q: &[i64], k: Four) -> Corners
+    requires { ⌜ Holds (length (now q)) (now q) × Below4 (length (now q)) k ⌝ }
     ensures { λ r. ⌜
-        (r .ne ≡ double (getD (now (q .entry)) (a .northeast) (pos 0)))
-        × (r .nw ≡ double (getD (now (q .entry)) (a .north) (pos 0)))
-        × (r .sw ≡ double (getD (now (q .entry)) (a .here) (pos 0)))
-        × (r .se ≡ double (getD (now (q .entry)) (a .east) (pos 0)))
+        (r .ne ≡ double (getD (now (q .entry)) (k .ne) (pos 0)))
+        × (r .nw ≡ double (getD (now (q .entry)) (k .nw) (pos 0)))
+        × (r .sw ≡ double (getD (now (q .entry)) (k .sw) (pos 0)))
+        × (r .se ≡ double (getD (now (q .entry)) (k .se) (pos 0)))
         ⌝ }
 {
     Corners {
-        ne: double_at(q, a.northeast),
-        nw: double_at(q, a.north),
-        sw: double_at(q, a.here),
-        se: double_at(q, a.east),
+        ne: double_at(q, k.ne),
+        nw: double_at(q, k.nw),
+        sw: double_at(q, k.sw),
+        se: double_at(q, k.se),
     }
 }
 
@@ -156,7 +158,8 @@ fn cell_at(
     ensures { λ r. ⌜ IsCell (walledBefore p h b u v) (now (q .entry)) i j r ⌝ }
 {
     let a = grid::around(p.w, p.n, i, j);
-    let weights = weights_of(corners_at(q, a));
+    let k = grid::cell_corners(p.kind, p.w, p.n, i, j);
+    let weights = weights_of(corners_at(q, k));
     Cell {
         p: weights.p,
         m: weights.m,

@@ -9,7 +9,7 @@ use borrow.Fn.Kinds.{Dens, resT, endedOf}
 use lib.IntN.{pos}
 use lib.ListN.{length, take, replicate}
 use Rattle.model.specs.Numbers.{vorticityLimits}
-use Rattle.model.specs.State.{stateOf, cells, FieldWithin, WithinLimits}
+use Rattle.model.specs.State.{stateOf, cells, corners, FieldWithin, WithinLimits}
 use Rattle.model.specs.Rates.{energyRate, enstrophyRate}
 use Rattle.model.specs.Promises.{VorticityPromise, TendenciesPromise}
 use Rattle.model.specs.declared.Answer.the-variants.{Accepted}
@@ -23,7 +23,7 @@ use Rattle.scheme_tendencies.proofs.tendencies.Reads as tendencies-read
 -- a state within the limits, with any q within its bound and destinations that have room
 pub record Taken (call : TendenciesCall) : Type 0 where
   pub state : WithinLimits (call .state)
-  pub vorticity : FieldWithin vorticityLimits (cells (call .state)) (call .q)
+  pub vorticity : FieldWithin vorticityLimits (corners (call .state)) (call .q)
   pub depth : cells (call .state) ≤ length (call .dh)
   pub velocity-u : cells (call .state) ≤ length (call .du)
   pub velocity-v : cells (call .state) ≤ length (call .dv)
@@ -55,7 +55,7 @@ module _ (call : TendenciesCall) where
 -- ---- a call of `potential_vorticity`
 
 -- what it fills in may be lent to `tendencies`
-pub vorticity-may-be-lent : (call : VorticityCall) → call .answer ≡ Accepted → FieldWithin vorticityLimits (cells (call .state)) (take (cells (call .state)) (call .d′))
+pub vorticity-may-be-lent : (call : VorticityCall) → call .answer ≡ Accepted → FieldWithin vorticityLimits (corners (call .state)) (take (corners (call .state)) (call .d′))
 vorticity-may-be-lent call d =
     theorems .vorticity (call .state) (call .d) (call .d′) (subst (λ x. VorticityPromise (call .state) (call .d) x (call .d′)) d (call .promise)) .1
 

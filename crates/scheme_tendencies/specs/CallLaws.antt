@@ -6,7 +6,7 @@ use Prim.Native.Nat.{ℕ, _≤_}
 use lib.Dec.{T}
 use lib.IntN.{ℤ}
 use lib.ListN.{length}
-use Rattle.model.specs.State.{State, parametersOf, cells, WithinLimits}
+use Rattle.model.specs.State.{State, parametersOf, cells, corners, WithinLimits}
 use Rattle.model.specs.Tests.{firstFound}
 use Rattle.model.specs.Refusals.{taken, gridKnown, stateTests, roomTests}
 use Rattle.model.specs.Promises.{answerOf, Filling, filledBy, Fills, vorticityTests, vorticityTest, tendenciesTest}
@@ -55,10 +55,10 @@ pub record Room {A : Type 0} (m : ℕ) (dh du dv : List A) : Type 0 where
   pub u : m ≤ length du
   pub v : m ≤ length dv
 
-pub vorticity-passed : (s : State) (room : ℕ) → Accepted ≡ answerOf (vorticityTest s room) → WithinLimits s × (cells s ≤ room)
+pub vorticity-passed : (s : State) (room : ℕ) → Accepted ≡ answerOf (vorticityTest s room) → WithinLimits s × (corners s ≤ room)
 unfolding vorticityTest
 vorticity-passed s room e =
-    let a = (passes (vorticityTests s room) ⟫ accepted .call s [] (cells s) (room ∷ [])) .0 (accepted-none (vorticityTest s room) e) in (a .0, a .2 .0)
+    let a = (passes (vorticityTests s room) ⟫ accepted .call s [] (corners s) (room ∷ [])) .0 (accepted-none (vorticityTest s room) e) in (a .0, a .2 .0)
 
 pub tendencies-passed : {A : Type 0} (s : State) (q : List ℤ) (dh du dv : List A)
     → Accepted ≡ answerOf (tendenciesTest s q (length dh) (length du) (length dv))

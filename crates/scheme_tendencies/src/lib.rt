@@ -1,5 +1,5 @@
 // The calls that fill lent fields: potential vorticity, and tendencies. They go by rows and columns, without a division for an index,
-// and work each cell out once; the tendencies do the last cell of a row or column once more where the grid wraps through an open edge.
+// and work each corner and each cell out once; the tendencies do the last cell of a row or column once more where the grid wraps through an open edge.
 ghost use mathlib.Core.Path.{_≡_};
 ghost use mathlib.Core.List.{[], _∷_};
 ghost use Prim.Native.Nat.{_+_, _*_, _<_, _≤_};
@@ -13,7 +13,7 @@ ghost use Rattle.model.specs.Scheme.{D, vorticity, tendencyU, tendencyV, hTende
 ghost use Rattle.model.specs.Promises.{answerOf, VorticityPromise, TendenciesPromise};
 ghost use Rattle.model.specs.declared.Field.the-variants.{Vorticity};
 ghost use Rattle.grid.specs.WritingLoops.{RowWriting};
-ghost use Rattle.scheme.specs.Ready.{VorticityReady, TendenciesReady, walled, walledBefore};
+ghost use Rattle.scheme.specs.Ready.{TendenciesReady, walled, walledBefore};
 ghost use Rattle.scheme.specs.Handing.{HandedNorth};
 ghost use Rattle.tests.specs.Links.{after};
 ghost use Rattle.scheme_tendencies.specs.CallLaws.{Room};
@@ -23,25 +23,8 @@ use model::Parameters;
 
 // ---- potential vorticity
 
-// Fills the first w·n places of d with the potential vorticity of every cell. The bottom and the barriers do not enter: in the contract
-// there are none.
-fn fill_vorticity(p: Parameters, h: &[i64], u: &[i64], v: &[i64], d: &mut [i64])
-    requires { ⌜ VorticityReady p (now h) (now u) (now v) × (p .w * p .n ≤ length (now d)) ⌝ }
-    ensures { λ _. ⌜
-        now (d .exit) ≡ filled (p .w * p .n)
-        (vorticity (stateOf p (now (h .entry)) [] (now (u .entry)) (now (v .entry)) [])) (now (d .entry))
-        ⌝ }
-{
-    for j in 0..p.n {
-        for i in 0..p.w {
-            let k = j * p.w + i;
-            d[k] = scheme::vorticity_at(p, h, u, v, i, j);
-        }
-    }
-}
-
-// The potential vorticity of a state, into the first w·n places of d. Refusals: 1, 2, 3, 4, 5, 8.
-// It rules out, for instance: the number of cell (j, i); a destination that is not tested.
+// The potential vorticity of a state, at every corner, into the first places of d. Refusals: 1, 2, 3, 4, 5, 8.
+// It rules out, for instance: a destination of w·n places taken in a basin; a destination that is not tested.
 pub fn potential_vorticity(
     p: Parameters,
     h: &[i64],
@@ -53,13 +36,13 @@ pub fn potential_vorticity(
 ) -> Answer
     ensures { λ r. ⌜ VorticityPromise (before p h b u v barriers) (now (d .entry)) r (now (d .exit)) ⌝ }
 {
-    let m = tests::cells_of(p);
+    let m = tests::corners_of(p);
     let state = tests::test_state(p, h, b, u, v, barriers);
     let answer = tests::then_room(state, m, d.len());
     let Answer::Accepted = answer else {
         return answer;
     };
-    fill_vorticity(p, h, u, v, d);
+    scheme::fill_vorticity(p, h, u, v, d);
     Answer::Accepted
 }
 

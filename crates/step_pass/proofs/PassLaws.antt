@@ -8,8 +8,8 @@ use native.Mathlib.Omega.{arith}
 use lib.IntN.{ℤ, pos, _+ℤ_, _*ℤ_}
 use lib.ListN.{length, getD}
 use Rattle.model.specs.Numbers.{rnd, tendencyScale, depthLimits, velocityLimits, vorticityLimits}
-use Rattle.model.specs.Grid.{next, at, byCell}
-use Rattle.model.specs.State.{State, stateOf, parametersOf, cells, boundaryOf, wallWest, wallSouth, barrierAt, barsWest, barsSouth, closedWest, closedSouth, FieldWithin, WithinLimits}
+use Rattle.model.specs.Grid.{next, at, byCell, filled}
+use Rattle.model.specs.State.{State, stateOf, parametersOf, cells, cornerColumns, cornerRows, corners, boundaryOf, wallWest, wallSouth, barrierAt, barsWest, barsSouth, closedWest, closedSouth, FieldWithin, WithinLimits}
 use Rattle.model.specs.Scheme.{Z, H, vorticityAt, vorticity, fluxU, fluxV, tendencyU, tendencyV}
 use Rattle.model.specs.Step.{X, Y, newDepth, newU, newV, pass}
 use Rattle.theorems.specs.Theorems.{theorems}
@@ -18,7 +18,7 @@ use Rattle.theorems.specs.RoundTrip.{bars-long}
 use Rattle.theorems.specs.Stepping.{SameWalls, rests-west, rests-south}
 use Rattle.integers.specs.Bounds.{Abs}
 use Rattle.grid.specs.Cells.{next-lt}
-use Rattle.grid.specs.CellFields.{at-byCell, byCell-each, byCell-cong}
+use Rattle.grid.specs.CellFields.{length-byCell, take-filled, at-byCell, byCell-each, byCell-cong}
 use Rattle.grid.specs.Parts.{part}
 use Rattle.grid.specs.Banks.{Elsewhere, kept-before, kept-behind, elsewhere-then, elsewhere-wider}
 use Rattle.grid.specs.Barred.{Cleared, cleared-part, cleared-elsewhere}
@@ -31,6 +31,14 @@ use Rattle.step_pass.specs.Spaces.{baseIn, resultIn, depthBy, depthFrom,
 bottomless : (s : State) → vorticity (stateOf (parametersOf s) (s .h) [] (s .u) (s .v) []) ≡ vorticity s
 unfolding vorticity vorticityAt Z H
 bottomless s = refl
+
+-- what the potential vorticity loop has left in the first places of its slice
+pub vorticity-is : (s : State) (q₀ : List ℤ) {q₁ q : List ℤ} → let g = stateOf (parametersOf s) (s .h) [] (s .u) (s .v) [] in
+    q₁ ≡ filled (corners s) (vorticity g) q₀ → q ≡ part 0 (corners s) q₁ → q ≡ vorticity s
+unfolding vorticity
+vorticity-is s q₀ e k =
+    let g = stateOf (parametersOf s) (s .h) [] (s .u) (s .v) [] in
+    k ∙ ap (part 0 (corners s)) e ∙ take-filled (corners s) (vorticity g) q₀ (length-byCell (cornerColumns s) (cornerRows s) (vorticityAt g)) ∙ bottomless s
 
 x-bottomless : (s : State) → X (stateOf (parametersOf s) (s .h) [] (s .u) (s .v) []) ≡ X s
 unfolding X fluxU
@@ -60,10 +68,10 @@ module _ (s b : State) (q : List ℤ) (same : SameWalls s b) (l : WithinLimits b
       by true e = rests-south b s q same l i j p r (or-iff (wallSouth (boundaryOf (b .kind)) j) (barsSouth (barrierAt b i j)) .1 (inr (true-T (ap barsSouth o ∙ e))))
       by false e = ap (λ t. at (b .w) (b .v) i j +ℤ rnd t (tendencyScale *ℤ s .R)) (v-masked s q i j ∙ ap (λ bar. cond bar (pos 0) (tendencyV (unbarred s) q i j)) e)
 
--- ---- a pass with the tendencies of s: d₀ before it, d₁ once the flows and the potential vorticity are there, d₂ once the depths are,
--- d₃ once the velocities are
+-- ---- a pass with the tendencies of s: d₀ before it, d₁ once the flows are there, d₂ once the depths are, d₃ once the velocities are, with the
+-- potential vorticity q
 
-module _ (s : State) (inflow d₀ : List ℤ) (r : PassReady s inflow d₀) where
+module _ (s : State) (inflow : List ℤ) (corner-room : ℕ) (d₀ : List ℤ) (r : PassReady s inflow corner-room d₀) where
   abbrev m : ℕ
   m = cells s
 
@@ -73,7 +81,7 @@ module _ (s : State) (inflow d₀ : List ℤ) (r : PassReady s inflow d₀) wher
   abbrev Flowed : List ℤ → Type 0
   Flowed d₁ =
       let g = stateOf (parametersOf s) (s .h) [] (s .u) (s .v) [] in
-      (part (4 * m) m d₁ ≡ byCell (s .w) (s .n) (X g)) × (part (5 * m) m d₁ ≡ byCell (s .w) (s .n) (Y g)) × (part (6 * m) m d₁ ≡ vorticity g) × Elsewhere (4 * m) (7 * m) d₀ d₁
+      (part (4 * m) m d₁ ≡ byCell (s .w) (s .n) (X g)) × (part (5 * m) m d₁ ≡ byCell (s .w) (s .n) (Y g)) × Elsewhere (4 * m) (6 * m) d₀ d₁
 
   module _ {d₁ : List ℤ} (e : Flowed d₁) where
     xs-are : part (4 * m) m d₁ ≡ byCell (s .w) (s .n) (X s)
@@ -83,7 +91,7 @@ module _ (s : State) (inflow d₀ : List ℤ) (r : PassReady s inflow d₀) wher
     ys-are = e .1 ∙ ap (byCell (s .w) (s .n)) (y-bottomless s)
 
     depths-are : part 0 m d₁ ≡ part 0 m d₀
-    depths-are = let l = r .long in kept-before (e .3) 0 m (omega arith) (omega arith)
+    depths-are = let l = r .long in kept-before (e .2) 0 m (omega arith) (omega arith)
 
     -- a flow is small at every cell
     flows : (f : List ℤ) (g : ℕ → ℕ → ℤ) → f ≡ byCell (s .w) (s .n) g → ((i j : ℕ) → i < s .w → j < s .n → Abs (g i j) mostFlow) → Flows m f
@@ -99,7 +107,7 @@ module _ (s : State) (inflow d₀ : List ℤ) (r : PassReady s inflow d₀) wher
           depths = subst (FieldWithin depthLimits m) (sym depths-are) (r .base .depths);
           xs = flows (part (4 * m) m d₁) (X s) xs-are (λ i j p q. X-size (r .given) p q);
           ys = flows (part (5 * m) m d₁) (Y s) ys-are (λ i j p q. Y-size (r .given) p q);
-          long = omega (arith, e .3 .long);
+          long = omega (arith, e .2 .long);
         }
 
     -- the depth that is made of the flows is the model's
@@ -111,50 +119,42 @@ module _ (s : State) (inflow d₀ : List ℤ) (r : PassReady s inflow d₀) wher
         rw (xs-are, ys-are, depths-are, at-byCell (s .w) (s .n) (X s) (next (s .w) i) j east q, at-byCell (s .w) (s .n) (X s) i j p q, at-byCell (s .w) (s .n) (Y s) i (next (s .n) j) p north, at-byCell (s .w) (s .n) (Y s) i j p q)
 
     module _ {d₂ : List ℤ} (f : (part (3 * m) m d₂ ≡ byCell (s .w) (s .n) (depthFrom (parametersOf s) inflow d₁)) × Elsewhere (3 * m) (4 * m) d₁ d₂) where
-      -- all but the banks 3 to 6 is as it was
-      so-far : Elsewhere (3 * m) (7 * m) d₀ d₂
-      so-far = elsewhere-then (elsewhere-wider (e .3) (omega arith) (omega arith)) (elsewhere-wider (f .1) (omega arith) (omega arith))
-
-      vorticity-is : part (6 * m) m d₂ ≡ vorticity s
-      vorticity-is = let l = r .long in kept-behind (f .1) (6 * m) m (omega arith) (omega (arith, e .3 .long)) ∙ e .2 ∙ bottomless s
+      -- all but the banks 3 to 5 is as it was
+      so-far : Elsewhere (3 * m) (6 * m) d₀ d₂
+      so-far = elsewhere-then (elsewhere-wider (e .2) (omega arith) (omega arith)) (elsewhere-wider (f .1) (omega arith) (omega arith))
 
       base-is : baseIn (parametersOf s) (s .b) (s .barriers) d₂ ≡ base
       base-is = let l = r .long in rw (kept-before so-far 0 m (omega arith) (omega arith), kept-before so-far m m (omega arith) (omega arith), kept-before so-far (2 * m) m (omega arith) (omega arith))
 
-      pub velocity-ready : VelocityReady (unbarred s) d₂
-      velocity-ready =
+      pub velocity-ready : {q : List ℤ} → q ≡ vorticity s → VelocityReady (unbarred s) q d₂
+      velocity-ready k =
           let l = r .long in
           record {
-            state = search (r .given);
+            given = record { state = search (r .given); vorticity = subst (FieldWithin vorticityLimits (corners s)) (sym k) (theorems .own-vorticity s (r .given)) };
             ratio = r .given .ratio;
-            vorticity = subst (FieldWithin vorticityLimits m) (sym vorticity-is) (theorems .own-vorticity s (r .given));
             us = subst (FieldWithin velocityLimits m) (sym (kept-before so-far m m (omega arith) (omega arith))) (r .base .us);
             vs = subst (FieldWithin velocityLimits m) (sym (kept-before so-far (2 * m) m (omega arith) (omega arith))) (r .base .vs);
             long = omega (arith, so-far .long);
           }
 
       -- as if there were no barriers
-      abbrev Moved : List ℤ → Type 0
-      Moved d₃ =
+      abbrev Moved : (q d₃ : List ℤ) → Type 0
+      Moved q d₃ =
           let b = baseIn (parametersOf s) (s .b) [] d₂ in
-          let q = part (6 * m) m d₂ in
           (part (4 * m) m d₃ ≡ byCell (s .w) (s .n) (newU (unbarred s) b q)) × (part (5 * m) m d₃ ≡ byCell (s .w) (s .n) (newV (unbarred s) b q)) × Elsewhere (4 * m) (6 * m) d₂ d₃
 
       few : length (s .barriers) ≤ m
       few = omega (arith, bars-long s (r .given))
 
       -- there is room for what is cleared, on west edges and then on south edges
-      pub west-room : {d₃ : List ℤ} → Moved d₃ → 4 * m + length (s .barriers) ≤ length d₃
-      west-room g = let l = r .long in omega (arith, few, so-far .long, g .2 .long)
+      pub west-room : (q : List ℤ) {d₃ : List ℤ} → Moved q d₃ → 4 * m + length (s .barriers) ≤ length d₃
+      west-room q g = let l = r .long in omega (arith, few, so-far .long, g .2 .long)
 
-      pub south-room : {d₃ d₄ : List ℤ} → Moved d₃ → Cleared West (s .barriers) (4 * m) d₃ d₄ → 5 * m + length (s .barriers) ≤ length d₄
-      south-room g x = let l = r .long in omega (arith, few, so-far .long, g .2 .long, x .long)
+      pub south-room : (q : List ℤ) {d₃ d₄ : List ℤ} → Moved q d₃ → Cleared West (s .barriers) (4 * m) d₃ d₄ → 5 * m + length (s .barriers) ≤ length d₄
+      south-room q g x = let l = r .long in omega (arith, few, so-far .long, g .2 .long, x .long)
 
       -- with them: d₄ once the velocities on west edges are cleared, d₅ once those on south edges are
-      module _ {d₃ d₄ d₅ : List ℤ} (g : Moved d₃) (x : Cleared West (s .barriers) (4 * m) d₃ d₄) (y : Cleared South (s .barriers) (5 * m) d₄ d₅) where
-        abbrev q : List ℤ
-        q = part (6 * m) m d₂
-
+      module _ {q d₃ d₄ d₅ : List ℤ} (k : q ≡ vorticity s) (g : Moved q d₃) (x : Cleared West (s .barriers) (4 * m) d₃ d₄) (y : Cleared South (s .barriers) (5 * m) d₄ d₅) where
         -- the base that the velocities are made of is the one before the pass
         bare-base : baseIn (parametersOf s) (s .b) [] d₂ ≡ unbarred base
         bare-base = ap unbarred base-is
@@ -186,10 +186,10 @@ module _ (s : State) (inflow d₀ : List ℤ) (r : PassReady s inflow d₀) wher
             (kept-behind west (5 * m) m (omega arith) (omega arith) ∙ g .1 ∙ ap (λ b. byCell (s .w) (s .n) (newV (unbarred s) b q)) bare-base)
             (λ i j a b. v-held s base q same (r .base) i j a b refl)
 
-        pub passed : (resultIn (parametersOf s) (s .b) (s .barriers) d₅ ≡ pass base s inflow) × Elsewhere (3 * m) (7 * m) d₀ d₅
+        pub passed : (resultIn (parametersOf s) (s .b) (s .barriers) d₅ ≡ pass base s inflow) × Elsewhere (3 * m) (6 * m) d₀ d₅
         unfolding pass
         passed =
             let l = room in
             let moved : Elsewhere (4 * m) (6 * m) d₂ d₅ = elsewhere-then (g .2) (elsewhere-then (elsewhere-wider west (omega arith) (omega arith)) (elsewhere-wider south (omega arith) (omega arith))) in
             let h = kept-before moved (3 * m) m (omega arith) (omega (arith, g .2 .long)) ∙ f .0 ∙ byCell-cong (s .w) (s .n) (r .given .columns .some) depth-is in
-            (rw (h, us-are, vs-are, vorticity-is), elsewhere-then so-far (elsewhere-wider moved (omega arith) (omega arith)))
+            (rw (h, us-are, vs-are, k), elsewhere-then so-far (elsewhere-wider moved (omega arith) (omega arith)))

@@ -5,14 +5,14 @@ use Prim.Native.Nat.{ℕ, _*_, _≤_, _<_}
 use native.Mathlib.Omega.{arith}
 use lib.IntN.{ℤ, pos, _+ℤ_, _-ℤ_}
 use lib.ListN.{length, getD}
-use Rattle.model.specs.Numbers.{Within, coriolisLimits, ratioLimits, depthLimits, velocityLimits, vorticityLimits, inflowLimits}
+use Rattle.model.specs.Numbers.{Within, ratioLimits, depthLimits, velocityLimits, inflowLimits}
 use Rattle.model.specs.Grid.{next, at}
-use Rattle.model.specs.State.{State, stateOf, parametersOf, cells, Side, FieldWithin, WithinLimits}
+use Rattle.model.specs.State.{State, stateOf, parametersOf, cells, corners, Side, FieldWithin, WithinLimits}
 use Rattle.model.specs.declared.Parameters.{Parameters}
 use Rattle.integers.specs.Bounds.{Abs}
 use Rattle.grid.specs.Parts.{part}
 use Rattle.grid.specs.Banks.{Elsewhere, kept-before, kept-behind}
-use Rattle.scheme.specs.Ready.{StateReady}
+use Rattle.scheme.specs.Ready.{TendenciesReady}
 use Rattle.scheme.specs.Passing.{mostFlow}
 
 -- ---- states in the work space
@@ -35,16 +35,6 @@ depthFrom p inflow d = let m = p .w * p .n in depthBy (p .w) (p .n) (part 0 m d)
 
 -- ---- what is asked
 
--- flows and potential vorticity: of the given state
-pub record EdgesReady (p : Parameters) (h u v : List ℤ) : Type 0 where
-  pub columns : Side (p .w)
-  pub rows : Side (p .n)
-  pub coriolis : Within coriolisLimits (p .c)
-  pub ratio : Within ratioLimits (p .r)
-  pub depths : FieldWithin depthLimits (p .w * p .n) h
-  pub us : FieldWithin velocityLimits (p .w * p .n) u
-  pub vs : FieldWithin velocityLimits (p .w * p .n) v
-
 -- depths: of the inflow, the base and the flows
 abbrev pub Flows : ℕ → List ℤ → Type 0
 Flows m f = (k : ℕ) → k < m → Abs (getD f k (pos 0)) mostFlow
@@ -58,20 +48,20 @@ pub record DepthReady (p : Parameters) (inflow d : List ℤ) : Type 0 where
   pub ys : Flows (p .w * p .n) (part (5 * (p .w * p .n)) (p .w * p .n) d)
   pub long : 8 * (p .w * p .n) ≤ length d
 
--- velocities: of the given state, its potential vorticity and the base
-pub record VelocityReady (s : State) (d : List ℤ) : Type 0 where
-  pub state : StateReady s
+-- velocities: of the given state, its potential vorticity q and the base
+pub record VelocityReady (s : State) (q d : List ℤ) : Type 0 where
+  pub given : TendenciesReady s q
   pub ratio : Within ratioLimits (s .R)
-  pub vorticity : FieldWithin vorticityLimits (cells s) (part (6 * cells s) (cells s) d)
   pub us : FieldWithin velocityLimits (cells s) (part (cells s) (cells s) d)
   pub vs : FieldWithin velocityLimits (cells s) (part (2 * cells s) (cells s) d)
   pub long : 8 * cells s ≤ length d
 
--- a pass: the given state s and the base are within the limits
-pub record PassReady (s : State) (inflow d : List ℤ) : Type 0 where
+-- a pass: the given state s and the base are within the limits, and there is room for a number at each corner
+pub record PassReady (s : State) (inflow : List ℤ) (room : ℕ) (d : List ℤ) : Type 0 where
   pub given : WithinLimits s
   pub base : WithinLimits (baseIn (parametersOf s) (s .b) (s .barriers) d)
   pub entering : FieldWithin inflowLimits (cells s) inflow
+  pub fits : corners s ≤ room
   pub long : 8 * cells s ≤ length d
 
 -- ---- what is written elsewhere does not matter
@@ -97,20 +87,16 @@ module _ (p : Parameters) {d₀ d : List ℤ} (h : Elsewhere (3 * (p .w * p .n))
 
 -- banks 4 and 5: what the velocities are made of is the same
 module _ (s : State) {d₀ d : List ℤ} (h : Elsewhere (4 * cells s) (6 * cells s) d₀ d) where
-  pub vorticity-kept : 8 * cells s ≤ length d₀ → part (6 * cells s) (cells s) d ≡ part (6 * cells s) (cells s) d₀
-  vorticity-kept r = let n = cells s in kept-behind h (6 * n) n (omega arith) (omega arith)
-
   pub base-kept : 8 * cells s ≤ length d₀ → baseIn (parametersOf s) (s .b) (s .barriers) d ≡ baseIn (parametersOf s) (s .b) (s .barriers) d₀
   base-kept r = let n = cells s in rw (kept-before h 0 n (omega arith) (omega arith), kept-before h n n (omega arith) (omega arith), kept-before h (2 * n) n (omega arith) (omega arith))
 
-  pub velocity-ready-kept : VelocityReady s d₀ → VelocityReady s d
+  pub velocity-ready-kept : {q : List ℤ} → VelocityReady s q d₀ → VelocityReady s q d
   velocity-ready-kept r =
       let l = r .long in
       let n = cells s in
       record {
-        state = r .state;
+        given = r .given;
         ratio = r .ratio;
-        vorticity = subst (FieldWithin vorticityLimits n) (sym (vorticity-kept l)) (r .vorticity);
         us = subst (FieldWithin velocityLimits n) (sym (kept-before h n n (omega arith) (omega arith))) (r .us);
         vs = subst (FieldWithin velocityLimits n) (sym (kept-before h (2 * n) n (omega arith) (omega arith))) (r .vs);
         long = omega (arith, h .long);

@@ -14,7 +14,7 @@ use Rattle.model.specs.Tests.{Test, _then_, firstFound}
 use Rattle.model.specs.Refusals.{taken, fieldsOf, workLength, gridTest, runLengthTest, lengthTests, workTest, contentTests}
 use Rattle.model.specs.Step.{Ran, Outcome, moved, stuck, twoPass, leavesAll, stepTest, stepAnswer, stepState, stepAnswerBy, stepStateBy, runTest, runBy, runOf, runFrom, runOn, workLeft}
 use Rattle.model.specs.Promises.{answerOf, StepPromise, RunPromise}
-use Rattle.model.specs.Claims.{EachPasses}
+use Rattle.model.specs.Claims.{EachPasses, StepTaken}
 use Rattle.model.specs.declared.Field.the-variants.{Inflow}
 use Rattle.model.specs.declared.Refusal.{Refusal}
 use Rattle.model.specs.declared.Answer.the-variants.{Accepted, Refused}
@@ -25,7 +25,7 @@ use Rattle.theorems.specs.Truth.{le-iff, differ}
 use Rattle.theorems.specs.TestLaws.{passes, found-append, Only, EachOnly, found-only}
 use Rattle.theorems.specs.Limits.{known-iff, run-taken}
 use Rattle.tests.specs.Links.{accepted-none, refused-some}
-use Rattle.step_two_pass.specs.Outcomes.{StepReady, Rest}
+use Rattle.step_two_pass.specs.Outcomes.{Rest}
 use Rattle.step_run.specs.AsStep.{asStep}
 
 -- ---- a refusal that clears the work space comes after the tests of the grid and of the work space
@@ -61,8 +61,8 @@ module _ (s : State) (inflow : List ℤ) (m : ℕ) (work : List ℤ) where
   abbrev ran : Ran
   ran = runFrom m 0 s inflow
 
-  pub run-passed : Accepted ≡ answerOf test → StepReady s inflow work
-  run-passed e = let a = run-taken s inflow m (length work) .0 (accepted-none test e) .0 in record { state = a .0; entering = a .1; long = a .2 }
+  pub run-passed : Accepted ≡ answerOf test → StepTaken s inflow (length work)
+  run-passed e = run-taken s inflow m (length work) .0 (accepted-none test e) .0
 
   pub run-done : {answer : RunAnswer} {t : State} {d d′ : List ℤ} → Accepted ≡ answerOf test → answer ≡ ran .answer → t ≡ ran .state → Rest (cells s) work d
       → d′ ≡ filled (8 * cells s) (replicate (8 * cells s) (pos 0)) d → RunPromise s inflow m work answer t d′

@@ -5,7 +5,7 @@ use Prim.Native.Nat.{ℕ, _*_, _≤_}
 use lib.IntN.{ℤ}
 use lib.ListN.{length}
 use Rattle.model.specs.Numbers.{inflowLimits}
-use Rattle.model.specs.State.{State, cells, FieldWithin}
+use Rattle.model.specs.State.{State, cells, corners, FieldWithin}
 use Rattle.model.specs.Step.{pass, moved, stuck, twoPass}
 use Rattle.model.specs.Step as Model
 use Rattle.model.specs.declared.Field.{Field}
@@ -27,13 +27,15 @@ came-stuck (stuck q x) p f k h =
     (rw (a, b, c), h .leads)
 
 -- a state that a step has led to is ready for the next one
-pub ready-next : {s t : State} {inflow d₀ d : List ℤ} → StepReady s inflow d₀ → twoPass s inflow ≡ moved t → length d ≡ length d₀ → StepReady t inflow d
+pub ready-next : {s t : State} {inflow : List ℤ} {k₀ k : ℕ} {d₀ d : List ℤ} → StepReady s inflow k₀ d₀ → twoPass s inflow ≡ moved t → k ≡ k₀ → length d ≡ length d₀
+    → StepReady t inflow k d
 unfolding pass
-ready-next {s} {t} {inflow} {d = d} r e l =
+ready-next {s} {t} {inflow} {k = k} {d = d} r e f l =
     let m = theorems .step .moves s t inflow (r .state) .0 e in
     let same : cells t ≡ cells s = ap cells (m .2) in
     record {
       state = m .1;
       entering = subst (λ (k : ℕ). FieldWithin inflowLimits k inflow) (sym same) (r .entering);
+      fits = subst (λ (m : ℕ). m ≤ k) (sym (ap corners (m .2))) (subst (λ (k : ℕ). corners s ≤ k) (sym f) (r .fits));
       long = subst (λ (k : ℕ). 8 * k ≤ length d) (sym same) (subst (λ (k : ℕ). 8 * cells s ≤ k) (sym l) (r .long));
     }

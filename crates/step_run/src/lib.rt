@@ -11,6 +11,7 @@ ghost use Rattle.model.specs.State.{Side, WithinLimits, stateOf, lent, before, 
 ghost use Rattle.model.specs.Tests.{firstFound};
 ghost use Rattle.model.specs.Step.{runFrom, runTest, leavesAll, workLeft};
 ghost use Rattle.model.specs.Promises.{answerOf, StepPromise, RunPromise};
+ghost use Rattle.model.specs.Claims.{StepTaken};
 ghost use Rattle.step_two_pass.specs.Outcomes.{StepReady, Rest};
 ghost use Rattle.step_run.specs.AsStep.{asStep};
 ghost use Rattle.step_run.specs.Beside.{besideTests};
@@ -91,7 +92,7 @@ fn test_run(
     tests::then_edges(values, p, u, v, barriers)
 }
 
-// Steps with the same inflow, until there are so many or the next one is refused with 6.
+// Steps with the same inflow, until there are so many or the next one is refused with 6. Each pass works its potential vorticity out into q.
 fn run_steps(
     p: Parameters,
     h: &mut [i64],
@@ -101,9 +102,10 @@ fn run_steps(
     barriers: &[u8],
     inflow: &[i64],
     steps: u64,
+    q: &mut [i64],
     work: &mut [i64],
 ) -> RunAnswer
-    requires { ⌜ StepReady (lent p h b u v barriers) (now inflow) (now work) ⌝ }
+    requires { ⌜ StepReady (lent p h b u v barriers) (now inflow) (length (now q)) (now work) ⌝ }
     ensures { λ r. ⌜
         (let ran = runFrom steps 0 (before p h b u v barriers) (now (inflow .entry)) in
         (r ≡ ran .answer)
@@ -112,7 +114,7 @@ fn run_steps(
         ⌝ }
 {
     for done in 0..steps {
-        match step_two_pass::two_pass(p, h, b, u, v, barriers, inflow, work) {
+        match step_two_pass::two_pass(p, h, b, u, v, barriers, inflow, q, work) {
             Outcome::Moved => {}
             Outcome::Stuck { pass, field, cell } => {
                 return RunAnswer::Stopped {
@@ -125,6 +127,40 @@ fn run_steps(
         }
     }
     RunAnswer::Finished { steps }
+}
+
+// The same with room for the potential vorticity, which is the run's own: the corners of a thin basin do not fit what is free in the work
+// space. An array is made of zeros, so that a small grid takes a small one: those of basins up to 4 by 4, up to 16 by 16 and up to 64 by 64.
+fn run_in_room(
+    p: Parameters,
+    h: &mut [i64],
+    b: &[i64],
+    u: &mut [i64],
+    v: &mut [i64],
+    barriers: &[u8],
+    inflow: &[i64],
+    steps: u64,
+    work: &mut [i64],
+) -> RunAnswer
+    requires { ⌜ StepTaken (lent p h b u v barriers) (now inflow) (length (now work)) ⌝ }
+    ensures { λ r. ⌜
+        (let ran = runFrom steps 0 (before p h b u v barriers) (now (inflow .entry)) in
+        (r ≡ ran .answer)
+        × (after p h b u v barriers ≡ ran .state)
+        × Rest (p .w * p .n) (now (work .entry)) (now (work .exit)))
+        ⌝ }
+{
+    let corners = grid::corner_count(p.kind, p.w, p.n);
+    if corners <= 25 {
+        let mut few = [0; 25];
+        return run_steps(p, h, b, u, v, barriers, inflow, steps, &mut few, work);
+    }
+    if corners <= 289 {
+        let mut some = [0; 289];
+        return run_steps(p, h, b, u, v, barriers, inflow, steps, &mut some, work);
+    }
+    let mut most = [0; 4225];
+    run_steps(p, h, b, u, v, barriers, inflow, steps, &mut most, work)
 }
 
 // What a run comes to, by the answer of its tests.
@@ -148,7 +184,7 @@ fn run_tested(
 {
     match tested {
         Answer::Accepted => {
-            let answer = run_steps(p, h, b, u, v, barriers, inflow, steps, work);
+            let answer = run_in_room(p, h, b, u, v, barriers, inflow, steps, work);
             clear_used(p, work);
             answer
         }

@@ -6,7 +6,7 @@ use Prim.Native.Nat.{ℕ, _+_, _*_, _≤_}
 use native.Mathlib.Omega.{arith}
 use lib.IntN.{ℤ}
 use lib.ListN.{length}
-use Rattle.model.specs.State.{State, stateOf, parametersOf, cells, WithinLimits}
+use Rattle.model.specs.State.{State, stateOf, parametersOf, cells, corners, WithinLimits}
 use Rattle.model.specs.Step.{Place, place, pass, leaves, moved, passed, second, twoPass}
 use Rattle.model.specs.Step as Model
 use Rattle.model.specs.declared.Field.{Field}
@@ -60,8 +60,8 @@ module _ (p : Parameters) (b : List ℤ) (barriers : List ℕ) where
   pub kept-base : (d h u v : List ℤ) → part 0 m d ≡ h → part m m d ≡ u → part (2 * m) m d ≡ v → baseIn p b barriers d ≡ stateOf p h b u v barriers
   kept-base d h u v e f g = rw (e, f, g)
 
-  -- a pass writes banks 3 to 6
-  pub base-after : {d₀ d : List ℤ} → Elsewhere (3 * m) (7 * m) d₀ d → 8 * m ≤ length d₀ → baseIn p b barriers d ≡ baseIn p b barriers d₀
+  -- a pass writes banks 3 to 5
+  pub base-after : {d₀ d : List ℤ} → Elsewhere (3 * m) (6 * m) d₀ d → 8 * m ≤ length d₀ → baseIn p b barriers d ≡ baseIn p b barriers d₀
   base-after h r = rw (kept-before h 0 m (omega arith) (omega arith), kept-before h m m (omega arith) (omega arith), kept-before h (2 * m) m (omega arith) (omega arith))
 
 -- ---- past the numbers that a step uses
@@ -103,13 +103,19 @@ module _ (s : State) (inflow : List ℤ) where
   first-stuck f k h = come-to (ap (λ o. passed o 1 (second s first inflow)) (outside-some (leaves first) f k h)) (record { answers = refl; leads = refl })
 
   -- the state is ready for pass 1, and pass 1's result for pass 2, where the base in the work space is s
-  pub first-ready : {d : List ℤ} → StepReady s inflow d → baseIn (parametersOf s) (s .b) (s .barriers) d ≡ s → PassReady s inflow d
-  first-ready r f = record { given = r .state; base = subst WithinLimits (sym f) (r .state); entering = r .entering; long = r .long }
+  pub first-ready : {k : ℕ} {d : List ℤ} → StepReady s inflow k d → baseIn (parametersOf s) (s .b) (s .barriers) d ≡ s → PassReady s inflow k d
+  first-ready r f = record { given = r .state; base = subst WithinLimits (sym f) (r .state); entering = r .entering; fits = r .fits; long = r .long }
 
-  pub second-ready : {d : List ℤ} → StepReady s inflow d → Kept ≡ boundsBy (leaves first) → baseIn (parametersOf s) (s .b) (s .barriers) d ≡ s → PassReady first inflow d
+  pub second-ready : {k : ℕ} {d : List ℤ} → StepReady s inflow k d → Kept ≡ boundsBy (leaves first) → baseIn (parametersOf s) (s .b) (s .barriers) d ≡ s → PassReady first inflow k d
   unfolding pass
-  second-ready r h f = record { given = first-within s inflow (r .state) (kept-none (leaves first) h); base = subst WithinLimits (sym f) (r .state); entering = r .entering; long = r .long }
+  second-ready r h f = record { given = first-within s inflow (r .state) (kept-none (leaves first) h); base = subst WithinLimits (sym f) (r .state); entering = r .entering; fits = r .fits; long = r .long }
 
--- a work space of the same length will do
-pub ready-after : {s : State} {inflow d₀ d : List ℤ} → StepReady s inflow d₀ → length d ≡ length d₀ → StepReady s inflow d
-ready-after {s} r e = record { state = r .state; entering = r .entering; long = subst (λ (l : ℕ). 8 * cells s ≤ l) (sym e) (r .long) }
+-- room and a work space of the same length will do
+pub ready-after : {s : State} {inflow : List ℤ} {k l : ℕ} {d₀ d : List ℤ} → StepReady s inflow k d₀ → l ≡ k → length d ≡ length d₀ → StepReady s inflow l d
+ready-after {s} r f e =
+    record {
+      state = r .state;
+      entering = r .entering;
+      fits = subst (λ (l : ℕ). corners s ≤ l) (sym f) (r .fits);
+      long = subst (λ (l : ℕ). 8 * cells s ≤ l) (sym e) (r .long);
+    }

@@ -6,7 +6,7 @@ use Prim.Native.Nat.{ℕ, _*_, _≤_}
 use lib.IntN.{ℤ}
 use lib.ListN.{length, drop}
 use Rattle.model.specs.Numbers.{inflowLimits}
-use Rattle.model.specs.State.{State, cells, FieldWithin, WithinLimits}
+use Rattle.model.specs.State.{State, cells, corners, FieldWithin, WithinLimits}
 use Rattle.model.specs.Fields.{limitsOf}
 use Rattle.model.specs.Tests.{Test, firstFound}
 use Rattle.model.specs.Refusals.{valueTest}
@@ -44,10 +44,11 @@ pub record Stepped (s : State) (o : Model.Outcome) (answer : Outcome) (t : State
   pub answers : answer ≡ outcomeBy o
   pub leads : t ≡ Model.afterStep s o
 
--- the tests have passed
-pub record StepReady (s : State) (inflow work : List ℤ) : Type 0 where
+-- the tests have passed, and there is room for a potential vorticity
+pub record StepReady (s : State) (inflow : List ℤ) (room : ℕ) (work : List ℤ) : Type 0 where
   pub state : WithinLimits s
   pub entering : FieldWithin inflowLimits (cells s) inflow
+  pub fits : corners s ≤ room
   pub long : 8 * cells s ≤ length work
 
 -- past the 8m numbers that a step uses, the work space is as it was

@@ -119,9 +119,10 @@ fn second_pass(
     v: &mut [i64],
     barriers: &[u8],
     inflow: &[i64],
+    q: &mut [i64],
     work: &mut [i64],
 ) -> Outcome
-    requires { ⌜ PassReady (lent p h b u v barriers) (now inflow) (now work) ⌝ }
+    requires { ⌜ PassReady (lent p h b u v barriers) (now inflow) (length (now q)) (now work) ⌝ }
     ensures { λ r. ⌜
         (let base = baseIn p (now (b .entry)) (now (barriers .entry)) (now (work .entry)) in
         Stepped base (second base (before p h b u v barriers) (now (inflow .entry))) r (after p h b u v barriers)
@@ -129,7 +130,7 @@ fn second_pass(
         ⌝ }
 {
     let m = p.w * p.n;
-    step_pass::pass(p, h, b, u, v, barriers, inflow, work);
+    step_pass::pass(p, h, b, u, v, barriers, inflow, q, work);
     match first_outside(p, work) {
         Bounds::Kept => {
             take_state(work, 3 * m, m, h, u, v);
@@ -146,7 +147,7 @@ fn second_pass(
     }
 }
 
-// The two passes. All of pass 1 is tested before pass 2. It rules out, for instance: pass 1 returned; a place left by pass 2 told as one
+// The two passes, each with a potential vorticity of its own in q. All of pass 1 is tested before pass 2. It rules out, for instance: pass 1 returned; a place left by pass 2 told as one
 // of pass 1; a step that has left a bound and keeps what pass 1 made.
 pub fn two_pass(
     p: Parameters,
@@ -156,9 +157,10 @@ pub fn two_pass(
     v: &mut [i64],
     barriers: &[u8],
     inflow: &[i64],
+    q: &mut [i64],
     work: &mut [i64],
 ) -> Outcome
-    requires { ⌜ StepReady (lent p h b u v barriers) (now inflow) (now work) ⌝ }
+    requires { ⌜ StepReady (lent p h b u v barriers) (now inflow) (length (now q)) (now work) ⌝ }
     ensures { λ r. ⌜
         (let s = before p h b u v barriers in
         Stepped s (twoPass s (now (inflow .entry))) r (after p h b u v barriers)
@@ -167,11 +169,11 @@ pub fn two_pass(
 {
     let cells = p.w * p.n;
     keep_base(cells, h, u, v, work);
-    step_pass::pass(p, h, b, u, v, barriers, inflow, work);
+    step_pass::pass(p, h, b, u, v, barriers, inflow, q, work);
     match first_outside(p, work) {
         Bounds::Kept => {
             take_state(work, 3 * cells, cells, h, u, v);
-            second_pass(p, h, b, u, v, barriers, inflow, work)
+            second_pass(p, h, b, u, v, barriers, inflow, q, work)
         }
         Bounds::Outside { field, cell } => Outcome::Stuck {
             pass: 1,

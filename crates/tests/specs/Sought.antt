@@ -9,8 +9,7 @@ use lib.ListN.{getD}
 use Rattle.model.specs.Numbers.{within, eqℤ}
 use Rattle.model.specs.State.{State, stateOf, closedWest, closedSouth}
 use Rattle.model.specs.Tests.{Test, seeks}
-use Rattle.model.specs.Fields.{limitsOf}
-use Rattle.model.specs.Refusals.{valueTest, edgeTests}
+use Rattle.model.specs.Refusals.{takenOf, valueTest, edgeTests}
 use Rattle.model.specs.declared.Parameters.{Parameters}
 use Rattle.model.specs.declared.Answer.{Answer}
 use Rattle.model.specs.declared.Answer.the-variants as Answer
@@ -73,4 +72,4 @@ edges-are p h b u v barriers = refl
 
 -- test 4 of the barriers of m cells
 abbrev pub barriersTest : (barriers : List ℕ) (m : ℕ) → Test Refusal
-barriersTest barriers m = valueTest Value (record { field = Barriers; count = m; limits = limitsOf Barriers; numbers = map pos barriers })
+barriersTest barriers m = valueTest Value (takenOf m Barriers (map pos barriers))

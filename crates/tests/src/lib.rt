@@ -9,10 +9,10 @@ ghost use lib.IntN.{ℤ, pos};
 ghost use lib.ListN.{length};
 ghost use Rattle.model.specs.Numbers.{longestSide};
 ghost use Rattle.model.specs.Grid.{firstFrom};
-ghost use Rattle.model.specs.State.{State, stateOf, lent, before, barrierAt};
+ghost use Rattle.model.specs.State.{State, stateOf, lent, before, corners, barrierAt};
 ghost use Rattle.model.specs.Fields.{fieldNumber, limitsOf, narrowOf};
 ghost use Rattle.model.specs.Tests.{asks, firstFound};
-ghost use Rattle.model.specs.Refusals.{taken, fieldsOf, gridKnown, gridTest, runLengthTest, lengthTest, workTest};
+ghost use Rattle.model.specs.Refusals.{countOf, taken, fieldsOf, gridKnown, gridTest, runLengthTest, lengthTest, workTest};
 ghost use Rattle.model.specs.Refusals.{constantsWithin, constantsTest, timeTest, valueTest, valueTests, edgeTests, roomTest, roomTests};
 ghost use Rattle.model.specs.Refusals.{narrowed, cellTest, stateTests};
 ghost use Rattle.model.specs.Promises.{answerOf};
@@ -229,6 +229,16 @@ pub fn cells_of(p: Parameters) -> usize
     0
 }
 
+// The same of its corners (02, U5). It rules out, for instance: w·n in a basin; 0 for a grid that is known.
+pub fn corners_of(p: Parameters) -> usize
+    ensures { λ r. ⌜ (T (gridKnown p) → r ≡ corners (bare p)) × (r ≤ 4225) ⌝ }
+{
+    if grid_known(p) {
+        return grid::corner_count(p.kind, p.w, p.n);
+    }
+    0
+}
+
 // Test 1 of a grid. It rules out, for instance: 65 columns taken; 2 told for a grid unknown.
 pub fn then_grid(earlier: Answer, p: Parameters) -> Answer
     ensures { λ r. ⌜ r ≡ after earlier (gridTest p ∷ []) ⌝ }
@@ -332,14 +342,13 @@ pub fn then_time(earlier: Answer, timestamp: Timestamp) -> Answer
 
 // ---- 4 and 5
 
-// Test 4 of one field, by these limits. It rules out, for instance: the last cell outside told; other limits.
-pub fn then_within(earlier: Answer, p: Parameters, f: &[i64], field: Field, limits: Range) -> Answer
-    requires { ⌜ (earlier ≡ Accepted → length (now f) ≡ p .w * p .n) ⌝ }
+// Test 4 of all numbers of one field, by these limits. It rules out, for instance: the last cell outside told; other limits.
+fn then_within(earlier: Answer, f: &[i64], field: Field, limits: Range) -> Answer
     ensures { λ r. ⌜
+        (let l = now (f .entry) in
         r ≡ after earlier
-        (valueTest Value
-        (record { field = field; count = p .w * p .n; limits = between limits; numbers = now (f .entry) })
-        ∷ [])
+        (valueTest Value (record { field = field; count = length l; limits = between limits; numbers = l })
+        ∷ []))
         ⌝ }
 {
     let Answer::Accepted = earlier else {
@@ -350,18 +359,18 @@ pub fn then_within(earlier: Answer, p: Parameters, f: &[i64], field: Field, limi
 
 // Test 4 of one field, by 01's limits. It rules out, for instance: the inflow's limits for q; the lowest cell left out.
 pub fn then_field(earlier: Answer, p: Parameters, f: &[i64], field: Field) -> Answer
-    requires { ⌜ (earlier ≡ Accepted → length (now f) ≡ p .w * p .n) ⌝ }
+    requires { ⌜ (earlier ≡ Accepted → length (now f) ≡ countOf (bare p) field) ⌝ }
     ensures { λ r. ⌜ r ≡ after earlier (valueTest Value (taken (bare p) field (now (f .entry))) ∷ []) ⌝ }
 {
-    then_within(earlier, p, f, field, limits(field))
+    then_within(earlier, f, field, limits(field))
 }
 
 // The same by 02's narrow limits. It rules out, for instance: 01's limits; the narrow ones of another field.
 pub fn then_narrow(earlier: Answer, p: Parameters, f: &[i64], field: Field) -> Answer
-    requires { ⌜ (earlier ≡ Accepted → length (now f) ≡ p .w * p .n) ⌝ }
+    requires { ⌜ (earlier ≡ Accepted → length (now f) ≡ countOf (bare p) field) ⌝ }
     ensures { λ r. ⌜ r ≡ after earlier (valueTest Value (narrowed (bare p) field (now (f .entry))) ∷ []) ⌝ }
 {
-    then_within(earlier, p, f, field, narrow_limits(field))
+    then_within(earlier, f, field, narrow_limits(field))
 }
 
 // Test 4 of the barriers. It rules out, for instance: 4 taken for a barrier; the last cell outside told.
@@ -505,7 +514,8 @@ pub fn test_state(
     then_edges(values, p, u, v, barriers)
 }
 
-// The same of a state and of q, the potential vorticity lent. It rules out, for instance: q before the barriers; its length untested.
+// The same of a state and of q, the potential vorticity lent, which has a number a corner. It rules out, for instance: q before the barriers;
+// a number a cell in a basin.
 pub fn test_vorticity(
     p: Parameters,
     h: &[i64],
@@ -523,7 +533,7 @@ pub fn test_vorticity(
     let m = cells_of(p);
     let grid = then_grid(Answer::Accepted, p);
     let own = then_lengths(grid, m, h, b, u, v, barriers);
-    let lengths = then_length(own, m, q.len());
+    let lengths = then_length(own, corners_of(p), q.len());
     let constants = then_constants(lengths, p);
     let fields = then_fields(constants, p, h, b, u, v, barriers);
     let corners = then_field(fields, p, q, Field::Vorticity);

@@ -5,13 +5,12 @@ use Prim.Native.Nat.{ℕ, _*_}
 use lib.IntN.{ℤ}
 use borrow.Author.Needs.{needs}
 use Rattle.model.specs.State.{State, cells, barrierNumbers}
-use Rattle.model.specs.Refusals.{taken, valueTests}
+use Rattle.model.specs.Refusals.{takenOf, taken, valueTests}
 use Rattle.model.specs.declared.Answer.{Answer}
 use Rattle.model.specs.declared.Answer.the-variants.{Accepted}
 use Rattle.model.specs.declared.Field.{Field}
 use Rattle.model.specs.declared.Field.the-variants.{Depth, Bottom, VelocityU, VelocityV, Barriers}
 use Rattle.model.specs.declared.Refusal.the-variants.{Value}
-use Rattle.tests.specs.Sought.{bare}
 use Rattle.tests.specs.Links.{after, Chain, start, more, begun}
 use Rattle.record_bytes.specs.declared.Size.the-variants.{Two, Four}
 use Rattle.record_tests.specs.RecordTested.{stateRead}
@@ -30,8 +29,8 @@ abbrev cells-of : tie.After-value-of5 → ℕ
 cells-of c = let p = start-of c .args .p in p .w * p .n
 
 -- a field as the code takes it is the state's own
-own : (c : tie.After-value-of5) (a : Answer) {r : Answer} (field : Field) {l f : List ℤ} → l ≡ f → r ≡ after a (valueTests Value (taken (bare (start-of c .args .p)) field l ∷ []))
-    → r ≡ after a (valueTests Value (taken (state c) field f ∷ []))
+own : (c : tie.After-value-of5) (a : Answer) {r : Answer} (field : Field) {l f : List ℤ} → l ≡ f → r ≡ after a (valueTests Value (takenOf (cells-of c) field l ∷ []))
+    → r ≡ after a (valueTests Value (takenOf (cells (state c)) field f ∷ []))
 own c a field e h = h ∙ ap (λ t. after a (valueTests Value (t ∷ []))) (own-taken (start-of c .pre .0) field e)
 
 -- the chain so far

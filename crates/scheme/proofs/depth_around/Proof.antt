@@ -13,7 +13,7 @@ use Rattle.scheme.proofs.depth_around.Tie as tie
 abbrev depths : tie.Start → List ℤ
 depths c =
     let h = c .args .h .now in
-    getD h (c .args .here) (pos 0) ∷ getD h (c .args .west) (pos 0) ∷ getD h (c .args .south) (pos 0) ∷ getD h (c .args .southwest) (pos 0) ∷ []
+    getD h (c .args .ne) (pos 0) ∷ getD h (c .args .nw) (pos 0) ∷ getD h (c .args .se) (pos 0) ∷ getD h (c .args .sw) (pos 0) ∷ []
 
 sizes : (c : tie.Start) → Sizes (depths c) (100000 ∷ 100000 ∷ 100000 ∷ 100000 ∷ [])
 sizes c = let p = c .pre in depth-size (p .0 .value) ◂ depth-size (p .1 .value) ◂ depth-size (p .2 .value) ◂ depth-size (p .3 .value) ◂ ∎

@@ -1,5 +1,6 @@
 -- `scheme::vorticity_at` meets its contract. Assumes nothing.
 use mathlib.Core.Path.{_≡_, sym, ap, ap₂, subst, _∙_}
+use mathlib.Core.Bool.{Bool, true, false, cond}
 use mathlib.Core.List.{[]}
 use Prim.Native.Nat.{_*_}
 use lib.IntN.{ℤ, pos, _*ℤ_}
@@ -14,42 +15,49 @@ use Rattle.integers.specs.Ring.{Expr, var, con, _⊗_}
 use Rattle.integers.specs.Order.{≤-trans}
 use Rattle.integers.specs.Bounds.{Abs, ∎, _◂_, abs-as, held, held-is, size, fits, exact}
 use Rattle.integers.specs.Rounding.{mostDividend, mostDivisor}
-use Rattle.grid.specs.Stencils.{Below, around-below}
+use Rattle.grid.specs.Corners.{Below4, cells-below}
 use Rattle.scheme.specs.Ready.{reads}
 use Rattle.scheme.specs.Around.{absolute-vorticity-around, depth-around}
-use Rattle.integers.specs.Magnitudes.{absolute-vorticity-size, depths-size, depths-least}
+use Rattle.integers.specs.Magnitudes.{coriolis-size, absolute-vorticity-size, depths-size, depths-least}
 use Rattle.scheme.proofs.vorticity_at.Statement.{statement}
 use Rattle.scheme.proofs.vorticity_at.Tie as tie
 
 abbrev state : tie.Start → State
 state c = let a = c .args in stateOf (a .p) (a .h .now) [] (a .u .now) (a .v .now) []
 
-below : (c : tie.After-around) → let p = c .before .args .p in Below (p .w * p .n) (c .around .result)
-below c =
-    let p = c .before .pre in
-    around-below (record { columns = p .0 .columns; rows = p .0 .rows; column = p .1; row = p .2 }) (c .around .ensures)
+below : (c : tie.After-cells-around) → let p = c .before .args .p in Below4 (p .w * p .n) (c .cells-around .result)
+below c = cells-below (c .before .pre .1) (c .cells-around .ensures)
 
 -- c as the machine holds it
-c-is : (c : tie.After-struct-told) → held w64 (c .before .before .args .p .c) ≡ c .before .before .args .p .c
+c-is : (c : tie.After-struct-told) → let p = c .before .before .before .args .p in held w64 (p .c) ≡ p .c
 c-is c = toZ-ofZ {w = w64} (record { sfits = c .struct-told .given .1 .1 .1 .1 .0 .1 })
 
-turning : (c : tie.After-struct-told) → Within coriolisLimits (held w64 (c .before .before .args .p .c))
-turning c = subst (Within coriolisLimits) (sym (c-is c)) (c .before .before .pre .0 .coriolis)
+turning : (c : tie.After-struct-told) → Within coriolisLimits (held w64 (c .before .before .before .args .p .c))
+turning c = subst (Within coriolisLimits) (sym (c-is c)) (c .before .before .before .pre .0 .coriolis)
 
 -- Z, and what is divided
-z-is : (c : tie.After-absolute-vorticity) → let s = c .before .before .before in c .absolute-vorticity .result ≡ Z (state s) (s .args .i) (s .args .j)
+z-is : (c : tie.After-absolute-vorticity) → let s = c .before .before .before .before in c .absolute-vorticity .result ≡ Z (state s) (s .args .x) (s .args .y)
 z-is c =
     let t = c .before in
-    c .absolute-vorticity .ensures ∙ rw (c-is t) (absolute-vorticity-around (state (t .before .before)) (t .before .around .ensures))
+    let wall = t .before in
+    let a = wall .before in
+    let s = a .before in
+    c .absolute-vorticity .ensures ∙ rw (c-is t, wall .is-on-wall .ensures) (absolute-vorticity-around (state s) (s .pre .1) (a .cells-around .ensures))
 
 z-size : (c : tie.After-absolute-vorticity) → Abs (c .absolute-vorticity .result) 30000
 z-size c =
     let t = c .before in
-    let b = below (t .before) in
-    let p = t .before .before .pre .0 in
+    let a = t .before .before in
+    let b = below a in
+    let p = a .before .pre .0 in
     let v = p .vs .each in
     let u = p .us .each in
-    abs-as (c .absolute-vorticity .ensures) (absolute-vorticity-size (turning t) (v _ (b .here)) (v _ (b .west)) (u _ (b .south)) (u _ (b .here)))
+    abs-as (c .absolute-vorticity .ensures)
+    (either (t .before .is-on-wall .result) (turning t) (absolute-vorticity-size (turning t) (v _ (b .ne)) (v _ (b .nw)) (u _ (b .se)) (u _ (b .ne))))
+  where
+    either : (wall : Bool) {c z : ℤ} → Within coriolisLimits c → Abs z 30000 → Abs (cond wall c z) 30000
+    either true l h = size (var 0) (coriolis-size l ◂ ∎) tt
+    either false l h = h
 
 abbrev scaled : Expr
 scaled = con (pos 262144) ⊗ var 0
@@ -58,31 +66,34 @@ scaled-is : (c : tie.After-absolute-vorticity) → held w64 (pos 262144 *ℤ hel
 scaled-is c = exact w64 scaled (z-size c ◂ ∎) tt
 
 -- H
-h-is : (c : tie.After-depth-around) → let s = c .before .before .before .before in held w64 (c .depth-around .result) ≡ H (state s) (s .args .i) (s .args .j)
+h-is : (c : tie.After-depth-around) → let s = c .before .before .before .before .before in held w64 (c .depth-around .result) ≡ H (state s) (s .args .x) (s .args .y)
 h-is c =
-    let a = c .before .before .before in
-    held-is w64 (c .depth-around .ok) (c .depth-around .ensures ∙ depth-around (state (a .before)) (a .around .ensures))
+    let a = c .before .before .before .before in
+    let s = a .before in
+    held-is w64 (c .depth-around .ok) (c .depth-around .ensures ∙ depth-around (state s) (s .pre .1) (a .cells-around .ensures))
 
 divides : (c : tie.After-depth-around) → Abs (held w64 (c .depth-around .result)) 400000 × (pos 1 ≤ℤ held w64 (c .depth-around .result))
 divides c =
-    let a = c .before .before .before in
+    let a = c .before .before .before .before in
     let b = below a in
     let h = a .before .pre .0 .depths .each in
     let e = held-is w64 (c .depth-around .ok) (c .depth-around .ensures) in (
-      abs-as e (depths-size (h _ (b .here)) (h _ (b .west)) (h _ (b .south)) (h _ (b .southwest))),
-      subst (λ (x : ℤ). pos 1 ≤ℤ x) (sym e) (≤-trans (record { le = tt }) (depths-least (h _ (b .here)) (h _ (b .west)) (h _ (b .south)) (h _ (b .southwest)))),
+      abs-as e (depths-size (h _ (b .ne)) (h _ (b .nw)) (h _ (b .se)) (h _ (b .sw))),
+      subst (λ (x : ℤ). pos 1 ≤ℤ x) (sym e) (≤-trans (record { le = tt }) (depths-least (h _ (b .ne)) (h _ (b .nw)) (h _ (b .se)) (h _ (b .sw)))),
     )
 
 absolute-vorticity-requires : tie.Need-absolute-vorticity-requires
 absolute-vorticity-requires c κs =
-    let b = below (c .before) in
-    let p = c .before .before .pre .0 in
-    (turning c, reads (p .vs) (b .here), reads (p .vs) (b .west), reads (p .us) (b .south), reads (p .us) (b .here))
+    let a = c .before .before in
+    let b = below a in
+    let p = a .before .pre .0 in
+    (turning c, reads (p .vs) (b .ne), reads (p .vs) (b .nw), reads (p .us) (b .se), reads (p .us) (b .ne))
 
 depth-around-requires : tie.Need-depth-around-requires
 depth-around-requires c κs =
-    let b = below (c .before .before) in
-    let p = c .before .before .before .pre .0 in (reads (p .depths) (b .here), reads (p .depths) (b .west), reads (p .depths) (b .south), reads (p .depths) (b .southwest))
+    let a = c .before .before .before in
+    let b = below a in
+    let p = a .before .pre .0 in (reads (p .depths) (b .ne), reads (p .depths) (b .nw), reads (p .depths) (b .se), reads (p .depths) (b .sw))
 
 rnd-requires : tie.Need-rnd-requires
 rnd-requires c κs =
@@ -101,6 +112,7 @@ pub vorticity-at-spec : {M : Type 1} → statement M
 vorticity-at-spec =
     tie.close
     (tie.spec
+    (λ c κs. search needs)
     (λ c κs. search needs)
     absolute-vorticity-requires
     depth-around-requires

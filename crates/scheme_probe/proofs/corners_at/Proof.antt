@@ -7,8 +7,8 @@ pub corners-at-spec : {M : Type 1} → statement M
 corners-at-spec =
     tie.close
     (tie.spec
-    (λ c κs. c .pre .0 _ (c .pre .1 .northeast))
-    (λ c κs. let p = c .before .pre in p .0 _ (p .1 .north))
-    (λ c κs. let p = c .before .before .pre in p .0 _ (p .1 .here))
-    (λ c κs. let p = c .before .before .before .pre in p .0 _ (p .1 .east))
+    (λ c κs. c .pre .0 _ (c .pre .1 .ne))
+    (λ c κs. let p = c .before .pre in p .0 _ (p .1 .nw))
+    (λ c κs. let p = c .before .before .pre in p .0 _ (p .1 .sw))
+    (λ c κs. let p = c .before .before .before .pre in p .0 _ (p .1 .se))
     (λ c. search needs))

@@ -6,7 +6,7 @@ use lib.IntN.{ℤ}
 use lib.ListN.{length}
 use borrow.Author.Needs.{needs}
 use Rattle.model.specs.Grid.{filled}
-use Rattle.model.specs.State.{State, stateOf, cells}
+use Rattle.model.specs.State.{State, stateOf, corners}
 use Rattle.model.specs.Answers.{toldAnswer}
 use Rattle.model.specs.Scheme.{Z, H, vorticityAt, vorticity}
 use Rattle.model.specs.Refusals.{stateTests, roomTests}
@@ -34,7 +34,7 @@ tested c =
     let m = t .before in
     let a = m .before .before .args in
     let g = start Accepted (stateTests (state (m .before .before)) [] [] []) (t .test-state .ensures) in
-    counted (λ k. roomTests k (length (a .d .now) ∷ [])) g (λ h. m .cells-of .ensures .0 (passed g h .0)) (c .then-room .ensures) .is
+    counted (λ k. roomTests k (length (a .d .now) ∷ [])) g (λ h. m .corners-of .ensures .0 (passed g h .0)) (c .then-room .ensures) .is
 
 accepted : (c : tie.After-enum-told) → let b = c .before .before .before .before .before .before in Accepted ≡ answerOf (vorticityTest (state b) (length (b .args .d .now)))
 accepted c = sym (c .enum-told .given .1) ∙ tested (c .before .before)
@@ -51,7 +51,7 @@ refused c =
     let t = c .before .before in
     let b = t .before .before .before .before in
     let h = c .enum-told2 .given .1 in
-    fill-refused answerOf toldAnswer (cells (state b)) (vorticity (state b) into b .args .d .now ∷ []) _ (refused-some _ _ (sym h ∙ tested t)) h
+    fill-refused answerOf toldAnswer (corners (state b)) (vorticity (state b) into b .args .d .now ∷ []) _ (refused-some _ _ (sym h ∙ tested t)) h
 
 done : tie.Need-returns-2
 done c =
@@ -59,7 +59,7 @@ done c =
     let e = f .before .before in
     let b = e .before .before .before .before .before .before in
     let a = b .args in
-    let m = cells (state b) in
+    let m = corners (state b) in
     fill-done answerOf toldAnswer m (vorticity (state b) into a .d .now ∷ []) (accepted-none _ (accepted e)) refl
     (ap (λ l. l ∷ []) (f .fill-vorticity .ensures ∙ ap (λ l. filled m l (a .d .now)) (bottomless (a .p) (a .h .now) (a .b .now) (a .u .now) (a .v .now) (a .barriers .now))))
 

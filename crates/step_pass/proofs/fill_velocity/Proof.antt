@@ -12,17 +12,15 @@ use Rattle.grid.specs.Cells.{cells-most}
 use Rattle.grid.specs.Parts.{part}
 use Rattle.grid.specs.WritingLoops.{Writing, RowWriting, field, row-done, rows-none}
 use Rattle.grid.specs.Banks.{Elsewhere, elsewhere-none, elsewhere-then, length-part, bank-filled}
-use Rattle.scheme.specs.Ready.{TendenciesReady}
 use Rattle.scheme.specs.Handing.{HandedNorth}
-use Rattle.step_pass.specs.Spaces.{baseIn, base-kept, vorticity-kept, velocity-ready-kept}
+use Rattle.step_pass.specs.Spaces.{baseIn, base-kept, velocity-ready-kept}
 use Rattle.step_pass.proofs.fill_velocity.Statement.{statement}
 use Rattle.step_pass.proofs.fill_velocity.Tie as tie
 
 abbrev Inv-loop : tie.InvT-loop
-Inv-loop p h b u v work₀ handed₀ m j₀ j-end work handed j =
+Inv-loop p h b u v q work₀ handed₀ j₀ j-end work handed j =
     let s = stateOf p h b u v [] in
     let m = p .w * p .n in
-    let q = part (6 * m) m work₀ in
     let base = baseIn p b [] work₀ in
     (j ≤ p .n)
     × Writing 0 (field (p .w) (p .n) (newU s base q)) (part (4 * m) m work₀) (j * p .w) (part (4 * m) m work)
@@ -32,7 +30,7 @@ Inv-loop p h b u v work₀ handed₀ m j₀ j-end work handed j =
     × Elsewhere (4 * m) (6 * m) work₀ work
 
 abbrev μ-loop : tie.MeasureT-loop
-μ-loop p h b u v work₀ handed₀ m j₀ j-end work handed j = p .n - j
+μ-loop p h b u v q work₀ handed₀ j₀ j-end work handed j = p .n - j
 
 abbrev Start : Type 0
 Start = tie.Start Inv-loop μ-loop
@@ -44,21 +42,13 @@ abbrev cells : Start → ℕ
 cells c = c .args .p .w * c .args .p .n
 
 few : (c : Start) → cells c ≤ 4096
-few c = let s = c .pre .state in cells-most (s .columns) (s .rows)
+few c = let s = c .pre .given .state in cells-most (s .columns) (s .rows)
 
 hand-north-requires : tie.Need-hand-north-requires Inv-loop μ-loop
-hand-north-requires c κs =
-    let q = c .before in
-    let s = q .before .before .before in
-    (subst (TendenciesReady (state s)) (sym (q .part-of .ensures)) (record { state = s .pre .state; vorticity = s .pre .vorticity }), s .pre .state .columns .most)
+hand-north-requires c κs = let s = c .before in (s .pre .given, s .pre .given .state .columns .most)
 
 loop-holds : tie.Need-loop-holds Inv-loop μ-loop
-loop-holds c =
-    let k = c .before in
-    let q = k .before .before in
-    let s = q .before .before .before in
-    let first = subst (λ q. HandedNorth (state s) q 0 (k .hand-north .last .1 .1 .1 .1 .1 .1 .0)) (q .part-of .ensures) (k .hand-north .ensures) in
-    (zero-le, rows-none _ _ _, rows-none _ _ _, first, c .handed2 .given, elsewhere-none)
+loop-holds c = let k = c .before in (zero-le, rows-none _ _ _, rows-none _ _ _, k .hand-north .ensures, c .handed2 .given, elsewhere-none)
 
 -- ---- a row
 
@@ -66,27 +56,18 @@ abbrev Turn : Type 0
 Turn = tie.In-loop Inv-loop μ-loop
 
 abbrev begin : Turn → Start
-begin c = c .before .before .before .before .before .before .before .before
+begin c = c .before .before .before .before .before
 
 velocity-row-requires : tie.Need-velocity-row-requires Inv-loop μ-loop
 velocity-row-requires c κs =
     let i = c .before .before in
     let s = begin i in
-    let inv = i .before .loop .inv in
-    let q = vorticity-kept (state s) (inv .5) (s .pre .long) in
-    (velocity-ready-kept (state s) (inv .5) (s .pre), i .loop-test .taken, subst (λ q. HandedNorth (state s) q (i .before .loop .j) (i .before .loop .handed)) (sym q) (inv .3))
+    let inv = i .before .loop .inv in (velocity-ready-kept (state s) (inv .5) (s .pre), i .loop-test .taken, inv .3)
 
--- what goes by the base and the potential vorticity as the row begins goes by those at first
-module _ (c : Turn) (P : State → List ℤ → Type 0) where
-  at-first : let s = begin c in let d = c .before .loop .work in let d₀ = s .args .work .now in let m = cells s in
-      P (baseIn (s .args .p) (s .args .b .now) [] d) (part (6 * m) m d) → P (baseIn (s .args .p) (s .args .b .now) [] d₀) (part (6 * m) m d₀)
-  at-first x =
-      let s = begin c in
-      let d = c .before .loop .work in
-      let m = cells s in
-      let e = c .before .loop .inv .5 in
-      subst (λ b. P b (part (6 * m) m (s .args .work .now))) (base-kept (state s) e (s .pre .long))
-      (subst (P (baseIn (s .args .p) (s .args .b .now) [] d)) (vorticity-kept (state s) e (s .pre .long)) x)
+-- what goes by the base as the row begins goes by the one at first
+module _ (c : Turn) (P : State → Type 0) where
+  at-first : let s = begin c in P (baseIn (s .args .p) (s .args .b .now) [] (c .before .loop .work)) → P (baseIn (s .args .p) (s .args .b .now) [] (s .args .work .now))
+  at-first = let s = begin c in subst P (base-kept (state s) (c .before .loop .inv .5) (s .pre .long))
 
 loop-again : tie.Need-loop-again Inv-loop μ-loop
 loop-again c =
@@ -99,20 +80,20 @@ loop-again c =
     let j = i .before .loop .j in
     let d = i .before .loop .work in
     let e = f .velocity-row .ensures in
-    let after = f .velocity-row .last .1 .1 .1 .1 .1 .1 in
+    let after = f .velocity-row .last .1 .1 .1 .1 .1 .1 .1 in
     let d′ = after .1 .0 in
     let room : (a : ℕ) → a + m ≤ 8 * m → 0 + p .w * p .n ≤ length (part a m (s .args .work .now)) = λ a h. omega (arith, length-part a m (s .args .work .now) (omega (arith, s .pre .long))) in (
       omega arith,
-      row-done _ _ _ j (at-first i (λ b q. RowWriting (p .w) (p .n) (newU (state s) b q) 0 j (part (4 * m) m d) (p .w) (part (4 * m) m d′)) (e .0)) (omega arith) (room (4 * m) (omega arith)) (inv .1),
-      row-done _ _ _ j (at-first i (λ b q. RowWriting (p .w) (p .n) (newV (state s) b q) 0 j (part (5 * m) m d) (p .w) (part (5 * m) m d′)) (e .1)) (omega arith) (room (5 * m) (omega arith)) (inv .2),
-      at-first i (λ b q. HandedNorth (state s) q (j + 1) (after .0)) (e .2),
+      row-done _ _ _ j (at-first i (λ b. RowWriting (p .w) (p .n) (newU (state s) b (s .args .q .now)) 0 j (part (4 * m) m d) (p .w) (part (4 * m) m d′)) (e .0)) (omega arith) (room (4 * m) (omega arith)) (inv .1),
+      row-done _ _ _ j (at-first i (λ b. RowWriting (p .w) (p .n) (newV (state s) b (s .args .q .now)) 0 j (part (5 * m) m d) (p .w) (part (5 * m) m d′)) (e .1)) (omega arith) (room (5 * m) (omega arith)) (inv .2),
+      e .2,
       c .before .handed4 .given,
       elsewhere-then (inv .5) (e .3),
     )
 
 returns : tie.Need-returns Inv-loop μ-loop
 returns c =
-    let s = c .before .before .before .before .before .before .before .before in
+    let s = c .before .before .before .before .before in
     let m = cells s in
     let inv = c .before .loop .inv in
     let all = c .loop-test .left in
@@ -125,15 +106,12 @@ fill-velocity-spec =
     (tie.spec
     Inv-loop
     μ-loop
-    (λ c. omega (arith, few (c .before)))
-    (λ c. omega (arith, few (c .before .before)))
-    (λ c κs. omega (arith, c .before .before .pre .long))
     (λ c. refl)
     hand-north-requires
     loop-holds
     (λ c. sym (c .before .before .loop .inv .4))
     velocity-row-requires
-    (λ c. let i = c .before .before .before .before .before in omega (arith, i .loop-test .taken, begin i .pre .state .rows .most))
+    (λ c. let i = c .before .before .before .before .before in omega (arith, i .loop-test .taken, begin i .pre .given .state .rows .most))
     (λ c. omega (arith, c .before .before .before .before .before .loop-test .taken))
     loop-again
     (λ c. c .before .loop .inv .5 .long)

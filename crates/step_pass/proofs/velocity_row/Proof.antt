@@ -20,19 +20,17 @@ use Rattle.grid.specs.Parts.{part}
 use Rattle.grid.specs.WritingLoops.{RowWriting, row-none, row-whole}
 use Rattle.grid.specs.Banks.{Elsewhere, elsewhere-none, elsewhere-set, kept-before, getD-part, part-set, part-set-before, part-set-behind, bank-more}
 use Rattle.scheme.specs.Ready.{TendenciesReady}
-use Rattle.scheme.specs.Shares.{AreTendencies}
 use Rattle.scheme.specs.SchemeSizes.{share-held, east-size, north-size, fit-in}
 use Rattle.scheme.specs.Passing.{tendencyU-size, tendencyV-size}
-use Rattle.scheme.specs.Handing.{FromWest, FromSouth, to-east, Handing, handing-none, handing-more, handing-all, handing-south}
-use Rattle.step_pass.specs.Spaces.{baseIn, VelocityReady, vorticity-kept, velocity-ready-kept}
+use Rattle.scheme.specs.Handing.{FromWest, to-east, Handing, handing-none, handing-more, handing-all, handing-south}
+use Rattle.step_pass.specs.Spaces.{baseIn, VelocityReady, velocity-ready-kept}
 use Rattle.step_pass.proofs.velocity_row.Statement.{statement}
 use Rattle.step_pass.proofs.velocity_row.Tie as tie
 
 abbrev Inv-loop : tie.InvT-loop
-Inv-loop p h b u v j handed₀ work₀ m from-west₀ i₀ i-end handed work from-west i =
+Inv-loop p h b u v q j handed₀ work₀ m from-west₀ i₀ i-end handed work from-west i =
     let s = stateOf p h b u v [] in
     let m = p .w * p .n in
-    let q = part (6 * m) m work₀ in
     let base = baseIn p b [] work₀ in
     RowWriting (p .w) (p .n) (newU s base q) 0 j (part (4 * m) m work₀) i (part (4 * m) m work)
     × RowWriting (p .w) (p .n) (newV s base q) 0 j (part (5 * m) m work₀) i (part (5 * m) m work)
@@ -41,7 +39,7 @@ Inv-loop p h b u v j handed₀ work₀ m from-west₀ i₀ i-end handed work fro
     × Elsewhere (4 * m) (6 * m) work₀ work
 
 abbrev μ-loop : tie.MeasureT-loop
-μ-loop p h b u v j handed₀ work₀ m from-west₀ i₀ i-end handed work from-west i = p .w - i
+μ-loop p h b u v q j handed₀ work₀ m from-west₀ i₀ i-end handed work from-west i = p .w - i
 
 abbrev Start : Type 0
 Start = tie.Start Inv-loop μ-loop
@@ -57,34 +55,30 @@ cells c = c .args .p .w * c .args .p .n
 
 -- the given state's potential vorticity
 abbrev vorticity : Start → List ℤ
-vorticity c = part (6 * cells c) (cells c) (c .args .work .now)
+vorticity c = c .args .q .now
 
 ready : (c : Start) → TendenciesReady (state c) (vorticity c)
-ready c = record { state = c .pre .0 .state; vorticity = c .pre .0 .vorticity }
+ready c = c .pre .0 .given
 
 few : (c : Start) → cells c ≤ 4096
-few c = let s = c .pre .0 .state in cells-most (s .columns) (s .rows)
+few c = let s = c .pre .0 .given .state in cells-most (s .columns) (s .rows)
 
 -- ---- the row begins
 
 from-west-requires : tie.Need-from-west-requires Inv-loop μ-loop
-from-west-requires c κs =
-    let s = c .before .before .before in
-    (subst (TendenciesReady (state s)) (sym (c .part-of .ensures)) (ready s), s .pre .0 .state .columns .some, s .pre .1)
+from-west-requires c κs = let s = c .before in (ready s, ready s .state .columns .some, s .pre .1)
 
 loop-holds : tie.Need-loop-holds Inv-loop μ-loop
 loop-holds c =
-    let q = c .before in
-    let s = q .before .before .before in
+    let s = c .before .before in
     let j = s .args .j in
     let x = c .from-west in
-    let first = subst (λ q. FromWest (state s) q 0 j (x .result)) (q .part-of .ensures) (x .ensures) in
-    (row-none _ _ _ j, row-none _ _ _ j, handing-none (s .pre .2), subst (FromWest (state s) (vorticity s) 0 j) (sym (held-is w64 (x .ok) refl)) first, elsewhere-none)
+    (row-none _ _ _ j, row-none _ _ _ j, handing-none (s .pre .2), subst (FromWest (state s) (vorticity s) 0 j) (sym (held-is w64 (x .ok) refl)) (x .ensures), elsewhere-none)
 
 -- ---- a turn
 
 abbrev begin : Turn → Start
-begin c = c .before .before .before .before .before .before
+begin c = c .before .before .before .before
 
 abbrev cell : Turn → ℕ
 cell c = begin c .args .j * begin c .args .p .w + c .before .loop .i
@@ -96,7 +90,7 @@ in-handed : (c : Turn) → c .before .loop .i < length (c .before .loop .handed)
 in-handed c = omega (arith, c .loop-test .taken, c .before .loop .inv .2 .long, begin c .pre .2 .long)
 
 -- what the row finds is still there
-kept : (c : Turn) → VelocityReady (state (begin c)) (c .before .loop .work)
+kept : (c : Turn) → VelocityReady (state (begin c)) (vorticity (begin c)) (c .before .loop .work)
 kept c = velocity-ready-kept (state (begin c)) (c .before .loop .inv .4) (begin c .pre .0)
 
 -- the cell's place in each bank
@@ -104,35 +98,15 @@ places : (c : Turn)
     → let m = cells (begin c) in let k = cell c in let l = length (c .before .loop .work) in (1 * m + k < l) × (2 * m + k < l) × (4 * m + k < l) × (5 * m + k < l)
 places c = let l = kept c .long in (omega (arith, below c), omega (arith, below c), omega (arith, below c), omega (arith, below c))
 
-abbrev lent : tie.After-part-of2 Inv-loop μ-loop → List ℤ
-lent c = c .part-of2 .result .now
-
-q-is : (c : tie.After-part-of2 Inv-loop μ-loop) → lent c ≡ vorticity (begin (c .before .before))
-q-is c = let i = c .before .before in c .part-of2 .ensures ∙ vorticity-kept (state (begin i)) (i .before .loop .inv .4) (begin i .pre .0 .long)
-
 tendencies-at-requires : tie.Need-tendencies-at-requires Inv-loop μ-loop
 tendencies-at-requires c κs =
-    let l = c .before in
-    let t = l .before .before in
+    let t = c .before in
     let s = begin t in
-    let i = t .before .loop .i in
     let inv = t .before .loop .inv in
-    let q = sym (q-is l) in (
-      subst (TendenciesReady (state s)) q (ready s),
-      t .loop-test .taken,
-      s .pre .1,
-      subst (λ q. FromWest (state s) q i (s .args .j) (toZ w64 (t .before .loop .from-west))) q (inv .3),
-      subst (λ q. FromSouth (state s) q i (s .args .j) (held w64 (getD (t .before .loop .handed) i (pos 0)))) q (handing-south (inv .2) (ready s) (t .loop-test .taken) (s .pre .1)),
-    )
+    (ready s, t .loop-test .taken, s .pre .1, inv .3, handing-south (inv .2) (ready s) (t .loop-test .taken) (s .pre .1))
 
--- the tendencies that are told are those with the given state's own potential vorticity
 abbrev turn : tie.After-tendencies-at Inv-loop μ-loop → Turn
-turn c = c .before .before .before .before
-
-told : (c : tie.After-tendencies-at Inv-loop μ-loop) → let s = begin (turn c) in AreTendencies (state s) (vorticity s) (turn c .before .loop .i) (s .args .j) (c .tendencies-at .result)
-told c =
-    let s = begin (turn c) in
-    subst (λ q. AreTendencies (state s) q (turn c .before .loop .i) (s .args .j) (c .tendencies-at .result)) (q-is (c .before .before)) (c .tendencies-at .ensures)
+turn c = c .before .before
 
 -- the base's velocities, the tendencies and R, as the machine holds them
 old-u : (c : Turn) → held w64 (getD (c .before .loop .work) (1 * cells (begin c) + cell c) (pos 0)) ≡ getD (part (cells (begin c)) (cells (begin c)) (begin c .args .work .now)) (cell c) (pos 0)
@@ -155,13 +129,13 @@ old-v c =
 u-is : (c : tie.After-tendencies-at Inv-loop μ-loop) → let s = begin (turn c) in held w64 (c .tendencies-at .result .u) ≡ tendencyU (state s) (vorticity s) (turn c .before .loop .i) (s .args .j)
 u-is c =
     let s = begin (turn c) in
-    let e = told c .u in
+    let e = c .tendencies-at .ensures .u in
     exact w64 (var 0) (abs-as e (tendencyU-size (ready s) (turn c .loop-test .taken) (s .pre .1)) ◂ ∎) tt ∙ e
 
 v-is : (c : tie.After-tendencies-at Inv-loop μ-loop) → let s = begin (turn c) in held w64 (c .tendencies-at .result .v) ≡ tendencyV (state s) (vorticity s) (turn c .before .loop .i) (s .args .j)
 v-is c =
     let s = begin (turn c) in
-    let e = told c .v in
+    let e = c .tendencies-at .ensures .v in
     exact w64 (var 0) (abs-as e (tendencyV-size (ready s) (turn c .loop-test .taken) (s .pre .1)) ◂ ∎) tt ∙ e
 
 ratio-is : (c : Start) → held w64 (c .args .p .r) ≡ c .args .p .r
@@ -228,7 +202,7 @@ loop-again c =
     let r = s .pre .1 in
     let l = below i in
     let fit = fit-in (ready s) p r in
-    let e = told t in (
+    let e = t .tendencies-at .ensures in (
       bank-more _ _ _ (inv .0) p r (new-u-is c) (part-set-behind (4 * m) m _ (5 * m + k) _ (omega arith) ∙ part-set (4 * m) m d k _ l),
       bank-more _ _ _ (inv .1) p r (new-v-is c)
           (part-set (5 * m) m _ k _ l ∙ ap (λ f. set f k (held w64 (c .moved-velocity2 .result))) (part-set-before (5 * m) m d (4 * m + k) _ (omega arith))),
@@ -241,7 +215,7 @@ loop-again c =
 
 returns : tie.Need-returns Inv-loop μ-loop
 returns c =
-    let s = c .before .before .before .before .before .before in
+    let s = c .before .before .before .before in
     let inv = c .before .loop .inv in
     let all = c .loop-test .left in (
       row-whole _ _ _ (inv .0) all,
@@ -257,14 +231,10 @@ velocity-row-spec =
     Inv-loop
     μ-loop
     (λ c. omega (arith, few (c .before)))
-    (λ c. omega (arith, few (c .before .before)))
-    (λ c κs. omega (arith, c .before .before .pre .0 .long))
     from-west-requires
     loop-holds
-    (λ c. omega (arith, few (begin (c .before))))
-    (λ c κs. omega (arith, kept (c .before) .long))
-    (λ c. omega (arith, below (c .before .before), few (begin (c .before .before))))
-    (λ c. in-handed (c .before .before))
+    (λ c. omega (arith, below c, few (begin c)))
+    in-handed
     tendencies-at-requires
     (λ c. omega (arith, below (turn (c .before .before .before)), few (begin (turn (c .before .before .before)))))
     (λ c. omega (arith, below (turn (c .before .before .before)), few (begin (turn (c .before .before .before)))))

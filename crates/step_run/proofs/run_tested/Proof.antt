@@ -6,8 +6,8 @@ use borrow.Author.Needs.{needs}
 use Rattle.model.specs.State.{State, stateOf}
 use Rattle.model.specs.Step.{runTest}
 use Rattle.model.specs.Promises.{answerOf}
+use Rattle.model.specs.Claims.{StepTaken}
 use Rattle.model.specs.declared.Answer.the-variants.{Accepted}
-use Rattle.step_two_pass.specs.Outcomes.{StepReady}
 use Rattle.step_run.proofs.CallLaws.{run-passed, run-done, run-refused, run-room}
 use Rattle.step_run.proofs.run_tested.Statement.{statement}
 use Rattle.step_run.proofs.run_tested.Tie as tie
@@ -20,20 +20,20 @@ state c = let a = c .args in stateOf (a .p) (a .h .now) (a .b .now) (a .u .now) 
 passed : (c : tie.After-enum-told) → let s = c .before .before .before in Accepted ≡ answerOf (runTest (state s) (s .args .inflow .now) (s .args .steps) (length (s .args .work .now)))
 passed c = sym (c .enum-told .given .1) ∙ c .before .before .before .pre
 
-ready : (c : tie.After-enum-told) → let s = c .before .before .before in StepReady (state s) (s .args .inflow .now) (s .args .work .now)
+ready : (c : tie.After-enum-told) → let s = c .before .before .before in StepTaken (state s) (s .args .inflow .now) (length (s .args .work .now))
 ready c = let s = c .before .before .before in run-passed (state s) (s .args .inflow .now) (s .args .steps) (s .args .work .now) (passed c)
 
-abbrev accepted : tie.After-run-steps → tie.After-enum-told
+abbrev accepted : tie.After-run-in-room → tie.After-enum-told
 accepted c = c .before .before .before .before .before
 
-abbrev ran : tie.After-clear-used-arg → tie.After-run-steps
+abbrev ran : tie.After-clear-used-arg → tie.After-run-in-room
 ran c = c .before .before .before .before .before
 
 clear-used-requires : tie.Need-clear-used-requires
 clear-used-requires c κs =
     let t = ran c in
     let r = ready (accepted t) in
-    (r .state .columns, r .state .rows, omega (arith, r .long, t .run-steps .ensures .2 .long))
+    (r .0 .columns, r .0 .rows, omega (arith, r .2, t .run-in-room .ensures .2 .long))
 
 returns : tie.Need-returns
 returns c =
@@ -42,7 +42,7 @@ returns c =
     let e = accepted t in
     let s = e .before .before .before in
     let a = s .args in
-    let r = t .run-steps .ensures in
+    let r = t .run-in-room .ensures in
     run-done (state s) (a .inflow .now) (a .steps) (a .work .now) (passed e) (r .0) (r .1) (r .2) (k .clear-used .ensures)
 
 -- ---- a test refuses

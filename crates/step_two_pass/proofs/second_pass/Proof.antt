@@ -25,10 +25,10 @@ few : (c : tie.Start) → cells c ≤ 4096
 few c = let g = c .pre .given in cells-most (g .columns) (g .rows)
 
 abbrev passed : tie.After-first-outside → tie.After-pass
-passed c = c .before .before .before
+passed c = c .before .before .before .before
 
 abbrev begin : tie.After-pass → tie.Start
-begin c = c .before .before .before .before .before .before .before
+begin c = c .before .before .before .before .before .before .before .before
 
 -- what the scan tells, of the model's pass
 scanned : (c : tie.After-first-outside) → let s = begin (passed c) in c .first-outside .result ≡ boundsBy (leaves (pass (base s) (given s) (s .args .inflow .now)))
@@ -76,7 +76,7 @@ second-pass-spec =
     (tie.spec
     (λ c. omega (arith, few (c .before .before)))
     (λ c κs. search needs)
-    (λ c κs. let k = c .before .before in let s = begin k in let g = s .pre .given in (g .columns, g .rows, omega (arith, s .pre .long, k .pass .ensures .1 .long)))
+    (λ c κs. let k = c .before .before .before in let s = begin k in let g = s .pre .given in (g .columns, g .rows, omega (arith, s .pre .long, k .pass .ensures .1 .long)))
     (λ c. search needs)
     (λ c. omega (arith, few (begin (passed (c .before .before .before)))))
     take-state-requires
@@ -86,7 +86,9 @@ second-pass-spec =
     (λ c. search needs)
     (λ c. search needs)
     (λ c. search needs)
+    (λ c. search needs)
     returns
+    (λ c. search needs)
     (λ c. search needs)
     (λ c. search needs)
     (λ c. search needs)

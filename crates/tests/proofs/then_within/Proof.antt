@@ -1,25 +1,18 @@
 -- `tests::then_within` meets its contract. Assumes nothing.
-use mathlib.Core.Path.{ap, _∙_}
-use mathlib.Core.List.{[], _∷_}
-use Prim.Native.Nat.{ℕ}
 use lib.ListN.{length}
 use borrow.Author.Needs.{needs}
-use Rattle.model.specs.Tests.{seeks}
 use Rattle.model.specs.declared.Refusal.the-variants.{Value}
 use Rattle.tests.specs.Sought.{outsideIn}
-use Rattle.tests.specs.Links.{after}
 use Rattle.tests.proofs.LinkLaws.{sought}
 use Rattle.tests.proofs.then_within.Statement.{statement}
 use Rattle.tests.proofs.then_within.Tie as tie
 
--- the scan goes over the numbers that the field has, which are as many as it must have
 returns-2 : tie.Need-returns-2
 returns-2 c =
     let b = c .before in
     let e = b .before in
     let a = e .before .before .args in
     sought (outsideIn (a .limits) (a .f .now)) (length (a .f .now)) (Value (a .field)) (e .enum-told .given .1) (b .first-outside .ensures) (c .value-answer .ensures)
-    ∙ ap (λ (m : ℕ). after (a .earlier) (seeks (outsideIn (a .limits) (a .f .now)) m (Value (a .field)) ∷ [])) (e .before .before .pre (e .enum-told .given .1))
 
 pub then-within-spec : {M : Type 1} → statement M
 then-within-spec =

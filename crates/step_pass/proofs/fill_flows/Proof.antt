@@ -1,4 +1,4 @@
--- `step_pass::fill_edges` meets its contract: row by row, column by column, in three banks. Assumes nothing.
+-- `step_pass::fill_flows` meets its contract: row by row, column by column, in two banks. Assumes nothing.
 use mathlib.Core.Path.{_≡_, ap, _∙_}
 use mathlib.Core.List.{List, []}
 use Prim.Native.Nat.{ℕ, _+_, _-_, _*_, _≤_, _<_, zero-le}
@@ -7,7 +7,6 @@ use lib.IntN.{ℤ}
 use lib.ListN.{length, set, length-set}
 use mir.Syntax.{w64}
 use Rattle.model.specs.State.{State, stateOf}
-use Rattle.model.specs.Scheme.{vorticityAt, vorticity}
 use Rattle.model.specs.Step.{X, Y}
 use Rattle.model.specs.declared.Parameters.{Parameters}
 use Rattle.integers.specs.Bounds.{held, held-is}
@@ -15,8 +14,8 @@ use Rattle.grid.specs.Cells.{cells-most, cell-lt}
 use Rattle.grid.specs.Parts.{part}
 use Rattle.grid.specs.WritingLoops.{Writing, RowWriting, field, row-none, row-done, rows-none}
 use Rattle.grid.specs.Banks.{Elsewhere, elsewhere-none, elsewhere-set, elsewhere-then, part-set, part-set-before, part-set-behind, length-part, bank-more, bank-filled}
-use Rattle.step_pass.proofs.fill_edges.Statement.{statement}
-use Rattle.step_pass.proofs.fill_edges.Tie as tie
+use Rattle.step_pass.proofs.fill_flows.Statement.{statement}
+use Rattle.step_pass.proofs.fill_flows.Tie as tie
 
 abbrev given : Parameters → (h u v : List ℤ) → State
 given p h u v = stateOf p h [] u v []
@@ -27,8 +26,7 @@ Inv-loop2 p h u v work₀ m j i₀ j-end i-end work i =
     let m = p .w * p .n in
     RowWriting (p .w) (p .n) (X s) 0 j (part (4 * m) m work₀) i (part (4 * m) m work)
     × RowWriting (p .w) (p .n) (Y s) 0 j (part (5 * m) m work₀) i (part (5 * m) m work)
-    × RowWriting (p .w) (p .n) (vorticityAt s) 0 j (part (6 * m) m work₀) i (part (6 * m) m work)
-    × Elsewhere (4 * m) (7 * m) work₀ work
+    × Elsewhere (4 * m) (6 * m) work₀ work
 
 abbrev μ-loop2 : tie.MeasureT-loop2
 μ-loop2 p h u v work₀ m j i₀ j-end i-end work i = p .w - i
@@ -40,8 +38,7 @@ Inv-loop p h u v work₀ m j₀ j-end work j =
     (j ≤ p .n)
     × Writing 0 (field (p .w) (p .n) (X s)) (part (4 * m) m work₀) (j * p .w) (part (4 * m) m work)
     × Writing 0 (field (p .w) (p .n) (Y s)) (part (5 * m) m work₀) (j * p .w) (part (5 * m) m work)
-    × Writing 0 (field (p .w) (p .n) (vorticityAt s)) (part (6 * m) m work₀) (j * p .w) (part (6 * m) m work)
-    × Elsewhere (4 * m) (7 * m) work₀ work
+    × Elsewhere (4 * m) (6 * m) work₀ work
 
 abbrev μ-loop : tie.MeasureT-loop
 μ-loop p h u v work₀ m j₀ j-end work j = p .n - j
@@ -56,7 +53,7 @@ abbrev begin : Turn → Start
 begin c = c .before .before .before .before .before
 
 abbrev turn : tie.After-struct-known2 Inv-loop2 μ-loop2 Inv-loop μ-loop → Turn
-turn c = c .before .before .before .before .before
+turn c = c .before .before .before .before
 
 -- the cell's index
 abbrev cell : Turn → ℕ
@@ -70,28 +67,19 @@ few c = let r = c .pre .0 in cells-most (r .columns) (r .rows)
 
 -- the work space is long enough
 long : (c : Turn) → let p = begin c .args .p in 8 * (p .w * p .n) ≤ length (c .before .loop2 .work)
-long c = omega (arith, begin c .pre .1, c .before .loop2 .inv .3 .long, c .before .before .before .loop .inv .4 .long)
+long c = omega (arith, begin c .pre .1, c .before .loop2 .inv .2 .long, c .before .before .before .loop .inv .3 .long)
 
 -- the cell's place in each bank
 places : (c : Turn)
-    → let p = begin c .args .p in let m = p .w * p .n in let l = length (c .before .loop2 .work) in (4 * m + cell c < l) × (5 * m + cell c < l) × (6 * m + cell c < l)
-places c = (omega (arith, below c, long c), omega (arith, below c, long c), omega (arith, below c, long c))
+    → let p = begin c .args .p in let m = p .w * p .n in let l = length (c .before .loop2 .work) in (4 * m + cell c < l) × (5 * m + cell c < l)
+places c = (omega (arith, below c, long c), omega (arith, below c, long c))
 
 flows-at-requires : tie.Need-flows-at-requires Inv-loop2 μ-loop2 Inv-loop μ-loop
-flows-at-requires c κs =
-    let r = begin c .pre .0 in
-    (record { columns = r .columns; rows = r .rows; ratio = r .ratio; depths = r .depths; us = r .us; vs = r .vs }, c .loop2-test .taken, c .before .before .loop-test .taken)
-
-vorticity-at-requires : tie.Need-vorticity-at-requires Inv-loop2 μ-loop2 Inv-loop μ-loop
-vorticity-at-requires c κs =
-    let i = c .before .before .before in
-    let r = begin i .pre .0 in
-    (record { columns = r .columns; rows = r .rows; coriolis = r .coriolis; depths = r .depths; us = r .us; vs = r .vs }, i .loop2-test .taken, i .before .before .loop-test .taken)
+flows-at-requires c κs = (begin c .pre .0, c .loop2-test .taken, c .before .before .loop-test .taken)
 
 loop2-again : tie.Need-loop2-again Inv-loop2 μ-loop2 Inv-loop μ-loop
 loop2-again c =
-    let z = c .before in
-    let t = z .before in
+    let t = c .before in
     let e = t .before .before in
     let i = e .before in
     let a = begin i .args in
@@ -104,13 +92,10 @@ loop2-again c =
     let r = i .before .before .loop-test .taken in
     let l = below i in (
       bank-more _ _ _ (inv .0) q r (held-is w64 (t .struct-told2 .given .0 .1) (e .flows-at .ensures .0))
-          (part-set-behind (4 * m) m _ (6 * m + k) _ (omega arith) ∙ part-set-behind (4 * m) m _ (5 * m + k) _ (omega arith) ∙ part-set (4 * m) m d k _ l),
+          (part-set-behind (4 * m) m _ (5 * m + k) _ (omega arith) ∙ part-set (4 * m) m d k _ l),
       bank-more _ _ _ (inv .1) q r (held-is w64 (t .struct-told2 .given .1 .0 .1) (e .flows-at .ensures .1))
-          (part-set-behind (5 * m) m _ (6 * m + k) _ (omega arith) ∙ part-set (5 * m) m _ k _ l ∙ ap (λ f. set f k (held w64 (e .flows-at .result .y))) (part-set-before (5 * m) m d (4 * m + k) _ (omega arith))),
-      bank-more _ _ _ (inv .2) q r (held-is w64 (z .vorticity-at .ok) (z .vorticity-at .ensures))
-          (part-set (6 * m) m _ k _ l
-          ∙ ap (λ f. set f k (held w64 (z .vorticity-at .result))) (part-set-before (6 * m) m _ (5 * m + k) _ (omega arith) ∙ part-set-before (6 * m) m d (4 * m + k) _ (omega arith))),
-      elsewhere-set (6 * m + k) _ (elsewhere-set (5 * m + k) _ (elsewhere-set (4 * m + k) _ (inv .3) (omega arith) (omega arith)) (omega arith) (omega arith)) (omega arith) (omega arith),
+          (part-set (5 * m) m _ k _ l ∙ ap (λ f. set f k (held w64 (e .flows-at .result .y))) (part-set-before (5 * m) m d (4 * m + k) _ (omega arith))),
+      elsewhere-set (5 * m + k) _ (elsewhere-set (4 * m + k) _ (inv .2) (omega arith) (omega arith)) (omega arith) (omega arith),
     )
 
 loop-again : tie.Need-loop-again Inv-loop2 μ-loop2 Inv-loop μ-loop
@@ -129,12 +114,10 @@ loop-again c =
       omega arith,
       row-done _ _ _ j (inv .0) all (room (4 * m) (omega arith)) (out .1),
       row-done _ _ _ j (inv .1) all (room (5 * m) (omega arith)) (out .2),
-      row-done _ _ _ j (inv .2) all (room (6 * m) (omega arith)) (out .3),
-      elsewhere-then (out .4) (inv .3),
+      elsewhere-then (out .3) (inv .2),
     )
 
 returns : tie.Need-returns Inv-loop2 μ-loop2 Inv-loop μ-loop
-unfolding vorticity
 returns c =
     let b = c .before .before .before in
     let p = b .args .p in
@@ -145,12 +128,11 @@ returns c =
     let room : (a : ℕ) → a + m ≤ 8 * m → length (part a m d) ≡ m = λ a h. length-part a m d (omega (arith, b .pre .1)) in (
       bank-filled _ _ _ (inv .1) all (room (4 * m) (omega arith)),
       bank-filled _ _ _ (inv .2) all (room (5 * m) (omega arith)),
-      bank-filled _ _ _ (inv .3) all (room (6 * m) (omega arith)),
-      inv .4,
+      inv .3,
     )
 
-pub fill-edges-spec : {M : Type 1} → statement M
-fill-edges-spec =
+pub fill-flows-spec : {M : Type 1} → statement M
+fill-flows-spec =
     tie.close
     (tie.spec
     Inv-loop2
@@ -158,10 +140,9 @@ fill-edges-spec =
     Inv-loop
     μ-loop
     (λ c. omega (arith, few (c .before)))
-    (λ c. (zero-le, rows-none _ _ _, rows-none _ _ _, rows-none _ _ _, elsewhere-none))
-    (λ c. let j = c .before .loop .j in (row-none _ _ _ j, row-none _ _ _ j, row-none _ _ _ j, elsewhere-none))
+    (λ c. (zero-le, rows-none _ _ _, rows-none _ _ _, elsewhere-none))
+    (λ c. let j = c .before .loop .j in (row-none _ _ _ j, row-none _ _ _ j, elsewhere-none))
     flows-at-requires
-    vorticity-at-requires
     (λ c. omega (arith, below (turn c), few (begin (turn c))))
     (λ c. omega (arith, below (turn c), few (begin (turn c))))
     (λ c. omega (arith, few (begin (turn c))))
@@ -172,15 +153,11 @@ fill-edges-spec =
     (λ c. omega (arith, below (turn c), few (begin (turn c))))
     (λ c. omega (arith, below (turn c), few (begin (turn c))))
     (λ c. rw length-set (places (turn c) .1))
-    (λ c. omega (arith, few (begin (turn c))))
-    (λ c. omega (arith, below (turn c), few (begin (turn c))))
-    (λ c. omega (arith, below (turn c), few (begin (turn c))))
-    (λ c. rw (length-set, length-set) (places (turn c) .2))
     (λ c. omega (arith, turn c .loop2-test .taken, begin (turn c) .pre .0 .columns .most))
     (λ c. omega (arith, turn c .loop2-test .taken))
     loop2-again
     (λ c. omega (arith, c .before .before .loop-test .taken, c .before .before .before .before .before .pre .0 .rows .most))
     (λ c. omega (arith, c .before .before .loop-test .taken))
     loop-again
-    (λ c. c .before .loop .inv .4 .long)
+    (λ c. c .before .loop .inv .3 .long)
     returns)
