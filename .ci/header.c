@@ -25,6 +25,7 @@ size_t cells_elsewhere(const struct basin_state *s)
 /* Sizes are constants, of type size_t. */
 static int64_t work[BASIN_WORK_LEN(64, 64)];
 static uint8_t record[BASIN_RECORD_LEN(1, 1)];
+static int64_t corners[BASIN_CORNERS(64, 64, BASIN_KIND_BASIN)];
 
 static int wrong;
 
@@ -45,6 +46,14 @@ static void sizes(void)
     expect("places of work", sizeof work / sizeof work[0], 32768);
     expect("bytes of a record", sizeof record, 65);
     expect("type of a size", sizeof(BASIN_WORK_LEN(w, n)), sizeof(size_t));
+    expect("places of q", sizeof corners / sizeof corners[0],
+           BASIN_MOST_CORNERS);
+    expect("corners without walls", BASIN_CORNERS(w, n, BASIN_KIND_PERIODIC),
+           4096);
+    expect("corners of a channel", BASIN_CORNERS(w, n, BASIN_KIND_CHANNEL),
+           4160);
+    expect("corners of sums", BASIN_CORNERS(1 + 1, 2 + 1, 1 + 1), 12);
+    expect("type of corners", sizeof(BASIN_CORNERS(w, n, 1)), sizeof(size_t));
     expect("cells", BASIN_MOST_CELLS, BASIN_LONGEST_SIDE * BASIN_LONGEST_SIDE);
     expect("version", basin_version(), BASIN_VERSION);
 }
@@ -67,6 +76,7 @@ static void refusals(void)
     /* A product that is 0 where it is cut, and lists that have one number. */
     s.w = s.n = (size_t)1 << 32;
     expect("cells of no grid", basin_state_cells(&s), 0);
+    expect("corners of no grid", basin_state_corners(&s), 0);
     expect("1, sides", basin_state_total_depth(&s, &total, answer),
            BASIN_REFUSED_GRID);
     s.w = s.n = 1;
@@ -166,6 +176,38 @@ static void probes(void)
            dv[0] == -15745574400.0, 1);
 }
 
+/* Between walls a cell has corners of its own, and q is as long. */
+static void walls(void)
+{
+    int64_t h[1] = {2000}, b[1] = {0}, u[1] = {0}, v[1] = {0};
+    int64_t dh[1], du[1], dv[1];
+    uint8_t barriers[1] = {BASIN_BARRIER_NONE};
+    uint64_t answer[8];
+    struct basin_state s = {
+        1, 1, BASIN_KIND_BASIN, 9810, 10, 1000, h, b, u, v, barriers,
+    };
+    expect("corners of a basin", basin_state_corners(&s), 4);
+    corners[4] = 7;
+    expect("q", basin_state_potential_vorticity(&s, corners, answer), 0);
+    for (int k = 0; k < 4; k++)
+        expect("a corner", corners[k] == 328, 1);
+    expect("past the corners", corners[4] == 7, 1);
+    expect("tendencies", basin_state_tendencies(&s, corners, dh, du, dv,
+                                                answer), 0);
+    corners[3] = -2000001;
+    expect("4, q", basin_state_tendencies(&s, corners, dh, du, dv, answer),
+           BASIN_REFUSED_VALUE);
+    expect("4, corner", answer[2], 3);
+    s.kind = BASIN_KIND_CHANNEL;
+    expect("corners of a channel", basin_state_corners(&s), 2);
+    expect("two corners", basin_state_tendencies(&s, corners, dh, du, dv,
+                                                 answer), 0);
+    expect("8, q", basin_potential_vorticity(1, 1, s.kind, s.g, s.c, s.r, h, 1,
+                                             b, 1, u, 1, v, 1, barriers, 1,
+                                             corners, 1, answer),
+           BASIN_REFUSED_DESTINATION);
+}
+
 /* A record goes round, and what it was before does not count. */
 static void round_trip(void)
 {
@@ -207,6 +249,7 @@ int main(void)
     refusals();
     names();
     probes();
+    walls();
     round_trip();
     return wrong;
 }

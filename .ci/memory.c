@@ -70,7 +70,7 @@ static void drop(struct basin_state *s)
 static void diagnose(const struct basin_state *s)
 {
     size_t cells = basin_state_cells(s);
-    int64_t *q = room(8 * cells), *dh = room(8 * cells);
+    int64_t *q = room(8 * basin_state_corners(s)), *dh = room(8 * cells);
     int64_t *du = room(8 * cells), *dv = room(8 * cells);
     int64_t depth, energy;
     uint64_t answer[8];
@@ -84,6 +84,8 @@ static void diagnose(const struct basin_state *s)
            BASIN_ACCEPTED);
     if (depth != sum(s->h, cells) || sum(dh, cells) != 0 || energy < 0)
         wrong++;
+    if (sum(q, basin_state_corners(s)) == INT64_MIN)
+        wrong++;
     if (sum(du, cells) == INT64_MIN && sum(dv, cells) == INT64_MIN)
         wrong++;
     free(q);
@@ -95,7 +97,7 @@ static void diagnose(const struct basin_state *s)
 static void probe(const struct basin_state *s)
 {
     size_t cells = basin_state_cells(s);
-    int64_t *q = room(8 * cells);
+    int64_t *q = room(8 * basin_state_corners(s));
     double *dh = room(8 * cells), *du = room(8 * cells), *dv = room(8 * cells);
     double *doubles = room(3 * sizeof *doubles);
     uint64_t answer[8];

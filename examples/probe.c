@@ -13,7 +13,7 @@
 
 #include "basin.h"
 
-enum { CELLS = 2 };
+enum { CELLS = 2, CORNERS = BASIN_CORNERS(2, 1, BASIN_KIND_BASIN) };
 
 static const char *word(const uint64_t answer[8])
 {
@@ -96,10 +96,12 @@ int main(void)
     print_probe("large", &large, q3, 0);
     print_grid("large", &large, q3);
 
-    /* Closed edges have 0, and no cell is probed where the state is refused. */
+    /* Closed edges have 0, and no cell is probed where the state is refused.
+     * Between walls the two cells have six corners. */
+    int64_t q4[CORNERS] = {1000000, -1000000, 0, 0, 500000, -500000};
     two.kind = BASIN_KIND_BASIN;
-    print_probe("a current through a wall", &two, q2, 2);
+    print_probe("a current through a wall", &two, q4, 2);
     u2[0] = v2[0] = v2[1] = 0;
-    print_grid("walls", &two, q2);
+    print_grid("walls", &two, q4);
     return 0;
 }

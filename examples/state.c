@@ -15,6 +15,7 @@
 
 /* A dock of three columns and two rows. */
 enum { W = 3, N = 2, CELLS = W * N };
+enum { CORNERS = BASIN_CORNERS(W, N, BASIN_KIND_BASIN) };
 
 static void print_refusal(const char *name, const uint64_t answer[8])
 {
@@ -60,16 +61,18 @@ static void print_totals(const char *name, const struct basin_state *s)
 
 static void print_tendencies(const char *name, const struct basin_state *s)
 {
-    int64_t q[CELLS], dh[CELLS], du[CELLS], dv[CELLS];
+    int64_t q[CORNERS], dh[CELLS], du[CELLS], dv[CELLS];
     uint64_t answer[8];
     if (basin_state_potential_vorticity(s, q, answer) != BASIN_ACCEPTED ||
         basin_state_tendencies(s, q, dh, du, dv, answer) != BASIN_ACCEPTED) {
         print_refusal(name, answer);
         return;
     }
+    /* Row by row from the south: four corners, for three cells between walls. */
+    for (size_t k = 0; k < basin_state_corners(s); k++)
+        printf("%s corner %zu: q %" PRId64 "\n", name, k, q[k]);
     for (size_t k = 0; k < basin_state_cells(s); k++)
-        printf("%s cell %zu: q %" PRId64 " dh %" PRId64 "\n",
-               name, k, q[k], dh[k]);
+        printf("%s cell %zu: dh %" PRId64 "\n", name, k, dh[k]);
 }
 
 int main(void)

@@ -1,5 +1,5 @@
 /*
- * The proved basin core (document 01, and requests U1, U2 and U3 of document
+ * The proved basin core (document 01, and requests U1, U2, U3 and U5 of document
  * 02), for C and C++ on x86-64. Link target/staticlib/libbasin.a, which `rt
  * staticlib basin` writes: the step of a state and runs of it, totals,
  * potential vorticity and tendencies, these in double precision too, the record
@@ -28,6 +28,13 @@
  * the call, so that 256 is taken as kind 0. Column i of row j is cell j*w + i.
  * The edges u(0,j) are closed for kind 2, the edges v(i,0) for kinds 1 and 2;
  * kind 0 closes none.
+ *
+ * Corners. Potential vorticity q has a number for each corner of the grid, row by
+ * row from the southwest, BASIN_CORNERS(w, n, kind) in all. Kind 0 has w by n
+ * corners. A walled side has its own: kind 1 has w by n + 1, kind 2 has w + 1 by
+ * n + 1. The cell in column i of row j has those in columns i and i + 1 of rows j
+ * and j + 1, where the one past the last is the first: only where there is no
+ * wall. Barriers make no wall.
  *
  * Barriers (02: piers). They close edges inside the grid. A cell's byte is 0
  * for none, 1 for its west edge, the one of u, 2 for its south edge, the one of
@@ -72,11 +79,12 @@
  *           steps above 10,000
  *   2       a field to be read or stepped, or the barriers,
  *           does not have w*n numbers (in a record, the
- *           bytes of these); work_len below 8*w*n
+ *           bytes of these), q not one for each corner;
+ *           work_len below 8*w*n
  *   3       g not 1 to 10,000; c not -10,000 to 10,000;
  *           r not 1,000 to 1,000,000
  *   4       a number outside its bounds, by field: h, b, u,   field, cell
- *           v, barriers, then q or inflow; lowest cell first
+ *           v, barriers, then q or inflow; lowest cell first  (of q: corner)
  *   5       a velocity other than 0 on a closed edge, u       field, cell
  *           before v, lowest cell first
  *   6       a pass of the step, 1 or 2, leaves the bounds     pass, field, cell
@@ -85,7 +93,8 @@
  *           bytes left, an unknown tag, a repeated tag, a     tag; length of
  *           value past the end, tag 1, 2, 3 or 8 of a wrong   the record where
  *           length; then a tag of 1 to 7 that is missing      one is missing
- *   8       a field to be filled has fewer than w*n places;
+ *   8       a field to be filled has fewer than w*n places, q
+ *           fewer than there are corners;
  *           record_len below 52 + 13*w*n, to be written
  *   9       milliseconds above 999 (write, read, compare)
  *   10      a probed cell outside the grid
@@ -114,7 +123,7 @@ extern "C" {
  * basin_version() returns that of the library. A caller that finds two numbers
  * has a header and a library that do not belong together.
  */
-#define BASIN_VERSION 700
+#define BASIN_VERSION 800
 uint64_t basin_version(void);
 
 /* The refusals: what a call returns, and answer[0]. */
@@ -178,13 +187,20 @@ enum basin_comparison {
 
 /*
  * Sizes for a grid of w columns and n rows: the numbers of the work space of a
- * step or run, and the bytes of a record. They are of type size_t, and constant
- * where w and n are. They are right for every grid that is not refused with 1;
- * for sides above 64 they may overflow.
+ * step or run, the bytes of a record, and the corners of a grid of this kind,
+ * which are the numbers of q. They are of type size_t, and constant where w, n
+ * and kind are. They are right for every grid that is not refused with 1; for
+ * sides above 64 they may overflow. No grid has more corners than
+ * BASIN_MOST_CORNERS.
  */
 #define BASIN_WORK_LEN(w, n) ((size_t)8 * (size_t)(w) * (size_t)(n))
 #define BASIN_RECORD_LEN(w, n) \
     ((size_t)52 + (size_t)13 * (size_t)(w) * (size_t)(n))
+#define BASIN_CORNERS(w, n, kind) \
+    (((size_t)(w) + (size_t)((kind) == BASIN_KIND_BASIN)) * \
+     ((size_t)(n) + (size_t)((kind) == BASIN_KIND_BASIN || \
+                             (kind) == BASIN_KIND_CHANNEL)))
+#define BASIN_MOST_CORNERS 4225
 
 /*
  * a/b rounded to the nearest whole number, halves away from zero.
@@ -195,10 +211,11 @@ enum basin_comparison {
 uint64_t basin_rnd(int64_t a, int64_t b, int64_t *rounded);
 
 /*
- * Potential vorticity, times spacing times 65,536, at the southwest corners of
- * the cells. Barriers do not change it. Tests 1 to 5, then 8 of q. Where none
- * refuses, the first w*n numbers of q are the result and the rest of q is
- * untouched.
+ * Potential vorticity, times spacing times 65,536, at the corners. One on a wall
+ * takes c alone, without velocities, over the mean depth of the cells inside: of
+ * two, or of one where two walls meet. Barriers do not change it. Tests 1 to 5,
+ * then 8 of q. Where none refuses, the first BASIN_CORNERS(w, n, kind) numbers
+ * of q are the result and the rest of q is untouched.
  */
 uint64_t basin_potential_vorticity(size_t w, size_t n, uint8_t kind,
                                    int64_t g, int64_t c, int64_t r,
@@ -211,12 +228,12 @@ uint64_t basin_potential_vorticity(size_t w, size_t n, uint8_t kind,
                                    uint64_t answer[8]);
 
 /*
- * Tendencies of a state with a potential vorticity q, which may be any within
- * its bounds: of h in dh, the rate times 2 spacings; of u in du and of v in
- * dv, the rates times spacing times 3,145,728, 0 on closed edges. Tests 1 to
- * 5, q among the fields, then 8 of dh, du and dv. Where none refuses, the
- * first w*n numbers of each of the three are the result and the rest of each
- * is untouched.
+ * Tendencies of a state with a potential vorticity q, which has a number for
+ * each corner and may be any within its bounds: of h in dh, the rate times 2
+ * spacings; of u in du and of v in dv, the rates times spacing times 3,145,728, 0
+ * on closed edges. Tests 1 to 5, q among the fields, then 8 of dh, du and dv.
+ * Where none refuses, the first w*n numbers of each of the three are the result
+ * and the rest of each is untouched.
  */
 uint64_t basin_tendencies(size_t w, size_t n, uint8_t kind,
                           int64_t g, int64_t c, int64_t r,
@@ -419,7 +436,16 @@ static inline size_t basin_state_cells(const struct basin_state *s)
     return s->w * s->n;
 }
 
-/* Potential vorticity, into the w*n places of q. */
+/*
+ * BASIN_CORNERS(w, n, kind), which is passed as the length of q; 0 where w or n
+ * is not 1 to 64.
+ */
+static inline size_t basin_state_corners(const struct basin_state *s)
+{
+    return basin_state_cells(s) == 0 ? 0 : BASIN_CORNERS(s->w, s->n, s->kind);
+}
+
+/* Potential vorticity, into the BASIN_CORNERS(w, n, kind) places of q. */
 static inline uint64_t basin_state_potential_vorticity(
     const struct basin_state *s, int64_t *q, uint64_t answer[8])
 {
@@ -427,10 +453,13 @@ static inline uint64_t basin_state_potential_vorticity(
     return basin_potential_vorticity(s->w, s->n, s->kind, s->g, s->c, s->r,
                                      s->h, cells, s->b, cells, s->u, cells,
                                      s->v, cells, s->barriers, cells,
-                                     q, cells, answer);
+                                     q, basin_state_corners(s), answer);
 }
 
-/* Tendencies with the w*n numbers of q, into the w*n places of dh, du, dv. */
+/*
+ * Tendencies with the BASIN_CORNERS(w, n, kind) numbers of q, into the w*n places
+ * of dh, du, dv.
+ */
 static inline uint64_t basin_state_tendencies(
     const struct basin_state *s, const int64_t *q,
     int64_t *dh, int64_t *du, int64_t *dv, uint64_t answer[8])
@@ -438,13 +467,14 @@ static inline uint64_t basin_state_tendencies(
     size_t cells = basin_state_cells(s);
     return basin_tendencies(s->w, s->n, s->kind, s->g, s->c, s->r,
                             s->h, cells, s->b, cells, s->u, cells,
-                            s->v, cells, s->barriers, cells, q, cells,
+                            s->v, cells, s->barriers, cells,
+                            q, basin_state_corners(s),
                             dh, cells, du, cells, dv, cells, answer);
 }
 
 /*
- * The probe of a cell with the w*n numbers of q: -D, Tu and Tv, into doubles.
- * answer[1] says how far to trust them.
+ * The probe of a cell with the BASIN_CORNERS(w, n, kind) numbers of q: -D, Tu and
+ * Tv, into doubles. answer[1] says how far to trust them.
  */
 static inline uint64_t basin_state_probe(
     const struct basin_state *s, const int64_t *q, size_t cell,
@@ -453,7 +483,8 @@ static inline uint64_t basin_state_probe(
     size_t cells = basin_state_cells(s);
     return basin_probe(s->w, s->n, s->kind, s->g, s->c, s->r,
                        s->h, cells, s->b, cells, s->u, cells, s->v, cells,
-                       s->barriers, cells, q, cells, cell, doubles, answer);
+                       s->barriers, cells, q, basin_state_corners(s), cell,
+                       doubles, answer);
 }
 
 /* The same of every cell, into the w*n places of dh, du, dv. */
@@ -464,7 +495,8 @@ static inline uint64_t basin_state_probe_grid(
     size_t cells = basin_state_cells(s);
     return basin_probe_grid(s->w, s->n, s->kind, s->g, s->c, s->r,
                             s->h, cells, s->b, cells, s->u, cells,
-                            s->v, cells, s->barriers, cells, q, cells,
+                            s->v, cells, s->barriers, cells,
+                            q, basin_state_corners(s),
                             dh, cells, du, cells, dv, cells, answer);
 }
 

@@ -30,7 +30,7 @@ from array import array
 from typing import NamedTuple, Optional
 
 #: 10,000 times major, 100 times minor, and patch: that of the library that belongs to this module.
-VERSION = 700
+VERSION = 800
 
 #: The kinds of boundary.
 PERIODIC, CHANNEL, BASIN = 0, 1, 2
@@ -78,7 +78,7 @@ class Refused(Exception):
     number  1 to 10, as in include/basin.h
     cause   the same in words
     field   'h', 'b', 'u', 'v', 'q', 'inflow' or 'barriers': with 4, 5 and 6
-    cell    j*w + i for column i of row j: with 4, 5 and 6
+    cell    j*w + i for column i of row j: with 4, 5 and 6; of q the corner, in the same way
     pass_   1 or 2: with 6
     offset  of the bad tag, or the length of the record: with 7
     record  1 or 2, the one that is refused: of a comparison
@@ -339,6 +339,13 @@ class State:
         w, n = _number('w', self.w), _number('n', self.n)
         return w * n if 1 <= w <= LONGEST_SIDE and 1 <= n <= LONGEST_SIDE else 0
 
+    @property
+    def corners(self):
+        """The numbers of q, one a corner: w*n, of a channel w*(n+1) and of a basin (w+1)*(n+1), row by row from the southwest; 0 where
+        w or n is not 1 to 64."""
+        kind = _number('kind', self.kind)
+        return self.cells and (self.w + (kind == BASIN)) * (self.n + (kind in (CHANNEL, BASIN)))
+
     def cell(self, i, j):
         """The place of column i of row j in the lists."""
         if not (0 <= i < self.w and 0 <= j < self.n):
@@ -361,17 +368,16 @@ class State:
         return _checked('total_energy', **self._parts())[1]['total'][0]
 
     def potential_vorticity(self, q=None):
-        """Potential vorticity at the southwest corners of the cells, times spacing times 65,536. It is written into q, where that is
-        lent."""
-        q = self._zeros('q') if q is None else q
+        """Potential vorticity at the corners, times spacing times 65,536. It is written into q, where that is lent."""
+        q = array('q', bytes(8 * self.corners)) if q is None else q
         _checked('potential_vorticity', **self._parts(), q=q)
         return q
 
     def tendencies(self, q=None, dh=None, du=None, dv=None):
-        """Tendencies dh, du and dv with a potential vorticity, the state's own where none is given. They are written into those that
-        are lent."""
+        """Tendencies dh, du and dv with a potential vorticity, a number a corner, the state's own where none is given. They are written
+        into those that are lent."""
         q = self.potential_vorticity() if q is None else q
-        dh, du, dv = (self._zeros('q') if x is None else x for x in (dh, du, dv))
+        dh, du, dv = (self._zeros('dh') if x is None else x for x in (dh, du, dv))
         _checked('tendencies', **self._parts(), q=q, dh=dh, du=du, dv=dv)
         return dh, du, dv
 

@@ -77,6 +77,24 @@ class WorkedExamples(Case):
         state = example_4(r=1000, barriers=[0, basin.WEST])
         self.assertEqual([list(x) for x in state.tendencies([0, 0])], [[50000, -50000], [30859591680000, 0], [0, 0]])
 
+    def test_corners_on_a_wall(self):
+        cell = example_2(kind=basin.BASIN, u=[0], v=[0])
+        self.assertEqual(list(cell.potential_vorticity()), [328] * 4)
+        shoal = dict(w=2, n=2, g=9810, c=100, r=1000, h=[2000, 3000, 50000, 60000], v=[0, 0, 7, -9])
+        channel = State(kind=basin.CHANNEL, u=[30, -20, 10, 40], **shoal)
+        self.assertEqual(list(channel.potential_vorticity()), [2621, 2621, 310, 55, 119, 119])
+        dock = State(kind=basin.BASIN, u=[0, -20, 0, 40], **shoal)
+        self.assertEqual(list(dock.potential_vorticity()), [3277, 2621, 2185, 252, 55, 208, 131, 119, 109])
+        self.assertEqual((cell.corners, channel.corners, dock.corners, example_4().corners), (4, 6, 9, 2))
+        one = State(1, 2, basin.CHANNEL, 10, 0, 1000, [2000, 4000], u=[50, -50], v=[0, 20])
+        self.assertEqual([list(x) for x in one.tendencies([1000, 2000, 3000])],
+                         [[-120000, 120000], [2160000000, 3600000000], [0, -54514560000]])
+        self.assertEqual(one.probe(1, [1000, 2000, 3000]), (Trust.EXACT, 120000.0, 3600000000.0, -54514560000.0))
+        turning = State(2, 2, basin.BASIN, 1, 10_000, 50_000, [20000, 30000, 50000, 60000], u=[0, -200, 0, 400], v=[0, 0, 70, -90])
+        turning.step()
+        self.assertEqual([list(x) for x in (turning.h, turning.u, turning.v)],
+                         [[20064, 29995, 49598, 60343], [0, -204, 0, 397], [0, 0, 53, -106]])
+
     def test_probes(self):
         exact, near = Trust.EXACT, Trust.NEAR
         self.assertEqual(example_2().probe(0), (exact, 0.0, -1574400000.0, -3148800000.0))
@@ -158,6 +176,14 @@ class Refusals(Case):
         self.refused(2, lambda: example_4().tendencies([]))
         self.refused(2, lambda: example_4().probe(0, []))
         self.refused(2, lambda: example_4().probe_grid([0]))
+        # a q of a number a cell, where there are walls, and of one more than corners
+        for kind, u, lengths in ((basin.CHANNEL, [10, 0], (2, 3, 5)), (basin.BASIN, [0, 10], (2, 4, 5, 7))):
+            state = example_4(kind=kind, u=u)
+            for length in lengths:
+                self.refused(2, lambda: state.tendencies([0] * length))
+                self.refused(2, lambda: state.probe(0, [0] * length))
+                self.refused(2, lambda: state.probe_grid([0] * length))
+            self.assertEqual(len(state.potential_vorticity()), state.corners)
 
     def test_3_constants(self):
         for other in (dict(g=0), dict(c=-10_001), dict(r=999), dict(g=-2**63), dict(r=2**63 - 1)):
@@ -175,6 +201,8 @@ class Refusals(Case):
         refusal = self.refused(4, lambda: example_4().tendencies([2_000_001, 0]), field='q', cell=0)
         self.assertEqual(str(refusal), 'refusal 4: q outside its bounds, cell 0')
         self.refused(4, lambda: example_4().probe(0, [0, -2_000_001]), field='q', cell=1)
+        # of q the corner, here the last one of a dock of two cells
+        self.refused(4, lambda: example_4(kind=basin.BASIN, u=[0, 10]).tendencies([0] * 5 + [2_000_001]), field='q', cell=5)
 
     def test_5_closed_edges(self):
         self.refused(5, example_4(kind=basin.BASIN).step, field='u', cell=0)
@@ -204,6 +232,9 @@ class Refusals(Case):
         self.refused(8, lambda: example_4().potential_vorticity(one))
         self.refused(8, lambda: example_4().tendencies(dv=one))
         self.assertEqual(list(one), [9])
+        five = array('q', [9] * 5)
+        self.refused(8, lambda: example_4(kind=basin.BASIN, u=[0, 10]).potential_vorticity(five))
+        self.assertEqual(list(five), [9] * 5)
         one = array('d', [0.5])
         self.refused(8, lambda: example_4().probe_grid(du=one))
         self.assertEqual(list(one), [0.5])
@@ -220,7 +251,7 @@ class Refusals(Case):
             refusal = self.refused(10, lambda: example_4().probe(cell))
             self.assertEqual(str(refusal), 'refusal 10: a probed cell outside the grid')
         # after 5
-        self.refused(5, lambda: example_4(kind=basin.BASIN).probe(2, [0, 0]), field='u', cell=0)
+        self.refused(5, lambda: example_4(kind=basin.BASIN).probe(2, [0] * 6), field='u', cell=0)
 
     def test_a_refusal_can_be_kept(self):
         refusal = example_4().run(100, [-100, -100]).stopped

@@ -1,5 +1,5 @@
-//! The proved basin core (document 01, and requests U1, U2 and U3 of document 02),
-//! called from safe Rust.
+//! The proved basin core (document 01, and requests U1, U2, U3 and U5 of document
+//! 02), called from safe Rust.
 //!
 //! The library behind these calls is `libbasin.a`, which `rt staticlib basin`
 //! writes once every function is proved to meet its contract; the calls here
@@ -16,6 +16,11 @@
 //! them straight after v, a byte for each cell: 1 closes its west edge, 2 its south
 //! edge, 3 both, 0 none. A closed edge is then as at the boundary: its velocity must
 //! be 0, and stays 0.
+//!
+//! Potential vorticity q goes by corners, of which a walled side has its own (02,
+//! request U5): [`Parameters::corners`] says how many there are. A corner off the
+//! walls takes the four cells around it and the velocities at their edges. One on a
+//! wall takes the water of its own side alone, and no velocity.
 //!
 //! The archive is looked for in the repository's `target/staticlib`, or in
 //! the folder that the environment variable `BASIN_LIB_DIR` names when this
@@ -47,6 +52,17 @@
 //! let probed = |cell| probe(&p, &h, &b, &u, &v, &open, &q, cell);
 //! assert_eq!(probed(0), Ok(Probe { dh, du, dv, trust: Trust::Exact }));
 //! assert_eq!(probed(1), Err(Refusal::NoSuchCell));
+//!
+//! // Between four walls the cell has four corners, without walls the same one four
+//! // times.
+//! assert_eq!(p.corners(), 1);
+//! let dock = Parameters { kind: 2, ..p };
+//! assert_eq!(dock.corners(), 4);
+//! let mut corners = vec![0; dock.corners()];
+//! let done = potential_vorticity(&dock, &h, &b, &[0], &[0], &open, &mut corners);
+//! assert_eq!((done, &corners[..]), (Ok(()), &[328; 4][..]));
+//! let refused = probe(&dock, &h, &b, &[0], &[0], &open, &q, 0);
+//! assert_eq!(refused, Err(Refusal::Lengths));
 //!
 //! // Too shallow by a millimetre.
 //! let refusal = total_depth(&p, &[999], &b, &u, &v, &open).unwrap_err();
@@ -150,7 +166,8 @@ pub struct Parameters {
     /// Rows.
     pub n: usize,
     /// What closes the grid (01: the seam): 0 nothing, 1 a wall along the
-    /// south edges of row 0, 2 a wall along the west edges of column 0 too.
+    /// south edges of row 0, 2 a wall along the west edges of column 0 too. Since
+    /// the grid wraps, such a wall is the one at the other end as well.
     pub kind: u8,
     /// G, gravity in mm/s².
     pub g: i64,
@@ -182,6 +199,19 @@ impl Parameters {
     /// more than a `usize` holds, the grid is one that every call refuses.
     pub fn work_len(&self) -> usize {
         self.w.saturating_mul(self.n).saturating_mul(8)
+    }
+
+    /// How many corners the grid has, which is how many numbers a potential
+    /// vorticity q has: w·n of kind 0, w·(n + 1) of kind 1, (w + 1)·(n + 1) of kind
+    /// 2. They go row by row from the southwest. The cell in column i of row j has
+    /// those in corner columns i and i + 1 of corner rows j and j + 1, where the one
+    /// past the last is the first. Where there are more than a `usize` holds, or the
+    /// kind is another, the grid is one that every call refuses.
+    pub fn corners(&self) -> usize {
+        let more = |side: usize, walled: bool| side.saturating_add(walled.into());
+        let columns = more(self.w, self.kind == 2);
+        let rows = more(self.n, matches!(self.kind, 1 | 2));
+        columns.saturating_mul(rows)
     }
 
     /// How many bytes the record that [`write()`] makes of such a state has:
@@ -256,7 +286,7 @@ impl Comparison {
 pub enum Trust {
     /// They are the whole numbers that [`tendencies`] gives. The grid is narrow: every
     /// h and b of it is at most 10,000, every u and v is -500 to 500, and every number
-    /// of the lent q is -1,000,000 to 1,000,000.
+    /// of the lent q, at whatever corner, is -1,000,000 to 1,000,000.
     Exact,
     /// The double of -D is that whole number, those of Tu and Tv are at most 64 away.
     Near,
@@ -368,12 +398,16 @@ pub fn total_energy(
     Ok(total)
 }
 
-/// Fills the first w·n places of `q` with the potential vorticity of a state,
-/// times spacing times 65,536: each cell's place has that of its southwest
-/// corner. The places past them are left as they were, and after a refusal all
-/// places are. Barriers are tested, but do not change it.
+/// Fills the first [`Parameters::corners`] places of `q` with the potential
+/// vorticity of a state, times spacing times 65,536, corner by corner. The places
+/// past them are left as they were, and after a refusal all places are.
 ///
-/// The tests go by number: 1 to 5 of the state, then 8, `q` shorter than w·n.
+/// A corner on a wall takes the Coriolis parameter alone, without velocities, over
+/// the mean depth of the cells inside: of two, or of one where two walls meet.
+/// Barriers are tested, but make no wall.
+///
+/// The tests go by number: 1 to 5 of the state, then 8, `q` with fewer places than
+/// corners.
 pub fn potential_vorticity(
     p: &Parameters,
     h: &[i64],
@@ -387,14 +421,15 @@ pub fn potential_vorticity(
 }
 
 /// Fills the first w·n places of `dh`, `du` and `dv` with the tendencies of a
-/// state and a potential vorticity `q`, which may be any within its bounds:
-/// 01's -D, the rate of h times 2 spacings, and Tu and Tv, the rates of u and v
-/// times spacing times 3,145,728. Tu and Tv are 0 on edges that the boundary or a
-/// barrier closes. The places past them are left as they were, and after a refusal
-/// all places are.
+/// state and a potential vorticity `q`, which has a number for each of the
+/// [`Parameters::corners`] and may be any within its bounds: 01's -D, the rate of h
+/// times 2 spacings, and Tu and Tv, the rates of u and v times spacing times
+/// 3,145,728. Tu and Tv are 0 on edges that the boundary or a barrier closes. The
+/// places past them are left as they were, and after a refusal all places are.
 ///
-/// The tests go by number: 1 to 5 of the state and `q`, whose numbers come
-/// after the barriers in 4; then 8, one of `dh`, `du` and `dv` shorter than w·n.
+/// The tests go by number: 1 to 5 of the state and `q`, where a `q` of another length
+/// is a 2, and its numbers come after the barriers in 4, which tells the corner as
+/// the cell; then 8, one of `dh`, `du` and `dv` shorter than w·n.
 pub fn tendencies(
     p: &Parameters,
     h: &[i64],

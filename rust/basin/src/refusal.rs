@@ -81,7 +81,8 @@ macro_rules! fields {
 }
 
 fields! {
-    /// A field, of a number or a byte per cell, that a refusal can name.
+    /// A field that a refusal can name: of a number or a byte per cell, or, of q, of
+    /// a number per corner.
     pub enum Field {
         0: Depth 1_000 to 100_000 = "depth" "h",
         1: Bottom 0 to 100_000 = "bottom height" "b",
@@ -178,11 +179,13 @@ refusals! {
         /// w, n or kind unknown, or a run too long.
         1: Grid = "unknown w, n or kind, or too long a run",
         /// a field to be read or stepped does not have w·n numbers (in a record,
-        /// the bytes of w·n numbers), or the work space is short.
+        /// the bytes of w·n numbers), q not one for each of the
+        /// [`Parameters::corners`](crate::Parameters::corners), or the work space is
+        /// short.
         2: Lengths = "a field of a wrong length, or too little work space",
         /// G, c or R outside its bounds.
         3: Constants = "G, c or R outside its bounds",
-        /// a value outside its bounds.
+        /// a value outside its bounds. Of q, `cell` is the corner.
         4: Value { field: Field, cell: usize } = "{field} outside its bounds, cell {cell}",
         /// a velocity on an edge that the boundary or a barrier closes.
         5: ClosedEdge { field: Field, cell: usize } = "{field} on a closed edge, cell {cell}",
@@ -192,8 +195,9 @@ refusals! {
         /// a damaged record; `offset` is that of the first bad tag, or the
         /// record's length where a tag is missing.
         7: Record { offset: usize } = "a damaged record, at byte {offset}",
-        /// a field to be filled has fewer than w·n places, or a record to be
-        /// written fewer than [`Parameters::record_len`](crate::Parameters::record_len).
+        /// a field to be filled has fewer than w·n places, of q fewer than there are
+        /// corners, or a record to be written fewer than
+        /// [`Parameters::record_len`](crate::Parameters::record_len).
         8: Destination = "a field or record to be filled is too short",
         /// the milliseconds of a [`Timestamp`](crate::Timestamp) above 999;
         /// tested straight after 3.

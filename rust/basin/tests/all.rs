@@ -8,6 +8,7 @@ mod balance;
 mod barriers;
 mod bounds;
 mod comparison;
+mod corners;
 mod empty;
 mod limits;
 mod milliseconds;

@@ -188,12 +188,10 @@ fn every_edge_of_every_layout_is_open_or_closed() {
     every_layout(|(w, n), kind, barriers| {
         let mut still = Case::example_2();
         (still.p.w, still.p.n, still.p.kind, still.p.r) = (w, n, kind, 1_000_000);
-        still.resize_all(w * n);
+        still.fit();
         still.fields[U].fill(0);
         still.fields[V].fill(0);
         still.barriers = barriers;
-        (still.work, still.record) = (8 * w * n, 52 + 13 * w * n);
-        still.destinations = [w * n; 3];
         // All that moves, and each edge by itself.
         let mut moving = still.clone();
         let mut first = None;

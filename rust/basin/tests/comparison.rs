@@ -86,7 +86,7 @@ impl Coverage {
                 let number = case.number(field, cell);
                 let past = next_outside(field).map(|past| number == past);
                 add(&mut self.one_past[field], past);
-                let ends = [cell == 0, cell > 0 && cell == w * n - 1];
+                let ends = [cell == 0, cell > 0 && cell == case.length(field) - 1];
                 add(&mut self.value_cell[field], ends);
             }
             [5, field, cell] => {
@@ -112,13 +112,14 @@ impl Coverage {
             ];
             add(&mut self.record, lengths);
         }
-        let lengths = &case.destinations[..call.destinations()];
-        let alone = lengths.iter().filter(|&&length| length < cells).count() == 1;
-        for (counts, &length) in self.destination[call as usize].iter_mut().zip(lengths) {
+        let needed = case.destination_needed(call);
+        let lengths = (0..call.destinations()).map(|k| case.destination(call, k));
+        let alone = lengths.clone().filter(|&length| length < needed).count() == 1;
+        for (counts, length) in self.destination[call as usize].iter_mut().zip(lengths) {
             let lengths = [
-                accepted && length == cells,
-                accepted && length > cells,
-                alone && length + 1 == cells,
+                accepted && length == needed,
+                accepted && length > needed,
+                alone && length + 1 == needed,
                 alone && length == 0,
             ];
             add(counts, lengths);
@@ -222,7 +223,7 @@ fn the_worked_examples_are_told_as_01_says() {
     };
     let two_cells = |kind: u8| {
         let mut case = Case::example_4();
-        case.p.kind = kind;
+        case.set_kind(kind);
         case
     };
     for call in CALLS {
@@ -255,7 +256,7 @@ fn the_worked_examples_are_told_as_01_says() {
 fn every_bound_of_a_field_is_exact_at_every_cell() {
     // Every byte of a barrier is in barriers.rs.
     for (field, (low, high)) in BOUNDS.into_iter().enumerate().take(BARRIERS) {
-        for cell in 0..6 {
+        for cell in 0..Case::basin().length(field) {
             let numbers = [
                 (low - 1, false),
                 (low, true),
@@ -312,7 +313,7 @@ fn every_bound_of_a_constant_is_exact() {
 fn every_kind_is_known_or_not() {
     for kind in 0..=255 {
         let mut case = Case::basin();
-        case.p.kind = kind;
+        case.set_kind(kind);
         for call in CALLS {
             expect(&case, call, &[u64::from(kind > 2)], "a kind");
         }
@@ -349,9 +350,10 @@ fn every_length_of_a_field_but_one_is_refused() {
     for field in 0..BOUNDS.len() {
         for length in 0..=13 {
             let mut case = Case::basin();
+            let right = case.needed(field);
             case.resize(field, length);
             for call in CALLS {
-                let wrong = call.fields().contains(&field) && length != 6;
+                let wrong = call.fields().contains(&field) && length != right;
                 expect(&case, call, &[if wrong { 2 } else { 0 }], "a length");
             }
         }
@@ -364,15 +366,16 @@ fn a_destination_of_fewer_places_is_refused() {
         for which in 0..call.destinations() {
             for length in 0..=13 {
                 let mut case = Case::basin();
-                case.destinations[which] = length;
-                let told = if length < 6 { 8 } else { 0 };
+                let needed = case.destination_needed(call);
+                case.set_destination(call, which, length);
+                let told = if length < needed { 8 } else { 0 };
                 expect(&case, call, &[told], "a destination");
                 // Another one is long, or short too.
                 for other in [0, 5, 6, 7] {
                     case.destinations = [other; 3];
-                    case.destinations[which] = length;
-                    let others = call.destinations() > 1 && other < 6;
-                    let told = if length < 6 || others { 8 } else { 0 };
+                    case.set_destination(call, which, length);
+                    let others = call.destinations() > 1 && other < needed;
+                    let told = if length < needed || others { 8 } else { 0 };
                     expect(&case, call, &[told], "destinations");
                 }
             }
@@ -434,7 +437,7 @@ fn closed_edges_are_those_of_01() {
             // With velocities of 0 a state is good for any kind.
             let mut still = Case::good_of_size(&mut random, (w, n));
             still.barriers.fill(0);
-            still.p.kind = kind;
+            still.set_kind(kind);
             still.fields[U].fill(0);
             still.fields[V].fill(0);
             for field in [U, V] {
@@ -478,12 +481,17 @@ fn every_size_is_accepted_in_every_kind_and_tested_to_its_last_cell() {
                 let call = random.pick(&CALLS);
                 let field = random.pick(call.fields());
                 let mut bad = case.clone();
-                bad.put(field, w * n - 1, random.pick(&next_outside(field)));
-                let told = [4, field as u64, (w * n - 1) as u64];
+                let last = bad.needed(field) - 1;
+                bad.put(field, last, random.pick(&next_outside(field)));
+                let told = [4, field as u64, last as u64];
                 expect(&bad, call, &told, "a last cell");
                 let call = random.pick(&FILLING);
                 let mut short = case;
-                short.destinations[random.below(call.destinations())] = w * n - 1;
+                let (which, last) = (
+                    random.below(call.destinations()),
+                    short.destination_needed(call) - 1,
+                );
+                short.set_destination(call, which, last);
                 expect(&short, call, &[8], "a last place");
                 short.record = record_size(w * n) - 1;
                 expect(&short, Call::Write, &[8], "a last byte");
@@ -523,6 +531,7 @@ fn huge_sides_are_refused_whatever_their_product() {
                     case.fields = [(); 6].map(|()| vec![number; length]);
                     case.barriers = vec![number as u8; length];
                     case.work = 8 * length;
+                    case.vorticity = length;
                     case.destinations = [length; 3];
                     case.record = record_size(length);
                     for call in CALLS {
@@ -545,7 +554,8 @@ enum Cause {
     State(causes::Cause),
     Steps,
     Work,
-    /// A destination of so many places.
+    /// A destination of q, or of a tendency, of so many places.
+    Vorticity(usize),
     Destination(usize, usize),
     /// A record of so many bytes.
     Record(usize),
@@ -560,6 +570,7 @@ impl Cause {
         causes.extend(causes::Cause::of(&fields).into_iter().map(Cause::State));
         let late = [1_000, 65_536, u64::MAX].map(causes::Cause::Milliseconds);
         causes.extend(late.map(Cause::State));
+        causes.extend([0, 6, 11].map(Cause::Vorticity));
         for which in 0..3 {
             causes.extend([0, 5].map(|length| Cause::Destination(which, length)));
         }
@@ -574,6 +585,7 @@ impl Cause {
             Cause::State(cause) => cause.put(case),
             Cause::Steps => case.steps = 10_001,
             Cause::Work => case.work = 47,
+            Cause::Vorticity(length) => case.vorticity = length,
             Cause::Destination(which, length) => case.destinations[which] = length,
             Cause::Record(length) => case.record = length,
             Cause::Cell(cell) => case.cell = cell,
@@ -596,7 +608,11 @@ impl Cause {
             }
             Cause::Steps => (call.has_run_length(), vec![1]),
             Cause::Work => (call.has_work_space(), vec![2]),
-            Cause::Destination(which, _) => (which < call.destinations(), vec![8]),
+            Cause::Vorticity(_) => (call == Call::PotentialVorticity, vec![8]),
+            Cause::Destination(which, _) => {
+                let lent = call != Call::PotentialVorticity && which < call.destinations();
+                (lent, vec![8])
+            }
             Cause::Record(_) => (call == Call::Write, vec![8]),
             Cause::Cell(_) => (call == Call::Probe, vec![10]),
         };
@@ -690,7 +706,9 @@ fn fields_that_are_read_may_be_the_same() {
         [&even, &slope, &still, &still, &slope, &slope],
     ];
     for (lent, number) in alike.into_iter().zip([0, 4, 0]) {
+        // Without walls a q is as long as the other fields.
         let mut case = Case::basin();
+        case.set_kind(0);
         case.fields = lent.map(Vec::from);
         let barriers = [0; 6];
         for call in CALLS {

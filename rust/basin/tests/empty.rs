@@ -29,11 +29,10 @@ fn each_list_by_itself() {
             let taken = call.fields().contains(&field);
             expect(&case, call, &[if taken { 2 } else { 0 }], "an empty field");
         }
-        for which in 0..3 {
+        for which in 0..call.destinations() {
             let mut case = Case::basin();
-            case.destinations[which] = 0;
-            let lent = which < call.destinations();
-            expect(&case, call, &[if lent { 8 } else { 0 }], "no destination");
+            case.set_destination(call, which, 0);
+            expect(&case, call, &[8], "no destination");
         }
         let mut case = Case::basin();
         case.work = 0;
@@ -51,7 +50,8 @@ fn nothing(w: usize, n: usize) -> Case {
     let mut case = Case::basin();
     (case.p.w, case.p.n) = (w, n);
     case.resize_all(0);
-    (case.work, case.destinations, case.record) = (0, [0; 3], 0);
+    (case.work, case.record) = (0, 0);
+    (case.vorticity, case.destinations) = (0, [0; 3]);
     case
 }
 

@@ -47,7 +47,7 @@ fn sides_whose_products_wrap() {
             let mut case = Case::basin();
             (case.p.w, case.p.n) = (w, n);
             case.resize_all(length);
-            case.destinations = [length; 3];
+            (case.vorticity, case.destinations) = (length, [length; 3]);
             for work in [cells.wrapping_mul(8), 48, 0, usize::MAX] {
                 case.work = work;
                 case.record = cells.wrapping_mul(13).wrapping_add(52).min(70_000);
@@ -260,7 +260,8 @@ fn each_list_of_numbers_of_each_call() {
     let mut lists = 0;
     for call in CALLS {
         for list in List::of(call) {
-            let part = if matches!(list, List::Work) { 48 } else { 6 };
+            let case = Case::basin();
+            let part = list.numbers(&case, &Written::before(&case, call)).len();
             for length in lengths(part, all.len()) {
                 let at = format!("{call:?}, {list:?} of {length}");
                 compare_with(call, list, &mut all[..length], &at);

@@ -16,7 +16,7 @@ use reference::State;
 
 /// A state and q with good things beside them.
 fn case((state, q): (State, Vec<i64>)) -> Case {
-    let inflow = vec![0; q.len()];
+    let inflow = vec![0; state.h.len()];
     Case::beside(state, q, inflow)
 }
 
@@ -91,12 +91,12 @@ fn still_water_has_minus_0_and_a_closed_edge_0() {
     for kind in 0..3 {
         let mut case = Case::example_2();
         (case.p.w, case.p.n, case.p.kind) = (3, 3, kind);
-        case.resize_all(9);
-        case.destinations = [9; 3];
+        case.fit();
         (case.fields[U], case.fields[V]) = (vec![0; 9], vec![0; 9]);
         // Any level, and weights of both signs.
         case.fields[H] = (0..9).map(|k| 5_000 - 7 * k).collect();
-        case.fields[Q] = (0..9).map(|k| 1_000 - 300 * k).collect();
+        let corners = case.length(Q) as i64;
+        case.fields[Q] = (0..corners).map(|k| 1_000 - 300 * k).collect();
         case.barriers[4] = 3;
         let [dh, du, dv] = probed(&case, "still").written.doubles;
         assert_eq!(dh, Doubles(vec![-0.0; 9]));
@@ -215,7 +215,7 @@ type Cause = (fn(&mut Case), &'static [u64]);
 
 const CAUSES: [Cause; 13] = [
     (|case| case.p.kind = 3, &[1]),
-    (|case| case.resize(Q, 5), &[2]),
+    (|case| case.resize(Q, 6), &[2]),
     (|case| case.p.g = 0, &[3]),
     (|case| case.put(H, 5, 999), &[4, 0, 5]),
     (|case| case.put(1, 5, -1), &[4, 1, 5]),
@@ -223,7 +223,7 @@ const CAUSES: [Cause; 13] = [
     (|case| case.put(V, 4, 5_001), &[4, 3, 4]),
     (|case| case.put(BARRIERS, 3, 4), &[4, 6, 3]),
     (|case| case.put(Q, 1, 2_000_001), &[4, 4, 1]),
-    (|case| case.put(Q, 2, -2_000_001), &[4, 4, 2]),
+    (|case| case.put(Q, 11, -2_000_001), &[4, 4, 11]),
     (|case| case.put(U, 3, 1), &[5, 2, 3]),
     (|case| case.put(V, 0, 1), &[5, 3, 0]),
     (

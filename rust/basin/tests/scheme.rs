@@ -8,7 +8,8 @@
 //! tendencies asks for the rates that are 0 ([`cases::calls`]).
 
 use crate::cases::calls::{compare, rates, Written};
-use crate::cases::common::{literal, Random};
+use crate::cases::common::literal::{self, corner_sides};
+use crate::cases::common::Random;
 use crate::cases::{add, random_size, Call, Case, BOUNDS, H, Q, TOTALS, U, V};
 
 /// What both write, where both accept.
@@ -64,16 +65,10 @@ fn example_4_two_cells() {
 fn example_8_greatest_vorticity() {
     let mut case = Case::example_2();
     (case.p.w, case.p.n, case.p.c) = (2, 2, 10_000);
-    case.fields = [
-        vec![1_000; 4],
-        vec![0; 4],
-        vec![-5_000, 0, 5_000, 0],
-        vec![5_000, -5_000, 0, 0],
-        vec![0; 4],
-        vec![0; 4],
-    ];
-    case.barriers = vec![0; 4];
-    case.destinations = [4; 3];
+    case.fit();
+    case.fields[H] = vec![1_000; 4];
+    case.fields[U] = vec![-5_000, 0, 5_000, 0];
+    case.fields[V] = vec![5_000, -5_000, 0, 0];
     let [q, ..] = filled(&case, Call::PotentialVorticity, "example 8");
     assert_eq!(q[0], 1_966_080);
 }
@@ -141,10 +136,13 @@ fn fields_at_their_bounds_in_eight_patterns_each() {
         case.p.g = random.pick(&[1, 10_000]);
         case.p.c = random.pick(&[-10_000, 10_000]);
         case.p.r = random.pick(&[1_000, 1_000_000]);
-        for ((field, pattern), (low, high)) in case.fields.iter_mut().zip(patterns).zip(BOUNDS) {
-            for (cell, place) in field.iter_mut().enumerate() {
-                let upper = PATTERNS[pattern](cell % w, cell / w);
-                *place = if upper { high } else { low };
+        let [columns, _] = corner_sides(&case.p);
+        let columns = [w, w, w, w, columns, w];
+        let fields = case.fields.iter_mut().zip(columns);
+        for (((field, columns), pattern), (low, high)) in fields.zip(patterns).zip(BOUNDS) {
+            for (place, number) in field.iter_mut().enumerate() {
+                let upper = PATTERNS[pattern](place % columns, place / columns);
+                *number = if upper { high } else { low };
             }
         }
         case.clear_closed_edges();
@@ -155,7 +153,7 @@ fn fields_at_their_bounds_in_eight_patterns_each() {
         compare(&case, Call::ProbeGrid, &at);
         totals(&case, &at);
         stepped[usize::from(compare(&case, Call::Step, &at).told == [0])] += 1;
-        ends[0].widen(&q[..w * n]);
+        ends[0].widen(&q[..case.length(Q)]);
         for (ends, numbers) in ends[1..].iter_mut().zip(&tendencies) {
             ends.widen(&numbers[..w * n]);
         }
@@ -208,7 +206,7 @@ fn random_grids_keep_energy_and_without_closed_edges_enstrophy() {
             let [q, ..] = filled(&case, Call::PotentialVorticity, &at);
             if random.once_in(4) {
                 // What one call fills can be lent to the other.
-                case.fields[Q] = q[..cells].to_vec();
+                case.fields[Q] = q[..case.length(Q)].to_vec();
                 lent_own += 1;
             }
             let tendencies = filled(&case, Call::Tendencies, &at);

@@ -4,21 +4,24 @@
 //! bits, since a sum and a row could differ in the sign of a zero.
 
 use crate::cases::calls::{assert_alone, compare, Doubles};
+use crate::cases::common::literal::corner_sides;
 use crate::cases::common::Random;
 use crate::cases::{Call, Case, H, Q, U, V};
 
 const SIDE: usize = 4;
 
-/// Every choice of three numbers at the four corners of a cell, over a grid of four
-/// by four: each cell has the same four corners, in one of four orders.
-fn corners() -> impl Iterator<Item = Vec<i64>> {
+/// Every choice of three numbers at the four corners of a cell.
+fn corners() -> impl Iterator<Item = [i64; 4]> {
     let three = [-2_000_000, 0, 2_000_000];
-    let four = (0..81).map(move |k: usize| [1, 3, 9, 27].map(|digit| three[k / digit % 3]));
-    four.map(|four| {
-        let cells = 0..SIDE * SIDE;
-        let own = |cell: usize| four[cell / SIDE % 2 * 2 + cell % SIDE % 2];
-        cells.map(own).collect()
-    })
+    (0..81).map(move |k: usize| [1, 3, 9, 27].map(|digit| three[k / digit % 3]))
+}
+
+/// Lends them over a grid of four by four: each cell has the same four corners, in one
+/// of four orders.
+fn lend(case: &mut Case, four: [i64; 4]) {
+    let [columns, rows] = corner_sides(&case.p);
+    let own = |corner: usize| four[corner / columns % 2 * 2 + corner % columns % 2];
+    case.fields[Q] = (0..columns * rows).map(own).collect();
 }
 
 /// What both give: the whole tendencies, and the doubles of the grid. Each cell by
@@ -35,10 +38,10 @@ fn both(case: &Case, at: &str) -> ([Vec<i64>; 3], [Doubles; 3]) {
 fn every_choice_of_three_corners_in_any_water() {
     let mut random = Random::new(121);
     let mut tried = 0;
-    for (number, q) in corners().enumerate() {
+    for (number, four) in corners().enumerate() {
         for kind in 0..3 {
             let mut case = Case::good_of_kind(&mut random, (SIDE, SIDE), kind);
-            case.fields[Q] = q.clone();
+            lend(&mut case, four);
             both(&case, &format!("corners {number}, kind {kind}"));
             tried += 1;
         }
@@ -54,18 +57,17 @@ fn zeros_keep_their_sign() {
     let mut random = Random::new(122);
     // Doubles of Tu and Tv that are +0.0, -0.0, and others.
     let mut met = [0; 3];
-    for (number, q) in corners().enumerate() {
+    for (number, four) in corners().enumerate() {
         for _ in 0..32 {
             let mut case = Case::example_2();
             (case.p.w, case.p.n) = (SIDE, SIDE);
-            case.resize_all(SIDE * SIDE);
-            case.destinations = [SIDE * SIDE; 3];
+            case.fit();
             case.fields[H].fill(5_000);
             for field in [U, V] {
                 let speeds = case.fields[field].iter_mut();
                 speeds.for_each(|speed| *speed = random.pick(&[-500, 500]));
             }
-            case.fields[Q] = q.clone();
+            lend(&mut case, four);
             let at = format!("corners {number}");
             let (whole, doubles) = both(&case, &at);
             for (whole, doubles) in whole[1..].iter().zip(&doubles[1..]) {

@@ -1,6 +1,6 @@
 //! The two-pass step of 01 in double precision, with each of its roundings or
-//! without: what the scheme does by itself. It is written from 01's formulas and
-//! has nothing of the core or of the independent version. With all roundings it is
+//! without: what the scheme does by itself. It is written from 01's formulas, with
+//! 02's corners on a wall, and has nothing of the core or of the independent version. With all roundings it is
 //! the core, number for number, which the tests see.
 
 use forecast::State;
@@ -53,6 +53,7 @@ struct Fixed {
     r: f64,
     b: Vec<f64>,
     cells: Vec<Cell>,
+    corners: Vec<Corner>,
 }
 
 /// The numbers that a step changes.
@@ -63,18 +64,28 @@ struct Fields {
     v: Vec<f64>,
 }
 
-/// Indices of a cell's neighbours, and which of its edges are open.
+/// Indices of a cell's neighbours and of its corners ne, nw, sw, se, and which of its
+/// edges are open.
 struct Cell {
     e: usize,
     w: usize,
     n: usize,
     s: usize,
+    nw: usize,
+    se: usize,
+    corners: [usize; 4],
+    west_open: bool,
+    south_open: bool,
+}
+
+/// Indices of the cells around a corner. On a wall they are those inside, so that one
+/// stands in two places, or in all four.
+struct Corner {
     ne: usize,
     nw: usize,
     sw: usize,
     se: usize,
-    west_open: bool,
-    south_open: bool,
+    on_wall: bool,
 }
 
 /// What a pass works out of a state, named as in 01.
@@ -103,11 +114,12 @@ impl Doubles {
                 r: dock.parameters.r as f64,
                 b: field(&dock.b),
                 cells: (0..dock.h.len()).map(|k| Cell::new(dock, k)).collect(),
+                corners: Corner::all(dock),
             },
             first: now.clone(),
             second: now.clone(),
             now,
-            work: Work::new(dock.h.len()),
+            work: Work::new(dock),
         }
     }
 
@@ -133,47 +145,93 @@ impl Cell {
         let (w, n) = (dock.parameters.w, dock.parameters.n);
         let (i, j) = (k % w, k / w);
         let at = |right: usize, up: usize| (j + up) % n * w + (i + right) % w;
+        let [columns, rows] = corner_sides(dock);
+        let corner = |x: usize, y: usize| y % rows * columns + x % columns;
         Cell {
             e: at(1, 0),
             w: at(w - 1, 0),
             n: at(0, 1),
             s: at(0, n - 1),
-            ne: at(1, 1),
             nw: at(w - 1, 1),
-            sw: at(w - 1, n - 1),
             se: at(1, n - 1),
+            corners: [
+                corner(i + 1, j + 1),
+                corner(i, j + 1),
+                corner(i, j),
+                corner(i + 1, j),
+            ],
             west_open: !(dock.parameters.kind == 2 && i == 0) && dock.barriers[k] & 1 == 0,
             south_open: !(dock.parameters.kind >= 1 && j == 0) && dock.barriers[k] & 2 == 0,
         }
     }
 }
 
+/// Columns and rows of corners: a walled side has one more.
+fn corner_sides(dock: &State) -> [usize; 2] {
+    let p = &dock.parameters;
+    [
+        p.w + usize::from(p.kind == 2),
+        p.n + usize::from(p.kind >= 1),
+    ]
+}
+
+impl Corner {
+    fn all(dock: &State) -> Vec<Self> {
+        let (w, n) = (dock.parameters.w, dock.parameters.n);
+        let [columns, rows] = corner_sides(dock);
+        // Before and after a corner, and whether it is on a wall.
+        let beside = |x: usize, side: usize, corners: usize| match x {
+            0 if corners > side => (0, 0, true),
+            _ if x == side => (side - 1, side - 1, true),
+            _ => ((x + side - 1) % side, x, false),
+        };
+        let new = |x: usize, y: usize| {
+            let (west, east, in_column) = beside(x, w, columns);
+            let (south, north, in_row) = beside(y, n, rows);
+            Corner {
+                ne: north * w + east,
+                nw: north * w + west,
+                sw: south * w + west,
+                se: south * w + east,
+                on_wall: in_column || in_row,
+            }
+        };
+        let places = (0..rows).flat_map(|y| (0..columns).map(move |x| (x, y)));
+        places.map(|(x, y)| new(x, y)).collect()
+    }
+}
+
 impl Work {
-    fn new(cells: usize) -> Self {
-        let zeros = || vec![0.0; cells];
+    fn new(dock: &State) -> Self {
+        let zeros = || vec![0.0; dock.h.len()];
         Work {
-            q: zeros(),
+            q: vec![0.0; corner_sides(dock).into_iter().product()],
             uu: zeros(),
             vv: zeros(),
             b: zeros(),
-            weights: vec![[0.0; 4]; cells],
+            weights: vec![[0.0; 4]; dock.h.len()],
         }
     }
 
     /// q, U, V, B and the weights of a state.
     fn fill(&mut self, dock: &Fixed, of: &Fields) {
         let Fields { h, u, v } = of;
+        for (q, at) in self.q.iter_mut().zip(&dock.corners) {
+            let z = match at.on_wall {
+                true => dock.c,
+                false => dock.c + v[at.ne] - v[at.nw] + u[at.se] - u[at.ne],
+            };
+            let depths = h[at.ne] + h[at.nw] + h[at.se] + h[at.sw];
+            *q = whole(dock.rounding.vorticity, 262_144.0 * z / depths);
+        }
         for (k, at) in dock.cells.iter().enumerate() {
-            let z = dock.c + v[k] - v[at.w] + u[at.s] - u[k];
-            let q = 262_144.0 * z / (h[k] + h[at.w] + h[at.s] + h[at.sw]);
-            self.q[k] = whole(dock.rounding.vorticity, q);
             self.uu[k] = u[k] * (h[at.w] + h[k]);
             self.vv[k] = v[k] * (h[at.s] + h[k]);
             let squares = u[k] * u[k] + u[at.e] * u[at.e] + v[k] * v[k] + v[at.n] * v[at.n];
             self.b[k] = squares + 4.0 * dock.g * (h[k] + dock.b[k]);
         }
         for (k, at) in dock.cells.iter().enumerate() {
-            let (ne, nw, sw, se) = (self.q[at.ne], self.q[at.n], self.q[k], self.q[at.e]);
+            let [ne, nw, sw, se] = at.corners.map(|corner| self.q[corner]);
             self.weights[k] = [
                 2.0 * ne + nw + 2.0 * sw + se,
                 ne + 2.0 * nw + sw + 2.0 * se,

@@ -85,10 +85,10 @@ impl State {
         basin::total_energy(&self.parameters, h, b, u, v, barriers)
     }
 
-    /// Potential vorticity of the state, by the core.
+    /// Potential vorticity of the state at its corners, by the core.
     pub fn potential_vorticity(&self) -> Result<Vec<i64>, Refusal> {
         let ([h, b, u, v], barriers) = self.fields();
-        let mut q = vec![0; h.len()];
+        let mut q = vec![0; self.parameters.corners()];
         basin::potential_vorticity(&self.parameters, h, b, u, v, barriers, &mut q)?;
         Ok(q)
     }

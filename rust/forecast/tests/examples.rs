@@ -128,7 +128,8 @@ fn a_cell_is_probed() {
         let state = state(name);
         let p = &state.parameters;
         let ([h, b, u, v], z) = ([&state.h, &state.b, &state.u, &state.v], &state.barriers);
-        let [mut q, mut dh, mut du, mut dv] = [(); 4].map(|()| vec![0; h.len()]);
+        let mut q = vec![0; p.corners()];
+        let [mut dh, mut du, mut dv] = [(); 3].map(|()| vec![0; h.len()]);
         basin::potential_vorticity(p, h, b, u, v, z, &mut q).unwrap();
         basin::tendencies(p, h, b, u, v, z, &q, &mut dh, &mut du, &mut dv).unwrap();
         for (i, j) in [(0, 0), (p.w - 1, p.n - 1), (p.w / 2, p.n / 3), (1, 1)] {

@@ -1,8 +1,8 @@
 //! An independent version of the shallow-water core that document 01
 //! specifies: the Arakawa-Lamb C-grid scheme in whole numbers, its two-pass
 //! time step, and the record a state is stored in, with timestamps to the
-//! millisecond, barriers inside the grid and tendencies in double precision
-//! (requests U1, U2 and U3 of document 02).
+//! millisecond, barriers inside the grid, tendencies in double precision and
+//! corners of their own for walls (requests U1, U2, U3 and U5 of document 02).
 //!
 //! It was written from 01, 02 and the open points decided in docs/DECISIONS.md,
 //! apart from the proved core and its model, and is meant to be compared with

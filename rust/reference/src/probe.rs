@@ -8,7 +8,9 @@
 
 use crate::refusal::{Field, ProbeAnswer, ProbeGridAnswer, Refusal};
 use crate::scheme::WEIGHTS;
-use crate::state::{test_cell, test_destinations, test_state, Fields, Grid, Parameters, Stencil};
+use crate::state::{
+    test_cell, test_destinations, test_state, Corners, Fields, Grid, Parameters, Stencil,
+};
 
 /// The scale of the gradient of B.
 const BERNOULLI_SCALE: f64 = 786_432.0;
@@ -92,8 +94,8 @@ fn try_probe_grid(
     Ok(())
 }
 
-/// Whether a grid is narrow, all of it and all of the lent q, wherever the probed
-/// cell is: the doubles are the whole numbers then.
+/// Whether a grid is narrow, all of it and all corners of the lent q, wherever the
+/// probed cell is: the doubles are the whole numbers then.
 fn is_narrow(fields: Fields, q: &[i64]) -> bool {
     let within = |field: &[i64], most: u64| field.iter().all(|x| x.unsigned_abs() <= most);
     within(fields.h, NARROW_HEIGHT)
@@ -161,8 +163,8 @@ fn fill_doubles(
 /// The weights P, M, E, F of the cell at `at`.
 fn weights_at(q: &[i64], at: Stencil) -> [f64; 4] {
     let double = |x: i64| x as f64;
-    let corners = [q[at.northeast], q[at.north], q[at.here], q[at.east]];
-    let [ne, nw, sw, se] = corners.map(double);
+    let Corners { ne, nw, sw, se } = at.corners;
+    let [ne, nw, sw, se] = [q[ne], q[nw], q[sw], q[se]].map(double);
     WEIGHTS.map(|row| {
         let row = row.map(double);
         row[0] * ne + row[1] * nw + row[2] * sw + row[3] * se

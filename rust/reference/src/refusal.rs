@@ -5,8 +5,8 @@
 
 use crate::state::{Parameters, Timestamp};
 
-/// A field, of a number or a byte per cell, that a refusal can name, with its
-/// number.
+/// A field that a refusal can name, with its number: of a number or a byte per
+/// cell, or of a number per corner.
 #[derive(Clone, Copy, Debug, PartialEq, Eq, PartialOrd, Ord)]
 pub enum Field {
     /// h
@@ -17,7 +17,7 @@ pub enum Field {
     VelocityU = 2,
     /// v
     VelocityV = 3,
-    /// q
+    /// q, by corners
     Vorticity = 4,
     /// s (01: river entry)
     Inflow = 5,
@@ -39,11 +39,12 @@ impl Field {
 pub enum Refusal {
     /// w, n or kind unknown, or a run too long.
     Grid,
-    /// A field does not have w·n numbers, or the work space is short.
+    /// A field does not have w·n numbers, q not one a corner, or the work space is
+    /// short.
     Lengths,
     /// G, c or R outside its bound.
     Constants,
-    /// A value outside its bound.
+    /// A value outside its bound. Of q, `cell` is the corner.
     Value { field: Field, cell: usize },
     /// A velocity on a closed edge.
     ClosedEdge { field: Field, cell: usize },

@@ -2,12 +2,14 @@
 //! momentum tendencies, and the scaled rates of energy and enstrophy.
 //!
 //! Short names are 01's: u is held at a cell's west edge, v at its south
-//! edge, q at its southwest corner. Within the bounds of 01 every value fits
-//! an `i64`; the rates need an `i128`.
+//! edge, q at corners, row by row. A wall has corners of its own (request U5 of
+//! 02): without walls the corners are the southwest ones of the cells. Within the
+//! bounds of 01 every value fits an `i64`; the rates need an `i128`.
 
 use crate::refusal::{Field, FillAnswer, Refusal};
 use crate::state::{
-    test_destinations, test_grid, test_state, Fields, Grid, Parameters, State, Stencil,
+    test_destinations, test_grid, test_state, Corners, Fields, Grid, Inside, Parameters, State,
+    Stencil,
 };
 
 /// Tu and Tv are rates times spacing times this: 65,536 of q, 24 of the
@@ -38,7 +40,7 @@ pub fn round_div(a: i64, b: i64) -> i64 {
     a.signum().wrapping_mul((quotient + up) as i64)
 }
 
-/// Fills `out` with the potential vorticity of a state.
+/// Fills `out` with the potential vorticity of a state, a number a corner.
 pub fn potential_vorticity(
     p: &Parameters,
     h: &[i64],
@@ -60,7 +62,7 @@ pub fn potential_vorticity(
 
 fn try_potential_vorticity(p: &Parameters, fields: Fields, out: &mut [i64]) -> Result<(), Refusal> {
     let grid = test_state(p, fields, None)?;
-    test_destinations(grid.cells(), [out.len()])?;
+    test_destinations(grid.corners(), [out.len()])?;
     fill_vorticity(grid, p.c, fields.h, fields.u, fields.v, out);
     Ok(())
 }
@@ -116,13 +118,22 @@ fn try_tendencies(
     Ok(())
 }
 
-/// q = rnd(262,144·Z/H).
+/// q = rnd(262,144·Z/H). On a wall Z is c, and H counts the cells inside alone, as
+/// often as makes four.
 pub(crate) fn fill_vorticity(grid: Grid, c: i64, h: &[i64], u: &[i64], v: &[i64], out: &mut [i64]) {
-    grid.for_each(|at| {
+    let open = |at: Stencil| {
         let z = c + v[at.here] - v[at.west] + u[at.south] - u[at.here];
         let depths = h[at.here] + h[at.west] + h[at.south] + h[at.southwest];
-        out[at.here] = round_div(VORTICITY_SCALE * z, depths);
-    });
+        round_div(VORTICITY_SCALE * z, depths)
+    };
+    let on_wall = |inside: Inside| {
+        let depths = match inside {
+            Inside::Two(one, other) => 2 * (h[one] + h[other]),
+            Inside::One(cell) => 4 * h[cell],
+        };
+        round_div(VORTICITY_SCALE * c, depths)
+    };
+    grid.fill_corners(&mut out[..grid.corners()], open, on_wall);
 }
 
 /// The mass fluxes U and V: velocity times the sum of the two depths beside
@@ -163,7 +174,8 @@ fn divergence(flux_u: &[i64], flux_v: &[i64], at: Stencil) -> i64 {
 /// The weights P, M, E, F of the cell at `at`.
 #[inline]
 fn weights(q: &[i64], at: Stencil) -> [i64; 4] {
-    let [ne, nw, sw, se] = [q[at.northeast], q[at.north], q[at.here], q[at.east]];
+    let Corners { ne, nw, sw, se } = at.corners;
+    let [ne, nw, sw, se] = [q[ne], q[nw], q[sw], q[se]];
     WEIGHTS.map(|row| row[0] * ne + row[1] * nw + row[2] * sw + row[3] * se)
 }
 
@@ -232,10 +244,12 @@ pub fn energy_rate(state: &State, dh: &[i64], du: &[i64], dv: &[i64]) -> i128 {
 }
 
 /// 01's scaled enstrophy rate of the vorticity `q` under the tendencies
-/// `dh`, `du`, `dv`: the sum of q·η' + 3q²·D4.
+/// `dh`, `du`, `dv`: the sum of q·η' + 3q²·D4, by 01's formulas at the southwest
+/// corners of the cells. It is claimed where no edge is closed, and there these are
+/// all corners.
 ///
 /// A measure for tests, not one of the calls: it panics unless the grid is
-/// within the limits and each list has w·n numbers at least.
+/// within the limits, q has a number a corner and each other list w·n at least.
 pub fn enstrophy_rate(p: &Parameters, q: &[i64], dh: &[i64], du: &[i64], dv: &[i64]) -> i128 {
     let grid = test_grid(p).expect("a grid within the limits");
     let wide = i128::from;
@@ -244,7 +258,7 @@ pub fn enstrophy_rate(p: &Parameters, q: &[i64], dh: &[i64], du: &[i64], dv: &[i
         let eta = wide(dv[at.here]) - wide(dv[at.west]) + wide(du[at.south]) - wide(du[at.here]);
         let d4 =
             -wide(dh[at.here]) - wide(dh[at.west]) - wide(dh[at.south]) - wide(dh[at.southwest]);
-        let q = wide(q[at.here]);
+        let q = wide(q[at.corners.sw]);
         rate += q * eta + 3 * q * q * d4;
     });
     rate

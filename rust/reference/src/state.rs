@@ -54,6 +54,13 @@ pub struct Parameters {
     pub r: i64,
 }
 
+impl Parameters {
+    /// The numbers of q, one a corner; 0 where a call refuses with 1.
+    pub fn corners(&self) -> usize {
+        test_grid(self).map_or(0, Grid::corners)
+    }
+}
+
 /// A moment, counted from 2000-01-01 00:00 (01: stamp). Any numbers may stand
 /// here; the calls test them. Moments are ordered by second, then millisecond.
 #[derive(Clone, Copy, Debug, PartialEq, Eq, PartialOrd, Ord)]
@@ -109,7 +116,8 @@ pub(crate) struct Fields<'a> {
     pub barriers: &'a [u8],
 }
 
-/// What closes the grid (01: the seam). Indices wrap all the same.
+/// What closes the grid (01: the seam). Cells wrap all the same; corners wrap only
+/// where there is no wall.
 #[derive(Clone, Copy, Debug, PartialEq, Eq)]
 pub enum Boundary {
     /// Kind 0: no closed edge.
@@ -153,7 +161,8 @@ pub(crate) struct Grid {
     boundary: Boundary,
 }
 
-/// The indices of a cell and of the eight around it; both ways wrap.
+/// The indices of a cell and of those around it, which wrap both ways, and of its
+/// own four corners.
 #[derive(Clone, Copy)]
 pub(crate) struct Stencil {
     pub here: usize,
@@ -161,15 +170,127 @@ pub(crate) struct Stencil {
     pub west: usize,
     pub north: usize,
     pub south: usize,
-    pub northeast: usize,
     pub northwest: usize,
     pub southeast: usize,
     pub southwest: usize,
+    pub corners: Corners,
+}
+
+/// The indices of a cell's corners in a q.
+#[derive(Clone, Copy)]
+pub(crate) struct Corners {
+    pub ne: usize,
+    pub nw: usize,
+    pub sw: usize,
+    pub se: usize,
+}
+
+/// The cells on the inner side of a corner that is on a wall.
+#[derive(Clone, Copy)]
+pub(crate) enum Inside {
+    /// Along a wall. They may be one cell, twice.
+    Two(usize, usize),
+    /// Where two walls meet.
+    One(usize),
 }
 
 impl Grid {
     pub fn cells(self) -> usize {
         self.w * self.n
+    }
+
+    /// Columns of corners. Walls in the west and in the east have one each; where
+    /// there are none, the column of the west is that of the east.
+    fn corner_columns(self) -> usize {
+        match self.boundary {
+            Boundary::Periodic | Boundary::Channel => self.w,
+            Boundary::Basin => self.w + 1,
+        }
+    }
+
+    /// Rows of corners, likewise.
+    fn corner_rows(self) -> usize {
+        match self.boundary {
+            Boundary::Periodic => self.n,
+            Boundary::Channel | Boundary::Basin => self.n + 1,
+        }
+    }
+
+    /// The numbers of a q.
+    pub fn corners(self) -> usize {
+        self.corner_columns() * self.corner_rows()
+    }
+
+    /// The corners of the cell in column i of row j.
+    #[inline]
+    fn corners_of(self, i: usize, j: usize) -> Corners {
+        let columns = self.corner_columns();
+        let (east, north) = (after(i, columns), after(j, self.corner_rows()));
+        Corners {
+            ne: north * columns + east,
+            nw: north * columns + i,
+            sw: j * columns + i,
+            se: j * columns + east,
+        }
+    }
+
+    /// Fills a list by corners: by one rule off the walls, where a corner is the
+    /// southwest one of the cell that it is told of, and by another on them.
+    #[inline]
+    pub fn fill_corners(
+        self,
+        out: &mut [i64],
+        open: impl Fn(Stencil) -> i64,
+        on_wall: impl Fn(Inside) -> i64,
+    ) {
+        let walled = self.boundary.closes_west();
+        let between = usize::from(walled)..self.w;
+        for (y, row) in out.chunks_exact_mut(self.corner_columns()).enumerate() {
+            let wall = self.cells_beside_wall(y);
+            match wall {
+                None => {
+                    for x in between.clone() {
+                        row[x] = open(self.stencil(x, y));
+                    }
+                }
+                Some(j) => {
+                    for x in between.clone() {
+                        let inside = self.stencil(x, j);
+                        row[x] = on_wall(Inside::Two(inside.west, inside.here));
+                    }
+                }
+            }
+            if walled {
+                row[0] = on_wall(self.inside_of_side(0, y, wall));
+                row[self.w] = on_wall(self.inside_of_side(self.w - 1, y, wall));
+            }
+        }
+    }
+
+    /// The row of cells inside a row of corners that is on the south wall or on the
+    /// north wall; none where it is on neither.
+    fn cells_beside_wall(self, y: usize) -> Option<usize> {
+        if !self.boundary.closes_south() {
+            None
+        } else if y == 0 {
+            Some(0)
+        } else if y == self.n {
+            Some(self.n - 1)
+        } else {
+            None
+        }
+    }
+
+    /// The cells inside of a corner on the west wall or on the east wall, where they
+    /// are in column i. The corner is in row y, which may be on a wall too.
+    fn inside_of_side(self, i: usize, y: usize, wall: Option<usize>) -> Inside {
+        match wall {
+            None => {
+                let inside = self.stencil(i, y);
+                Inside::Two(inside.south, inside.here)
+            }
+            Some(j) => Inside::One(self.stencil(i, j).here),
+        }
     }
 
     /// The numbers of work space that a step or run uses.
@@ -194,10 +315,10 @@ impl Grid {
             west: row + west,
             north: north + i,
             south: south + i,
-            northeast: north + east,
             northwest: north + west,
             southeast: south + east,
             southwest: south + west,
+            corners: self.corners_of(i, j),
         }
     }
 
@@ -307,8 +428,11 @@ pub(crate) fn test_lengths(grid: Grid, fields: Fields, extra: Extra) -> Result<(
         barriers,
     } = fields;
     let lengths = [h.len(), b.len(), u.len(), v.len(), barriers.len()];
-    let extra = extra.map(|(_, values)| values.len());
-    if lengths.into_iter().chain(extra).all(|k| k == grid.cells()) {
+    let extra = extra.is_none_or(|(field, values)| match field {
+        Field::Vorticity => values.len() == grid.corners(),
+        _ => values.len() == grid.cells(),
+    });
+    if extra && lengths.into_iter().all(|k| k == grid.cells()) {
         Ok(())
     } else {
         Err(Refusal::Lengths)

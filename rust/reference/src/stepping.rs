@@ -62,7 +62,16 @@ pub fn run(
     let extra = Some((Field::Inflow, inflow));
     let answer = match test_values(p, grid, fields, extra) {
         Ok(()) => {
-            let mut stage = Stage::in_work_space(work, grid.cells());
+            let (work, left) = work.split_at_mut(Stage::PARTS * grid.cells());
+            let mut narrow;
+            let q = if grid.corners() <= left.len() {
+                left
+            } else {
+                narrow = [0; NARROW_CORNERS];
+                &mut narrow
+            };
+            let q = &mut q[..grid.corners()];
+            let mut stage = Stage::in_work_space(work, grid.cells(), q);
             advance(p, grid, h, b, u, v, barriers, inflow, steps, &mut stage)
         }
         Err(refusal) => RunAnswer::Refused(refusal),
@@ -134,25 +143,32 @@ fn two_passes(
     Ok(())
 }
 
-/// The work space of a step, a number per cell in each part. h, u and v are
-/// the state that a pass takes its tendencies from, and then its result.
+/// The most corners for which the work space has no room: those of 64 cells in one
+/// row or column between walls. A basin of w by n cells has w + n + 1 corners more
+/// than cells, and room for twice its cells unless it is that narrow, or has 2 by 2.
+const NARROW_CORNERS: usize = 2 * 65;
+
+/// The work space of a step, a number per cell in each part but q, which has a number
+/// per corner. h, u and v are the state that a pass takes its tendencies from, and
+/// then its result.
 struct Stage<'a> {
     h: &'a mut [i64],
     u: &'a mut [i64],
     v: &'a mut [i64],
-    q: &'a mut [i64],
     flux_u: &'a mut [i64],
     flux_v: &'a mut [i64],
     bernoulli: &'a mut [i64],
+    q: &'a mut [i64],
 }
 
 impl<'a> Stage<'a> {
-    /// Seven of the eight numbers per cell are needed.
-    fn in_work_space(work: &'a mut [i64], cells: usize) -> Self {
+    /// The parts of a number per cell. They leave two of eight numbers per cell for q.
+    const PARTS: usize = 6;
+
+    fn in_work_space(work: &'a mut [i64], cells: usize, q: &'a mut [i64]) -> Self {
         let (h, work) = work.split_at_mut(cells);
         let (u, work) = work.split_at_mut(cells);
         let (v, work) = work.split_at_mut(cells);
-        let (q, work) = work.split_at_mut(cells);
         let (flux_u, work) = work.split_at_mut(cells);
         let (flux_v, work) = work.split_at_mut(cells);
         let (bernoulli, _) = work.split_at_mut(cells);
@@ -160,10 +176,10 @@ impl<'a> Stage<'a> {
             h,
             u,
             v,
-            q,
             flux_u,
             flux_v,
             bernoulli,
+            q,
         }
     }
 
@@ -173,10 +189,10 @@ impl<'a> Stage<'a> {
             h,
             u,
             v,
-            q,
             flux_u,
             flux_v,
             bernoulli,
+            q,
         } = self;
         // Everything the tendencies need, so that h, u and v are free.
         fill_vorticity(grid, p.c, h, u, v, q);

@@ -24,8 +24,8 @@ fn bits(doubles: &[f64]) -> String {
     format!("({}[])", bits.collect::<String>())
 }
 
-/// The state `nine kind west south` of Agreement.antt, its `inflow` and
-/// its vorticity `lent`.
+/// The state `nine kind west south` of Agreement.antt, its `inflow` and the
+/// vorticities that are lent with it, which go by corners.
 struct Nine {
     name: &'static str,
     p: Parameters,
@@ -36,7 +36,10 @@ struct Nine {
 }
 
 const RAIN: [i64; 9] = [1, -2, 3, -4, 5, -6, 7, -8, 9];
-const LENT: [i64; 9] = [1000, -2000, 3000, -4000, 5000, -6000, 7000, -8000, 9000];
+const LENT: [i64; 16] = [
+    1000, -2000, 3000, -4000, 5000, -6000, 7000, -8000, 9000, -10000, 11000, -12000, 13000, -14000,
+    15000, -16000,
+];
 /// The vorticity lent with the state `wide`.
 const WIDE: [i64; 9] = [
     2000000, -1999997, 1234567, -2000000, 1999999, -1876543, 1765432, -2000000, 1999993,
@@ -75,15 +78,23 @@ impl Nine {
         }
     }
 
+    /// The vorticity that is lent, and its name.
+    fn lent(&self) -> (&'static str, &'static [i64]) {
+        let name = ["lent", "lentChannel", "lentBasin"][usize::from(self.p.kind)];
+        (name, &LENT[..self.p.corners()])
+    }
+
     fn vorticities(&self) -> String {
-        let mut q = [0; 9];
+        let mut q = vec![0; self.p.corners()];
         let answer =
             potential_vorticity(&self.p, &self.h, &self.b, &self.u, &self.v, &OPEN, &mut q);
         assert_eq!(answer, FillAnswer::Done);
-        format!("vorticities {} (zeros 9) done {}", self.name, list(&q))
+        let (name, corners, q) = (self.name, q.len(), list(&q));
+        format!("vorticities {name} (zeros {corners}) done {q}")
     }
 
     fn tends(&self) -> String {
+        let (lent, q) = self.lent();
         let [mut dh, mut du, mut dv] = [[0; 9]; 3];
         let Nine {
             name,
@@ -93,10 +104,10 @@ impl Nine {
             u,
             v,
         } = self;
-        let answer = tendencies(p, h, b, u, v, &OPEN, &LENT, &mut dh, &mut du, &mut dv);
+        let answer = tendencies(p, h, b, u, v, &OPEN, q, &mut dh, &mut du, &mut dv);
         assert_eq!(answer, FillAnswer::Done);
         format!(
-            "tends {name} lent (zeros 9) (zeros 9) (zeros 9) done {} {} {}",
+            "tends {name} {lent} (zeros 9) (zeros 9) (zeros 9) done {} {} {}",
             list(&dh),
             list(&du),
             list(&dv)
@@ -125,7 +136,7 @@ impl Nine {
     }
 
     /// The doubles of every cell with a `q` of this name.
-    fn probes(&self, lent: &str, q: &[i64; 9]) -> String {
+    fn probes(&self, (lent, q): (&str, &[i64])) -> String {
         let [mut dh, mut du, mut dv] = [[0.0; 9]; 3];
         let Nine {
             name,
@@ -154,8 +165,8 @@ impl Nine {
         format!("energy {} {}", self.name, list(&[0, total]))
     }
 
-    /// The rates that any three lists give, here the inflow, the bottom and
-    /// the lent vorticity.
+    /// The rates that any three lists give, here the inflow, the bottom and the
+    /// vorticity `lent`, which has a number a cell.
     fn rates(&self) -> String {
         let state = State {
             parameters: self.p,
@@ -165,14 +176,15 @@ impl Nine {
             v: self.v.to_vec(),
             barriers: OPEN.to_vec(),
         };
-        let energy = energy_rate(&state, &RAIN, &self.b, &LENT);
-        let enstrophy = enstrophy_rate(&self.p, &LENT, &RAIN, &self.b, &LENT);
+        let ((name, q), dv) = (self.lent(), &LENT[..9]);
+        let energy = energy_rate(&state, &RAIN, &self.b, dv);
+        let enstrophy = enstrophy_rate(&self.p, q, &RAIN, &self.b, dv);
         let number = |x: i128| {
             let sign = if x < 0 { "minus" } else { "pos" };
             format!("({sign} {})", x.unsigned_abs())
         };
         format!(
-            "rates {0} lent inflow ({0} .b) lent {1} {2}",
+            "rates {0} {name} inflow ({0} .b) lent {1} {2}",
             self.name,
             number(energy),
             number(enstrophy)
@@ -376,10 +388,10 @@ fn the_model_is_held_to_these_numbers() {
     for kind in 0..3 {
         let nine = Nine::new(kind);
         rows.extend([nine.vorticities(), nine.tends(), nine.rates()]);
-        rows.extend([nine.energy(), nine.steps(), nine.probes("lent", &LENT)]);
+        rows.extend([nine.energy(), nine.steps(), nine.probes(nine.lent())]);
     }
     rows.push(Nine::new(2).runs(12));
-    rows.push(Nine::wide().probes("wideVorticity", &WIDE));
+    rows.push(Nine::wide().probes(("wideVorticity", &WIDE)));
     rows.extend(steep());
     rows.extend([shallow(32, 32), shallow(41, 25)]);
     rows.extend([lengthened(65_483), lengthened(65_484)]);

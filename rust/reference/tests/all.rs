@@ -7,6 +7,7 @@ mod agreement;
 mod balance;
 mod barriers;
 mod conservation;
+mod corners;
 mod probe;
 mod program;
 mod record;

@@ -31,12 +31,11 @@ impl Case {
     }
 
     fn of(random: &mut Random, state: State) -> Self {
-        let cells = state.h.len();
         let q = if random.once_in(4) {
             vorticity_of(&state).expect("within the limits")
         } else {
             let spread = random.pick(&[Spread::Even, Spread::Extreme, Spread::Mixed]);
-            random_q(random, spread, cells)
+            random_q(random, spread, &state.parameters)
         };
         let rates = tendencies_of(&state, &q).expect("within the limits");
         Case { state, q, rates }

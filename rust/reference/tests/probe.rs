@@ -3,7 +3,8 @@
 //! says exact. Its refusals are in refusals.rs.
 
 use crate::common::literal::{self, PAPER};
-use crate::common::{any_state, at_rest, bits, distance, is_open, large_state, narrow_state};
+use crate::common::{any_state, at_rest, bits, corners, distance, is_open};
+use crate::common::{large_state, narrow_state};
 use crate::common::{probe_grid_of, probe_of, random_q, random_size, tendencies_of};
 use crate::common::{worked_probes, Random, Spread, WorkedProbe};
 use reference::{ProbeAnswer, ProbeGridAnswer, State};
@@ -84,7 +85,7 @@ fn still_water_has_minus_0_and_a_closed_edge_0() {
         let mut state = at_rest(2, 2);
         state.parameters.kind = kind;
         state.barriers[3] = 3;
-        let (exact, [dh, du, dv]) = probed(&state, &[-7; 4]);
+        let (exact, [dh, du, dv]) = probed(&state, &vec![-7; corners(&state.parameters)]);
         assert!(exact);
         assert_eq!(bits(&dh), [minus; 4]);
         // On open edges -P·U is a product with 0.0, of any sign.
@@ -95,7 +96,7 @@ fn still_water_has_minus_0_and_a_closed_edge_0() {
     }
     let mut state = at_rest(2, 2);
     state.parameters.kind = 2;
-    let (_, [_, du, dv]) = probed(&state, &[-7; 4]);
+    let (_, [_, du, dv]) = probed(&state, &[-7; 9]);
     assert_eq!([du[0], du[2], dv[0], dv[1]].map(f64::to_bits), [nothing; 4]);
 }
 
@@ -113,7 +114,7 @@ fn doubles_follow_the_literal_formulas() {
             1 => large_state(&mut random, size, kind),
             2 => {
                 let state = any_state(&mut random);
-                let q = random_q(&mut random, Spread::Mixed, state.h.len());
+                let q = random_q(&mut random, Spread::Mixed, &state.parameters);
                 (state, q)
             }
             _ => {
@@ -198,7 +199,7 @@ fn exact_doubles_are_the_whole_numbers_and_near_ones_at_most_64_off() {
             1 => large_state(&mut random, size, kind),
             _ => {
                 let state = any_state(&mut random);
-                let q = random_q(&mut random, Spread::Extreme, state.h.len());
+                let q = random_q(&mut random, Spread::Extreme, &state.parameters);
                 (state, q)
             }
         };
@@ -234,12 +235,17 @@ fn the_narrow_bounds_are_exact_at_every_cell() {
         (|_, q, cell, x| q[cell] = x, vorticities),
     ];
     let mut random = Random::new(74);
-    for size in [(1, 1), (3, 2), (1, 5), (64, 1), (8, 8)] {
-        let (mut state, q) = narrow_state(&mut random, size, 0);
+    // Velocities count on every edge where none is closed; q on every corner of any.
+    let sizes = [(1, 1), (3, 2), (1, 5), (64, 1), (8, 8)];
+    let kinds = (0..3).flat_map(|kind| sizes.map(|size| (size, kind)));
+    for (size, kind) in kinds {
+        let (mut state, q) = narrow_state(&mut random, size, kind);
         state.barriers.fill(0);
-        for (put, numbers) in bounds {
+        let taken = if kind == 0 { &bounds[..] } else { &bounds[4..] };
+        for &(put, numbers) in taken {
             for (number, narrow) in numbers {
-                for cell in 0..state.h.len() {
+                let places = if kind == 0 { state.h.len() } else { q.len() };
+                for cell in 0..places {
                     let (mut state, mut q) = (state.clone(), q.clone());
                     put(&mut state, &mut q, cell, number);
                     // In the probed cell, and in one far from it.

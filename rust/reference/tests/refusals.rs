@@ -4,10 +4,10 @@
 //! record.rs.
 
 use crate::common::literal::PAPER;
-use crate::common::{any_state, closed_edges, first_told, moment, numbers, random_number};
-use crate::common::{random_state, random_state_without_barriers, record_size};
+use crate::common::{any_state, closed_edges, corners, first_told, moment, numbers};
+use crate::common::{random_number, random_q, random_state, random_state_without_barriers};
 use crate::common::{
-    run_state, step_state, within_limits, Random, Spread, NUMBERS, SPREADS, TESTED,
+    record_size, run_state, step_state, within_limits, Random, Spread, NUMBERS, SPREADS, TESTED,
 };
 use reference::{potential_vorticity, probe, probe_grid, run, step, tendencies};
 use reference::{total_depth, total_energy, write, Parameters, State, Timestamp};
@@ -67,6 +67,8 @@ impl Lent {
     /// A state with good things beside it, destinations longer than needed.
     fn beside(state: State) -> Self {
         let cells = state.h.len();
+        // Sides that no call knows may be of any size.
+        let corners = corners(&state.parameters).min(65 * 65);
         Lent {
             p: state.parameters,
             h: state.h,
@@ -74,11 +76,11 @@ impl Lent {
             u: state.u,
             v: state.v,
             barriers: state.barriers,
-            q: vec![1; cells],
+            q: vec![1; corners],
             inflow: vec![0; cells],
             work: vec![71; 8 * cells + 2],
             steps: 2,
-            vorticity: vec![72; cells + 2],
+            vorticity: vec![72; corners + 2],
             dh: vec![73; cells + 2],
             du: vec![74; cells + 2],
             dv: vec![75; cells + 2],
@@ -234,7 +236,13 @@ fn faults() -> Vec<Fault> {
 
     for (name, _, low, _, calls, pick) in FIELDS {
         let what = format!("length of {name}");
-        for length in [0, 5, 7, 12] {
+        // Of q, 6 is a number a cell and 12 the right one.
+        let lengths = if name == "q" {
+            [0, 6, 11, 13]
+        } else {
+            [0, 5, 7, 12]
+        };
+        for length in lengths {
             faults.push(fault(&what, &[2], calls, move |l| {
                 pick(l).resize(length, low)
             }));
@@ -268,7 +276,13 @@ fn faults() -> Vec<Fault> {
     }
 
     for (name, field, low, high, calls, pick) in FIELDS {
-        for cell in [1, 4, 5] {
+        // Of q, also the last corner column and the last corner row.
+        let cells: &[i128] = if name == "q" {
+            &[1, 3, 8, 11]
+        } else {
+            &[1, 4, 5]
+        };
+        for &cell in cells {
             for bad in [low - 1, high + 1, i64::MIN, i64::MAX] {
                 let what = format!("{name}[{cell}]");
                 faults.push(fault(&what, &[4, field, cell], calls, move |l| {
@@ -320,14 +334,16 @@ fn faults() -> Vec<Fault> {
         }
     }
 
-    let destinations: [(&str, &[Call], Pick); 4] = [
-        ("destination of q", &[Vorticity], |l| &mut l.vorticity),
-        ("destination of -D", &[Tendencies], |l| &mut l.dh),
-        ("destination of Tu", &[Tendencies], |l| &mut l.du),
-        ("destination of Tv", &[Tendencies], |l| &mut l.dv),
+    let destinations: [(&str, &[Call], &[usize], Pick); 4] = [
+        ("destination of q", &[Vorticity], &[0, 6, 11], |l| {
+            &mut l.vorticity
+        }),
+        ("destination of -D", &[Tendencies], &[0, 5], |l| &mut l.dh),
+        ("destination of Tu", &[Tendencies], &[0, 5], |l| &mut l.du),
+        ("destination of Tv", &[Tendencies], &[0, 5], |l| &mut l.dv),
     ];
-    for (name, calls, pick) in destinations {
-        for length in [0, 5] {
+    for (name, calls, lengths, pick) in destinations {
+        for &length in lengths {
             faults.push(fault(name, &[8], calls, move |l| pick(l).truncate(length)));
         }
     }
@@ -479,12 +495,8 @@ fn every_bound_itself_is_accepted() {
     }
     let mut exact = Lent::basin();
     exact.work.truncate(48);
-    for destination in [
-        &mut exact.vorticity,
-        &mut exact.dh,
-        &mut exact.du,
-        &mut exact.dv,
-    ] {
+    exact.vorticity.truncate(12);
+    for destination in [&mut exact.dh, &mut exact.du, &mut exact.dv] {
         destination.truncate(6);
     }
     for destination in &mut exact.doubles {
@@ -553,7 +565,11 @@ fn expected_refusal(call: Call, l: &Lent) -> Option<Vec<i128>> {
         .map(|&(_, field, low, high, _, pick)| (field, low, high, pick(&mut l.clone()).clone()))
         .collect();
     let steps = matches!(call, Step | Run);
-    if fields.iter().any(|(_, _, _, values)| values.len() != cells)
+    let corners = corners(&p);
+    let long = |field: i128| if field == 4 { corners } else { cells };
+    if fields
+        .iter()
+        .any(|&(field, _, _, ref values)| values.len() != long(field))
         || l.barriers.len() != cells
         || (steps && l.work.len() < 8 * cells)
     {
@@ -587,7 +603,7 @@ fn expected_refusal(call: Call, l: &Lent) -> Option<Vec<i128>> {
         return Some(vec![10]);
     }
     let short = match call {
-        Vorticity => l.vorticity.len() < cells,
+        Vorticity => l.vorticity.len() < corners,
         Tendencies => [&l.dh, &l.du, &l.dv].iter().any(|d| d.len() < cells),
         ProbeGrid => l.doubles.iter().any(|d| d.len() < cells),
         Write => l.out.len() < record_size(cells),
@@ -601,7 +617,7 @@ fn random_lent(random: &mut Random) -> Lent {
     let state = any_state(random);
     let cells = state.h.len();
     let mut lent = Lent::beside(state);
-    lent.q = numbers(random, Spread::Mixed, cells, -2_000_000, 2_000_000);
+    lent.q = random_q(random, Spread::Mixed, &lent.p);
     lent.inflow = numbers(random, Spread::Mixed, cells, -1_000, 1_000);
     lent.cell = random.below(cells);
     for _ in 0..random.below(4) {
@@ -628,7 +644,7 @@ fn random_lent(random: &mut Random) -> Lent {
                     2 => &mut lent.du,
                     _ => &mut lent.dv,
                 };
-                destination.truncate(random.below(cells + 2));
+                destination.truncate(random.below(destination.len() + 1));
             }
             20 => lent.doubles[random.below(3)].truncate(random.below(cells + 2)),
             21 => lent.cell = random.pick(&[cells - 1, cells, cells + 1, wild as usize]),
@@ -695,7 +711,10 @@ fn accepted_call(call: Call, before: &Lent) -> i128 {
     // What was filled is put back; then nothing else may differ.
     let filled = after.clone();
     match call {
-        Vorticity => after.vorticity[..cells].copy_from_slice(&before.vorticity[..cells]),
+        Vorticity => {
+            let corners = corners(&before.p);
+            after.vorticity[..corners].copy_from_slice(&before.vorticity[..corners]);
+        }
         Tendencies => {
             after.dh[..cells].copy_from_slice(&before.dh[..cells]);
             after.du[..cells].copy_from_slice(&before.du[..cells]);

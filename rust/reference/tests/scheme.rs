@@ -60,7 +60,7 @@ fn vorticity_and_tendencies_follow_the_literal_formulas() {
         assert_eq!(vorticity_of(&state), Ok(own.clone()), "{state:?}");
         assert!(own.iter().all(|q| q.abs() <= 1_966_080), "{state:?}");
         let spread = random.pick(&SPREADS);
-        let lent = random_q(&mut random, spread, own.len());
+        let lent = random_q(&mut random, spread, &state.parameters);
         for q in [own, lent] {
             let got = tendencies_of(&state, &q);
             assert_eq!(got, Ok(PAPER.tendencies(&state, &q)), "{state:?} {q:?}");
@@ -219,6 +219,41 @@ fn wrong_steps_would_be_noticed() {
             "barrier of the cell beyond",
             Variant {
                 barrier_beyond: true,
+                ..PAPER
+            },
+        ),
+        (
+            "wall corners across the wall",
+            Variant {
+                across_walls: true,
+                ..PAPER
+            },
+        ),
+        (
+            "velocities at a wall",
+            Variant {
+                moving_walls: true,
+                ..PAPER
+            },
+        ),
+        (
+            "the cell between walls as one of two",
+            Variant {
+                half_of_a_cell: true,
+                ..PAPER
+            },
+        ),
+        (
+            "corners of the near wall at the far one",
+            Variant {
+                near_corners: true,
+                ..PAPER
+            },
+        ),
+        (
+            "wall corners at barriers",
+            Variant {
+                walls_of_barriers: true,
                 ..PAPER
             },
         ),

@@ -123,7 +123,9 @@ fn example_6_closed_edge() {
     };
     assert_eq!(refusal.told(), [5, 2, 0]);
     assert_eq!(vorticity_of(&state), Err(refusal));
-    assert_eq!(tendencies_of(&state, &[0, 0]), Err(refusal));
+    // Two cells between walls have six corners.
+    assert_eq!(tendencies_of(&state, &[0; 6]), Err(refusal));
+    assert_eq!(tendencies_of(&state, &[0; 2]), Err(Refusal::Lengths));
     assert_eq!(totals_of(&state), [TotalAnswer::Refused(refusal); 2]);
     let answer = step_state(&mut state, &[0, 0], &mut [0; 16]);
     assert_eq!(answer, StepAnswer::Refused(refusal));

@@ -105,7 +105,10 @@ impl Written {
         };
         let whole = !call.is_probing();
         let destination = |is_lent: bool, k: usize| {
-            lent(is_lent && k < call.destinations(), case.destinations[k])
+            lent(
+                is_lent && k < call.destinations(),
+                case.destination(call, k),
+            )
         };
         Written {
             destinations: std::array::from_fn(|k| junk(destination(whole, k), k)),
@@ -555,7 +558,7 @@ pub fn array<T, const N: usize>(numbers: &mut [T]) -> &mut [T; N] {
 fn assert_left(case: &Case, call: Call, before: &Written, got: &Outcome, at: &str) {
     let cells = case.p.w.wrapping_mul(case.p.n);
     let filled = match got.told[0] {
-        0 => cells,
+        0 => case.destination_needed(call),
         _ => 0,
     };
     if call.is_probing() {

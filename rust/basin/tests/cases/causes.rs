@@ -2,7 +2,7 @@
 //! tests of two causes at once. Each test adds those of what else its calls are
 //! lent.
 
-use super::{next_outside, Case, U, V};
+use super::{next_outside, Case, Q, U, V};
 
 /// A cause in the state, or in its timestamp.
 #[derive(Clone, Copy, Debug, PartialEq)]
@@ -34,8 +34,13 @@ impl Cause {
         causes.extend([0, 65, 255, 4].map(Cause::Rows));
         causes.extend([3, 255].map(Cause::Kind));
         for &field in fields {
-            causes.extend([0, 5, 7].map(|length| Cause::Length(field, length)));
-            for cell in [0, 2, 5] {
+            // The basin has twelve corners, and the last of them is past its cells.
+            let (lengths, cells) = match field {
+                Q => ([0, 6, 11], [0, 5, 11]),
+                _ => ([0, 5, 7], [0, 2, 5]),
+            };
+            causes.extend(lengths.map(|length| Cause::Length(field, length)));
+            for cell in cells {
                 causes.extend(next_outside(field).map(|x| Cause::Value(field, cell, x)));
             }
         }

@@ -13,7 +13,7 @@ pub mod rounding;
 pub mod common;
 
 use calls::{UNANSWERED, UNFILLED};
-use common::{large_state, literal, narrow_state, numbers, random_number, random_q};
+use common::{corners, large_state, literal, narrow_state, numbers, random_number, random_q};
 use common::{random_state, random_timestamp, record_size, Random, Spread, SPREADS};
 use records::{tag_9, TAG_8};
 use reference::{Parameters, State, Timestamp};
@@ -145,7 +145,8 @@ pub struct Case {
     pub cell: usize,
     pub steps: u64,
     pub work: usize,
-    /// Lengths of the destinations: q, or dh, du, dv.
+    /// Lengths of the destinations: q, and dh, du, dv.
+    pub vorticity: usize,
     pub destinations: [usize; 3],
     pub timestamp: Timestamp,
     /// Bytes for the record.
@@ -174,6 +175,7 @@ impl Case {
             cell: 0,
             steps: 3,
             work: 8 * cells,
+            vorticity: corners(&parameters),
             destinations: [cells; 3],
             timestamp: 0.into(),
             record: record_size(cells),
@@ -240,7 +242,7 @@ impl Case {
             v: vec![0, 0, 0, 3, -4, 5],
             barriers: vec![0; 6],
         };
-        Case::beside(state, vec![6; 6], vec![-7; 6])
+        Case::beside(state, vec![6; 12], vec![-7; 6])
     }
 
     /// Any case within the limits. A step may leave a bound, no call is refused
@@ -258,27 +260,22 @@ impl Case {
     pub fn good_of_kind(random: &mut Random, size: (usize, usize), kind: u8) -> Self {
         let spread = random.pick(&SPREADS);
         let cells = size.0 * size.1;
-        let mut field = |k: usize| numbers(random, spread, cells, BOUNDS[k].0, BOUNDS[k].1);
-        let (mut q, inflow) = (field(Q), field(S));
+        let inflow = numbers(random, spread, cells, BOUNDS[S].0, BOUNDS[S].1);
         // One that doubles hold exactly, one that they round, or any. Any q may be
         // lent; the state's own is one.
-        let state = match random.below(12) {
-            0 => {
-                let (state, narrow) = narrow_state(random, size, kind);
-                q = narrow;
-                state
-            }
-            1 => {
-                let (state, large) = large_state(random, size, kind);
-                q = large;
-                state
-            }
+        let (state, q) = match random.below(12) {
+            0 => narrow_state(random, size, kind),
+            1 => large_state(random, size, kind),
             2..=4 => {
                 let state = random_state(random, spread, size, kind);
-                q = literal::PAPER.vorticity(&state);
-                state
+                let q = literal::PAPER.vorticity(&state);
+                (state, q)
             }
-            _ => random_state(random, spread, size, kind),
+            _ => {
+                let state = random_state(random, spread, size, kind);
+                let q = random_q(random, spread, &state.parameters);
+                (state, q)
+            }
         };
         let mut case = Case::beside(state, q, inflow);
         case.cell = place(random, cells).expect("a cell");
@@ -287,6 +284,7 @@ impl Case {
             case.take_long(random.pick(&[9_999, 10_000]));
         }
         case.work += random.pick(&[0, 0, 1, 5]);
+        case.vorticity += random.pick(&[0, 0, 1, 5]);
         case.destinations = [(); 3].map(|()| cells + random.pick(&[0, 0, 1, 5]));
         case.timestamp = random_timestamp(random);
         case.record += random.pick(&[0, 0, 1, 5, 60]);
@@ -310,7 +308,7 @@ impl Case {
         let most = random.pick(&[0, 2, 100]);
         let (least, most) = random.pick(&[(-most, most), (0, most), (-most, 0)]);
         let inflow = numbers(random, Spread::Even, cells, least, most);
-        let q = random_q(random, Spread::Even, cells);
+        let q = random_q(random, Spread::Even, &state.parameters);
         let mut case = Case::beside(state, q, inflow);
         case.clear_closed_edges();
         case.work += random.pick(&[0, 0, 1, 5]);
@@ -407,9 +405,69 @@ impl Case {
         }
     }
 
-    /// The same of all fields.
+    /// The same of all fields, whatever the grid.
     pub fn resize_all(&mut self, length: usize) {
         (0..BOUNDS.len()).for_each(|field| self.resize(field, length));
+    }
+
+    /// How many numbers a field has to have: one a corner, or one a cell.
+    pub fn needed(&self, field: usize) -> usize {
+        match field {
+            Q => corners(&self.p),
+            _ => self.p.w * self.p.n,
+        }
+    }
+
+    /// Makes all that is lent just as long as a known grid needs it.
+    pub fn fit(&mut self) {
+        for field in 0..BOUNDS.len() {
+            self.resize(field, self.needed(field));
+        }
+        self.work = 8 * self.needed(H);
+        self.fit_destinations();
+    }
+
+    fn fit_destinations(&mut self) {
+        self.vorticity = self.needed(Q);
+        self.destinations = [self.needed(H); 3];
+        self.record = record_size(self.needed(H));
+    }
+
+    /// Takes another kind, and as many corners as it has where they were right.
+    pub fn set_kind(&mut self, kind: u8) {
+        let before = needed_at_most(self, Q);
+        self.p.kind = kind;
+        let after = needed_at_most(self, Q);
+        if self.length(Q) == before {
+            self.resize(Q, after);
+        }
+        if self.vorticity >= before {
+            self.vorticity = after + (self.vorticity - before);
+        }
+    }
+
+    /// The length of the k-th destination of a call.
+    pub fn destination(&self, call: Call, k: usize) -> usize {
+        match call {
+            Call::PotentialVorticity => self.vorticity,
+            _ => self.destinations[k],
+        }
+    }
+
+    /// Makes it so long.
+    pub fn set_destination(&mut self, call: Call, k: usize, length: usize) {
+        match call {
+            Call::PotentialVorticity => self.vorticity = length,
+            _ => self.destinations[k] = length,
+        }
+    }
+
+    /// The places that a destination of a call has to have.
+    pub fn destination_needed(&self, call: Call) -> usize {
+        match call {
+            Call::PotentialVorticity => self.needed(Q),
+            _ => self.needed(H),
+        }
     }
 
     /// Puts a number into a cell; a shortened field may not have it.
@@ -485,9 +543,10 @@ impl Case {
                 self.steps = 0;
             }
             [2] => {
-                let cells = self.p.w * self.p.n;
-                self.resize_all(cells);
-                self.work = 8 * cells;
+                for field in 0..BOUNDS.len() {
+                    self.resize(field, self.needed(field));
+                }
+                self.work = 8 * self.needed(H);
                 // The inflow that would stop a long run may have gone.
                 self.steps = self.steps.min(3);
             }
@@ -496,11 +555,7 @@ impl Case {
                 let field = field as usize;
                 self.put(field, cell as usize, HARMLESS[field]);
             }
-            [8] => {
-                let cells = self.p.w * self.p.n;
-                self.destinations = [cells; 3];
-                self.record = record_size(cells);
-            }
+            [8] => self.fit_destinations(),
             [9] => self.timestamp.milliseconds = 999,
             [10] => self.cell = 0,
             _ => panic!("{told:?} is no refusal of these calls: {self:?}"),
@@ -647,6 +702,7 @@ impl Fault {
                 let length = case.length(field);
                 let length = match random.below(4) {
                     0 => 0,
+                    1 if field == Q => case.length(H),
                     1 => 2 * length,
                     _ => random.below(2 * length + 2),
                 };
@@ -690,6 +746,7 @@ impl Fault {
                 }
                 let length = case.fields[H].len();
                 case.work = 8 * length;
+                case.vorticity = length;
                 case.destinations = [length; 3];
                 case.record = record_size(length);
             }
@@ -706,6 +763,7 @@ impl Fault {
                 (case.p.w, case.p.n) = (w, n);
                 case.resize_all(w * n);
                 case.work = 8 * w * n;
+                case.vorticity = w * n;
                 case.destinations = [w * n; 3];
                 case.record = record_size(w * n);
             }
@@ -737,16 +795,22 @@ impl Fault {
                 };
             }
             Fault::ShortDestination => {
-                let last = destination_needed(case).saturating_sub(1);
+                let last = needed_at_most(case, H).saturating_sub(1);
                 case.destinations[random.below(3)] = random.pick(&[0, last, last]);
+                let last = needed_at_most(case, Q).saturating_sub(1);
+                case.vorticity = random.pick(&[0, last, last, case.vorticity]);
             }
             Fault::OtherDestinations => {
-                let needed = destination_needed(case);
+                let needed = needed_at_most(case, H);
                 let lengths = [0, needed, random.below(needed + 1)];
                 case.destinations = [(); 3].map(|()| random.pick(&lengths));
+                // A place a cell is too few where there are walls.
+                let corners = needed_at_most(case, Q);
+                let any = random.below(corners + 1);
+                case.vorticity = random.pick(&[0, needed, corners, any]);
             }
             Fault::ShortRecord => {
-                let cells = destination_needed(case);
+                let cells = needed_at_most(case, H);
                 let needed = record_size(cells);
                 // Short by a cell, by tag 9, by tags 8 and 9, of the fields alone,
                 // of no cell at all.
@@ -766,7 +830,7 @@ impl Fault {
             }
             Fault::Milliseconds => case.timestamp.milliseconds = late_milliseconds(random),
             Fault::Cell => {
-                let (cells, any) = (destination_needed(case), random.next() as usize);
+                let (cells, any) = (needed_at_most(case, H), random.next() as usize);
                 case.cell = match random.below(3) {
                     0 => random.pick(&[cells.saturating_sub(1), cells, cells + 1]),
                     // The low bits are those of a cell.
@@ -865,9 +929,12 @@ fn late_milliseconds(random: &mut Random) -> u64 {
     }
 }
 
-/// Places that a destination has to have, in a grid that can be known.
-fn destination_needed(case: &Case) -> usize {
-    case.p.w.wrapping_mul(case.p.n).min(64 * 64)
+/// The cells of a grid, or of q the corners, as many as a known one can have.
+fn needed_at_most(case: &Case, field: usize) -> usize {
+    match field {
+        Q => corners(&case.p).min(65 * 65),
+        _ => case.p.w.wrapping_mul(case.p.n).min(64 * 64),
+    }
 }
 
 /// The inverse of an odd number, modulo 2^64.
@@ -946,7 +1013,7 @@ fn put_on_edges(
     number: impl Fn(&mut Random) -> i64,
 ) {
     if case.is_open() {
-        case.p.kind = 1 + random.below(2) as u8;
+        case.set_kind(1 + random.below(2) as u8);
         case.clear_closed_edges();
     }
     for _ in 0..times {

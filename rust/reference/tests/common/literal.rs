@@ -1,6 +1,8 @@
 //! 01's formulas taken literally: every quantity a function of (i,j) that is
 //! worked out afresh where it is used, wrapped by remainders, in `i128`. In `f64`
-//! the same formulas are those of 02's probe, with one rounding an operation.
+//! the same formulas are those of 02's probe, with one rounding an operation. A
+//! corner (x,y) is asked which of the four cells around it are on its side of the
+//! walls (02, request U5).
 //!
 //! `Variant` holds the ways in which copies of the scheme go astray, so that
 //! the tests can show that they would notice.
@@ -56,6 +58,16 @@ pub struct Variant {
     pub bits_swapped: bool,
     /// An edge is closed by the barrier of the cell on its other side.
     pub barrier_beyond: bool,
+    /// Corners on a wall take the cells across it, as in 01.
+    pub across_walls: bool,
+    /// Velocities count in Z on a wall too.
+    pub moving_walls: bool,
+    /// Where two walls meet, the cell counts as one of two.
+    pub half_of_a_cell: bool,
+    /// Cells at the far wall use the corners of the near one, as in 01.
+    pub near_corners: bool,
+    /// A barrier makes its ends corners on a wall.
+    pub walls_of_barriers: bool,
 }
 
 /// As 01 has it.
@@ -70,6 +82,11 @@ pub const PAPER: Variant = Variant {
     boundary_alone: false,
     bits_swapped: false,
     barrier_beyond: false,
+    across_walls: false,
+    moving_walls: false,
+    half_of_a_cell: false,
+    near_corners: false,
+    walls_of_barriers: false,
 };
 
 /// Without E and F.
@@ -101,11 +118,14 @@ impl Variant {
 
     pub fn vorticity(&self, state: &State) -> Vec<i64> {
         let l = Literal::<i128>::new(state, &[], self);
-        l.whole(|i, j| {
-            let z = l.c + l.v(i, j) - l.v(i - 1, j) + l.u(i, j - 1) - l.u(i, j);
-            let depths = l.h(i, j) + l.h(i - 1, j) + l.h(i, j - 1) + l.h(i - 1, j - 1);
-            self.rnd(262_144 * z, depths)
-        })
+        let q = l.each_corner(|x, y| {
+            let mut z = l.c + l.v(x, y) - l.v(x - 1, y) + l.u(x, y - 1) - l.u(x, y);
+            if l.on_wall(x, y) && !self.moving_walls {
+                z = l.c;
+            }
+            self.rnd(262_144 * z, l.depths(x, y))
+        });
+        q.into_iter().map(number).collect()
     }
 
     pub fn tendencies(&self, state: &State, q: &[i64]) -> Three {
@@ -284,10 +304,58 @@ impl<'a, N: Number> Literal<'a, N> {
 
     fn weight(&self, row: usize, i: i64, j: i64) -> N {
         let [ne, nw, sw, se] = self.variant.table[row].map(N::of);
-        ne * self.at(self.q, i + 1, j + 1)
-            + nw * self.at(self.q, i, j + 1)
-            + sw * self.at(self.q, i, j)
-            + se * self.at(self.q, i + 1, j)
+        // The cell wraps, its corners only where there is no wall.
+        let (i, j) = (i.rem_euclid(self.p.w as i64), j.rem_euclid(self.p.n as i64));
+        ne * self.corner(i + 1, j + 1)
+            + nw * self.corner(i, j + 1)
+            + sw * self.corner(i, j)
+            + se * self.corner(i + 1, j)
+    }
+
+    /// Columns and rows of corners.
+    fn corner_sides(&self) -> [i64; 2] {
+        corner_sides(&self.p).map(|side| side as i64)
+    }
+
+    /// What q has at a corner.
+    fn corner(&self, x: i64, y: i64) -> N {
+        let [columns, rows] = self.corner_sides();
+        let (mut x, mut y) = (x.rem_euclid(columns), y.rem_euclid(rows));
+        if self.variant.near_corners {
+            x %= self.p.w as i64;
+            y %= self.p.n as i64;
+        }
+        N::of(self.q[(y * columns + x) as usize])
+    }
+
+    /// Something of each corner.
+    fn each_corner<T>(&self, f: impl Fn(i64, i64) -> T) -> Vec<T> {
+        let [columns, rows] = self.corner_sides();
+        (0..rows)
+            .flat_map(|y| (0..columns).map(move |x| (x, y)))
+            .map(|(x, y)| f(x, y))
+            .collect()
+    }
+
+    /// Those of the four cells around a corner that are on its side of the walls.
+    fn around(&self, x: i64, y: i64) -> Vec<(i64, i64)> {
+        let inside = |cell: i64, side: usize, walled: bool| {
+            !walled || self.variant.across_walls || (0..side as i64).contains(&cell)
+        };
+        [(x, y), (x - 1, y), (x, y - 1), (x - 1, y - 1)]
+            .into_iter()
+            .filter(|&(i, _)| inside(i, self.p.w, self.p.kind == 2))
+            .filter(|&(_, j)| inside(j, self.p.n, self.p.kind != 0))
+            .collect()
+    }
+
+    fn on_wall(&self, x: i64, y: i64) -> bool {
+        let barred = self.variant.walls_of_barriers
+            && (self.barred(0, x, y)
+                || self.barred(0, x, y - 1)
+                || self.barred(1, x, y)
+                || self.barred(1, x - 1, y));
+        self.around(x, y).len() < 4 || barred
     }
 
     fn bernoulli(&self, i: i64, j: i64) -> N {
@@ -352,8 +420,56 @@ impl<'a, N: Number> Literal<'a, N> {
 impl Literal<'_, i128> {
     /// A whole number of each cell.
     fn whole(&self, f: impl Fn(i64, i64) -> i128) -> Vec<i64> {
-        let number = |x| i64::try_from(x).expect("fits 64 bits");
         self.each(|i, j| number(f(i, j)))
+    }
+
+    /// H: the cells around a corner count as often as makes four.
+    fn depths(&self, x: i64, y: i64) -> i128 {
+        let cells = self.around(x, y);
+        let times = match cells.len() {
+            1 if self.variant.half_of_a_cell => 2,
+            count => 4 / count as i128,
+        };
+        times * cells.into_iter().map(|(i, j)| self.h(i, j)).sum::<i128>()
+    }
+}
+
+fn number(x: i128) -> i64 {
+    i64::try_from(x).expect("fits 64 bits")
+}
+
+/// Potential vorticity as 01 has it, a number a cell: that of its southwest corner,
+/// with the cells across the seam like any others.
+pub fn vorticity_of_01(state: &State) -> Vec<i64> {
+    let State {
+        parameters,
+        h,
+        u,
+        v,
+        ..
+    } = state;
+    let (w, n) = (parameters.w, parameters.n);
+    let of_cell = |cell: usize| {
+        let (i, j) = (cell % w, cell / w);
+        let (west, south) = ((i + w - 1) % w, (j + n - 1) % n);
+        let [here, at_west, at_south, beyond] =
+            [(i, j), (west, j), (i, south), (west, south)].map(|(i, j)| j * w + i);
+        let z = parameters.c + v[here] - v[at_west] + u[at_south] - u[here];
+        let depths = h[here] + h[at_west] + h[at_south] + h[beyond];
+        let nearest = (2 * 262_144 * z.abs() + depths) / (2 * depths);
+        nearest * z.signum()
+    };
+    (0..w * n).map(of_cell).collect()
+}
+
+/// Columns and rows of corners, by the words of 02. Sides that no call knows may be
+/// of any size.
+pub fn corner_sides(p: &Parameters) -> [usize; 2] {
+    let more = |side: usize| side.saturating_add(1);
+    match p.kind {
+        1 => [p.w, more(p.n)],
+        2 => [more(p.w), more(p.n)],
+        _ => [p.w, p.n],
     }
 }
 
@@ -377,7 +493,8 @@ pub fn energy_rate(state: &State, rates: &Three) -> i128 {
     })
 }
 
-/// The scaled enstrophy rate of this q under these tendencies.
+/// The scaled enstrophy rate of this q under these tendencies, at the southwest
+/// corners of the cells.
 pub fn enstrophy_rate(state: &State, q: &[i64], rates: &Three) -> i128 {
     let l = Literal::<i128>::new(state, q, &PAPER);
     let (d, tu, tv) = (
@@ -388,7 +505,7 @@ pub fn enstrophy_rate(state: &State, q: &[i64], rates: &Three) -> i128 {
     sum(&l, |i, j| {
         let eta = tv(i, j) - tv(i - 1, j) + tu(i, j - 1) - tu(i, j);
         let d4 = d(i, j) + d(i - 1, j) + d(i, j - 1) + d(i - 1, j - 1);
-        let q = l.at(q, i, j);
+        let q = l.corner(i, j);
         q * eta + 3 * q * q * d4
     })
 }

@@ -12,7 +12,7 @@ pub use random::Random;
 use std::fs;
 use std::path::Path;
 
-use literal::Three;
+use literal::{corner_sides, Three};
 use reference::{FillAnswer, Parameters, ProbeAnswer, ProbeGridAnswer, Refusal};
 use reference::{RunAnswer, State, StepAnswer, Timestamp, TotalAnswer};
 
@@ -86,9 +86,86 @@ pub fn numbers(random: &mut Random, spread: Spread, count: usize, low: i64, high
         .collect()
 }
 
-/// Any q within its bound.
-pub fn random_q(random: &mut Random, spread: Spread, count: usize) -> Vec<i64> {
-    numbers(random, spread, count, -2_000_000, 2_000_000)
+/// How many corners a grid has, apart from the library: the numbers of its q.
+pub fn corners(p: &Parameters) -> usize {
+    let [columns, rows] = corner_sides(p);
+    columns.saturating_mul(rows)
+}
+
+/// Every small grid of every kind, and the largest ones: width and height, and kind.
+pub fn every_grid() -> impl Iterator<Item = ((usize, usize), u8)> {
+    let small = (1..=5).flat_map(|w| (1..=5).map(move |n| (w, n)));
+    let sizes = small.chain([(64, 1), (1, 64), (64, 64)]);
+    sizes.flat_map(|size| (0..3).map(move |kind| (size, kind)))
+}
+
+/// The corners of a cell, sw, se, nw and ne: they wrap only where there is no wall.
+pub fn own_corners(p: &Parameters, cell: usize) -> [usize; 4] {
+    let [columns, rows] = corner_sides(p);
+    let (i, j) = (cell % p.w, cell / p.w);
+    let places = [(i, j), (i + 1, j), (i, j + 1), (i + 1, j + 1)];
+    places.map(|(x, y)| y % rows * columns + x % columns)
+}
+
+/// The corners on a wall, in index order.
+pub fn wall_corners(p: &Parameters) -> Vec<usize> {
+    let [columns, rows] = corner_sides(p);
+    let on_wall = |corner: &usize| {
+        let (x, y) = (corner % columns, corner / columns);
+        p.kind == 2 && (x == 0 || x == p.w) || p.kind != 0 && (y == 0 || y == p.n)
+    };
+    (0..columns * rows).filter(on_wall).collect()
+}
+
+/// The places at which two lists differ.
+pub fn differing(one: &[i64], other: &[i64]) -> Vec<usize> {
+    assert_eq!(one.len(), other.len());
+    (0..one.len()).filter(|&k| one[k] != other[k]).collect()
+}
+
+/// For each wall with other cells along the opposite one: the cells along it, and the
+/// corners on the opposite one.
+pub fn opposite_walls(p: &Parameters) -> Vec<(Vec<usize>, Vec<usize>)> {
+    let &Parameters { w, n, kind, .. } = p;
+    let [columns, rows] = corner_sides(p);
+    let row = |j: usize, y: usize| {
+        let cells = (0..w).map(|i| j * w + i).collect();
+        (cells, (0..columns).map(|x| y * columns + x).collect())
+    };
+    let column = |i: usize, x: usize| {
+        let cells = (0..n).map(|j| j * w + i).collect();
+        (cells, (0..rows).map(|y| y * columns + x).collect())
+    };
+    let mut walls = vec![];
+    if kind != 0 && n > 1 {
+        walls.extend([row(0, n), row(n - 1, 0)]);
+    }
+    if kind == 2 && w > 1 {
+        walls.extend([column(0, w), column(w - 1, 0)]);
+    }
+    walls
+}
+
+/// Corners of such a grid to try: all of a small one, and of a large one the last row
+/// and the last column.
+pub fn corners_to_try(p: &Parameters) -> Vec<usize> {
+    let [columns, rows] = corner_sides(p);
+    let all = 0..columns * rows;
+    let last = |corner: &usize| corner / columns == rows - 1 || corner % columns == columns - 1;
+    all.filter(|corner| columns * rows <= 36 || last(corner))
+        .collect()
+}
+
+/// Lengths of a q, and whether each is right: a number a corner, one fewer, one
+/// more, a number a cell, none.
+pub fn q_lengths(p: &Parameters) -> [(usize, bool); 5] {
+    let right = corners(p);
+    [right, right - 1, right + 1, p.w * p.n, 0].map(|length| (length, length == right))
+}
+
+/// Any q of such a grid within its bound.
+pub fn random_q(random: &mut Random, spread: Spread, p: &Parameters) -> Vec<i64> {
+    numbers(random, spread, corners(p), -2_000_000, 2_000_000)
 }
 
 /// Width and height: mostly up to 8, with single rows and columns, and up to
@@ -191,12 +268,12 @@ fn state_of_sizes(
 ) -> (State, Vec<i64>) {
     let mut state = random_state(random, spread, size, kind);
     let cells = state.h.len();
-    let mut sizes = |(low, high)| numbers(random, spread, cells, low, high);
+    let mut sizes = |count, (low, high)| numbers(random, spread, count, low, high);
     let (low, high) = height;
-    state.h = sizes((low.max(1_000), high));
-    state.b = sizes(height);
-    let [u, v] = [(); 2].map(|()| sizes(speed));
-    let q = sizes(vorticity);
+    state.h = sizes(cells, (low.max(1_000), high));
+    state.b = sizes(cells, height);
+    let [u, v] = [(); 2].map(|()| sizes(cells, speed));
+    let q = sizes(corners(&state.parameters), vorticity);
     let mut signed = |mut field: Vec<i64>| {
         let signs = random.pick(&[&[1][..], &[-1], &[-1, 1], &[-1, 1]]);
         field.iter_mut().for_each(|x| *x *= random.pick(signs));
@@ -287,7 +364,7 @@ fn filled(answer: FillAnswer) -> Result<(), Refusal> {
 
 /// The potential vorticity of an owned state, by the public call.
 pub fn vorticity_of(state: &State) -> Result<Vec<i64>, Refusal> {
-    let mut q = vec![i64::MIN; state.h.len()];
+    let mut q = vec![i64::MIN; corners(&state.parameters)];
     let State {
         parameters,
         h,
@@ -624,9 +701,9 @@ pub struct WorkedProbe {
 }
 
 /// Those of worked example 2; of two cells at the narrow bounds, and past one of
-/// them; of numbers that doubles round; and of closed edges, at a wall and at a
-/// barrier.
-pub fn worked_probes() -> [WorkedProbe; 9] {
+/// them; of numbers that doubles round; of closed edges, at a wall and at a barrier;
+/// and of the channel of [`worked_channel`].
+pub fn worked_probes() -> [WorkedProbe; 11] {
     let state = |(w, n, kind, g), fields: [&[i64]; 4], barriers: &[u8]| {
         let [h, b, u, v] = fields.map(Vec::from);
         State {
@@ -645,6 +722,7 @@ pub fn worked_probes() -> [WorkedProbe; 9] {
             barriers: barriers.to_vec(),
         }
     };
+    let (channel, corners, _) = worked_channel();
     [
         WorkedProbe {
             state: state((1, 1, 0, 9_810), [&[2_000], &[0], &[100], &[-50]], &[0]),
@@ -742,7 +820,7 @@ pub fn worked_probes() -> [WorkedProbe; 9] {
                 [&[2_000, 3_000], &[0, 0], &[0, 10], &[0, 0]],
                 &[0, 0],
             ),
-            q: vec![1_000, 2_000],
+            q: vec![1_000, 2_000, 3_000, 4_000, 5_000, 6_000],
             cell: 0,
             exact: true,
             whole: [-50_000, 0, 0],
@@ -755,7 +833,7 @@ pub fn worked_probes() -> [WorkedProbe; 9] {
                 [&[2_000, 3_000], &[0, 0], &[0, 10], &[0, 0]],
                 &[0, 0],
             ),
-            q: vec![1_000, 2_000],
+            q: vec![1_000, 2_000, 3_000, 4_000, 5_000, 6_000],
             cell: 1,
             exact: true,
             whole: [50_000, -30_859_591_680_000, 0],
@@ -792,7 +870,120 @@ pub fn worked_probes() -> [WorkedProbe; 9] {
                 0xC1CA_D274_8000_0000,
             ],
         },
+        WorkedProbe {
+            state: channel.clone(),
+            q: corners.clone(),
+            cell: 0,
+            exact: true,
+            whole: [-120_000, 2_160_000_000, 0],
+            doubles: [-120_000.0, 2_160_000_000.0, 0.0],
+            bits: [0xC0FD_4C00_0000_0000, 0x41E0_17DF_8000_0000, 0],
+        },
+        WorkedProbe {
+            state: channel,
+            q: corners,
+            cell: 1,
+            exact: true,
+            whole: [120_000, 3_600_000_000, -54_514_560_000],
+            doubles: [120_000.0, 3_600_000_000.0, -54_514_560_000.0],
+            bits: [
+                0x40FD_4C00_0000_0000,
+                0x41EA_D274_8000_0000,
+                0xC229_62A4_5800_0000,
+            ],
+        },
     ]
+}
+
+/// A shoal along the south wall and deep water along the north wall, two by two
+/// cells, with or without walls in the west and in the east.
+fn shoal(kind: u8, u: [i64; 4]) -> State {
+    State {
+        parameters: Parameters {
+            w: 2,
+            n: 2,
+            kind,
+            g: 9_810,
+            c: 100,
+            r: 1_000,
+        },
+        h: vec![2_000, 3_000, 50_000, 60_000],
+        b: vec![0; 4],
+        u: u.to_vec(),
+        v: vec![0, 0, 7, -9],
+        barriers: vec![0; 4],
+    }
+}
+
+/// Worked numbers of 02's corners on a wall: states and their own q, of one cell
+/// between four walls, of a channel and of a basin.
+pub fn worked_corners() -> [(State, Vec<i64>); 3] {
+    let mut cell = one_cell();
+    cell.parameters.kind = 2;
+    (cell.u, cell.v) = (vec![0], vec![0]);
+    [
+        (cell, vec![328; 4]),
+        (
+            shoal(1, [30, -20, 10, 40]),
+            vec![2_621, 2_621, 310, 55, 119, 119],
+        ),
+        (
+            shoal(2, [0, -20, 0, 40]),
+            vec![3_277, 2_621, 2_185, 252, 55, 208, 131, 119, 109],
+        ),
+    ]
+}
+
+/// A channel of one column, a lent q and the tendencies with it.
+pub fn worked_channel() -> (State, Vec<i64>, Three) {
+    let state = State {
+        parameters: Parameters {
+            w: 1,
+            n: 2,
+            kind: 1,
+            g: 10,
+            c: 0,
+            r: 1_000,
+        },
+        h: vec![2_000, 4_000],
+        b: vec![0; 2],
+        u: vec![50, -50],
+        v: vec![0, 20],
+        barriers: vec![0; 2],
+    };
+    let tendencies = Three {
+        h: vec![-120_000, 120_000],
+        u: vec![2_160_000_000, 3_600_000_000],
+        v: vec![0, -54_514_560_000],
+    };
+    (state, vec![1_000, 2_000, 3_000], tendencies)
+}
+
+/// A basin that turns fast, and the same a step later. With the cells across the
+/// walls, v would be 48 and -113 there.
+pub fn worked_turning_basin() -> [State; 2] {
+    let before = State {
+        parameters: Parameters {
+            w: 2,
+            n: 2,
+            kind: 2,
+            g: 1,
+            c: 10_000,
+            r: 50_000,
+        },
+        h: vec![20_000, 30_000, 50_000, 60_000],
+        b: vec![0; 4],
+        u: vec![0, -200, 0, 400],
+        v: vec![0, 0, 70, -90],
+        barriers: vec![0; 4],
+    };
+    let after = State {
+        h: vec![20_064, 29_995, 49_598, 60_343],
+        u: vec![0, -204, 0, 397],
+        v: vec![0, 0, 53, -106],
+        ..before.clone()
+    };
+    [before, after]
 }
 
 /// A state at rest with level water.
