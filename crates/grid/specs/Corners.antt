@@ -5,7 +5,7 @@ use Prim.Native.Nat.{ℕ, _+_, _-_, _*_, _≤_, _<_}
 use native.Mathlib.Nat.{mul-le-mul}
 use native.Mathlib.Omega.{arith}
 use lib.Dec.{T, eqb}
-use borrow.Author.Tests.{eqb-false}
+use borrow.Author.Tests.{eqb-false, eq-eqb}
 use Rattle.model.specs.Grid.{next, previous, cornersOf, lower, upper, onWall}
 use Rattle.model.specs.State.{Side, boundaryOf, wallWest, wallSouth}
 use Rattle.grid.specs.Cells.{cell-lt, next-lt, previous-lt, previous-first, previous-inner}
@@ -20,6 +20,10 @@ corners-some true h = omega arith
 pub corners-more : (walled : Bool) {w x : ℕ} → x < w → x < cornersOf walled w
 corners-more false h = h
 corners-more true h = omega arith
+
+pub corners-next : (walled : Bool) (w : ℕ) → cornersOf walled w ≤ w + 1
+corners-next false w = omega arith
+corners-next true w = omega arith
 
 pub side-most : (walled : Bool) {w : ℕ} → Side w → cornersOf walled w ≤ 65
 side-most false s = omega (arith, s .most)
@@ -71,6 +75,18 @@ inner true {w} {x} p h =
     let b = eqb-false x w (n .1) in
     let l : x < w = omega arith in
     record { place = l; below = sym (previous-inner w x (omega arith) l); above = omega arith }
+
+-- a side with a corner past its last place has walls, and that corner is on one
+pub last-on-wall : (walled : Bool) (w : ℕ) → w < cornersOf walled w → onWall walled w w ≡ true
+last-on-wall false w h = absurd (none h)
+  where
+    none : {w : ℕ} → w < w → ⊥
+    none h = omega arith
+last-on-wall true w h = last (eqb w 0) (eq-eqb w w refl)
+  where
+    last : (a : Bool) {b : Bool} → b ≡ true → (a || b) ≡ true
+    last true e = refl
+    last false e = e
 
 -- ---- a corner
 

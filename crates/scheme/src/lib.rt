@@ -6,21 +6,23 @@
 // south. A cell where a row or a column ends is worked out once more, for the cell where it begins, if the edge between them is open.
 // The functions here serve the calls of the crates above, and require what those have tested.
 ghost use mathlib.Core.Path.{_≡_};
-ghost use mathlib.Core.Bool.{false, cond};
-ghost use mathlib.Core.List.{[]};
-ghost use Prim.Native.Nat.{_≤_, _<_};
+ghost use mathlib.Core.Bool.{true, false, cond};
+ghost use mathlib.Core.List.{List, []};
+ghost use Prim.Native.Nat.{_*_, _≤_, _<_};
 ghost use lib.Dec.{eqb};
-ghost use lib.IntN.{pos, negℤ, _+ℤ_, _-ℤ_, _*ℤ_};
+ghost use lib.IntN.{ℤ, pos, negℤ, _+ℤ_, _-ℤ_, _*ℤ_};
+ghost use lib.Signed.{_≤ℤ_};
 ghost use lib.ListN.{length, getD};
-ghost use Rattle.model.specs.Numbers.{rnd, bernoulliScale, tendencyScale, Within, gravityLimits, coriolisLimits, ratioLimits, depthLimits};
+ghost use Rattle.model.specs.Numbers.{rnd, bernoulliScale, tendencyScale, vorticityScale, Within, gravityLimits, coriolisLimits, ratioLimits, depthLimits};
 ghost use Rattle.model.specs.Numbers.{bottomLimits, velocityLimits};
 ghost use Rattle.model.specs.Grid.{filled};
-ghost use Rattle.model.specs.State.{FieldWithin, stateOf, corners};
+ghost use Rattle.model.specs.State.{FieldWithin, stateOf, cornerColumns, cornerRows, corners};
 ghost use Rattle.model.specs.Weights.{weightAt};
 ghost use Rattle.model.specs.Scheme.{vorticityAt, vorticity};
 ghost use Rattle.model.specs.Step.{X, Y};
 ghost use Rattle.integers.specs.Bounds.{Abs};
-ghost use Rattle.grid.specs.Corners.{Corner};
+ghost use Rattle.grid.specs.Corners.{Corner, onAWall};
+ghost use Rattle.grid.specs.WritingLoops.{RowWriting};
 ghost use Rattle.scheme.specs.Ready.{ReadsAt, VorticityReady, FlowReady, Flow, TendenciesReady, walled, walledBefore};
 ghost use Rattle.scheme.specs.Shares.{mostFlux, mostBernoulli, mostShare, mostTendency, weightedBy, CornersWithin, squaresAt, fluxAt};
 ghost use Rattle.scheme.specs.Shares.{geopotentialAt, westShare, eastShare, southShare, northShare, Fit, IsShares, AreShares};
@@ -84,9 +86,17 @@ fn absolute_vorticity(
     c + v[ne] - v[nw] + u[se] - u[ne]
 }
 
+// Potential vorticity from these two: 01's q.
+fn vorticity_of(z: i64, depth: i64) -> i64
+    requires { ⌜ Abs z 30000 × Abs depth 400000 × (pos 1 ≤ℤ depth) ⌝ }
+    ensures { λ r. ⌜ r ≡ rnd (vorticityScale *ℤ z) depth ⌝ }
+{
+    integers::rnd(VORTICITY_SCALE * z, depth)
+}
+
 // The potential vorticity at corner (x, y). The bottom and the barriers do not enter: in the contract there are none. It rules out, for
 // instance: a depth across a wall; velocities at a wall; the difference of v taken backwards.
-pub fn vorticity_at(p: Parameters, h: &[i64], u: &[i64], v: &[i64], x: usize, y: usize) -> i64
+fn vorticity_at(p: Parameters, h: &[i64], u: &[i64], v: &[i64], x: usize, y: usize) -> i64
     requires { ⌜ VorticityReady p (now h) (now u) (now v) × Corner (p .kind) (p .w) (p .n) x y ⌝ }
     ensures { λ r. ⌜ r ≡ vorticityAt (stateOf p (now (h .entry)) [] (now (u .entry)) (now (v .entry)) []) x y ⌝ }
 {
@@ -94,7 +104,47 @@ pub fn vorticity_at(p: Parameters, h: &[i64], u: &[i64], v: &[i64], x: usize, y:
     let wall = grid::is_on_wall(p.kind, p.w, p.n, x, y);
     let z = absolute_vorticity(wall, p.c, u, v, a.ne, a.nw, a.se);
     let depth = depth_around(h, a.ne, a.nw, a.se, a.sw);
-    integers::rnd(VORTICITY_SCALE * z, depth)
+    vorticity_of(z, depth)
+}
+
+// The same at a corner on a wall, where velocities do not enter.
+fn wall_vorticity_at(p: Parameters, h: &[i64], x: usize, y: usize) -> i64
+    requires { ⌜
+        Corner (p .kind) (p .w) (p .n) x y
+        × (onAWall (p .kind) (p .w) (p .n) x y ≡ true)
+        × Within coriolisLimits (p .c)
+        × FieldWithin depthLimits (p .w * p .n) (now h)
+        ⌝ }
+    ensures { λ r. ⌜ ((u v : List ℤ) → r ≡ vorticityAt (stateOf p (now (h .entry)) [] u v []) x y) ⌝ }
+{
+    let a = grid::cells_around(p.kind, p.w, p.n, x, y);
+    let depth = depth_around(h, a.ne, a.nw, a.se, a.sw);
+    vorticity_of(p.c, depth)
+}
+
+// The potential vorticity of corner row y. Where rows end at walls, the last corner is worked out after the loop, so that no turn of the loop
+// asks for the wall in the east.
+fn vorticity_row(p: Parameters, h: &[i64], u: &[i64], v: &[i64], y: usize, d: &mut [i64])
+    requires { ⌜
+        (let s = stateOf p (now h) [] (now u) (now v) [] in
+        VorticityReady p (now h) (now u) (now v)
+        × (y < cornerRows s)
+        × (corners s ≤ length (now d)))
+        ⌝ }
+    ensures { λ _. ⌜
+        (let s = stateOf p (now (h .entry)) [] (now (u .entry)) (now (v .entry)) [] in
+        RowWriting (cornerColumns s) (cornerRows s) (vorticityAt s) 0 y (now (d .entry)) (cornerColumns s) (now (d .exit)))
+        ⌝ }
+{
+    let columns = grid::corner_columns(p.kind, p.w);
+    for x in 0..p.w {
+        let k = y * columns + x;
+        d[k] = vorticity_at(p, h, u, v, x, y);
+    }
+    if p.w < columns {
+        let last = y * columns + p.w;
+        d[last] = wall_vorticity_at(p, h, p.w, y);
+    }
 }
 
 // Fills the first places of d with the potential vorticity at every corner. The potential vorticity call and a pass share this loop. It rules
@@ -109,13 +159,9 @@ pub fn fill_vorticity(p: Parameters, h: &[i64], u: &[i64], v: &[i64], d: &mut [i
         now (d .exit) ≡ filled (corners s) (vorticity s) (now (d .entry)))
         ⌝ }
 {
-    let columns = grid::corner_columns(p.kind, p.w);
     let rows = grid::corner_rows(p.kind, p.n);
     for y in 0..rows {
-        for x in 0..columns {
-            let k = y * columns + x;
-            d[k] = vorticity_at(p, h, u, v, x, y);
-        }
+        vorticity_row(p, h, u, v, y, d);
     }
 }
 

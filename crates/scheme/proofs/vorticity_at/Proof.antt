@@ -1,5 +1,5 @@
 -- `scheme::vorticity_at` meets its contract. Assumes nothing.
-use mathlib.Core.Path.{_≡_, sym, ap, ap₂, subst, _∙_}
+use mathlib.Core.Path.{_≡_, refl, sym, ap₂, subst, _∙_}
 use mathlib.Core.Bool.{Bool, true, false, cond}
 use mathlib.Core.List.{[]}
 use Prim.Native.Nat.{_*_}
@@ -11,10 +11,9 @@ use mir.Facts.{toZ-ofZ}
 use Rattle.model.specs.Numbers.{Within, coriolisLimits, rnd}
 use Rattle.model.specs.State.{State, stateOf}
 use Rattle.model.specs.Scheme.{Z, H, vorticityAt}
-use Rattle.integers.specs.Ring.{Expr, var, con, _⊗_}
+use Rattle.integers.specs.Ring.{var}
 use Rattle.integers.specs.Order.{≤-trans}
-use Rattle.integers.specs.Bounds.{Abs, ∎, _◂_, abs-as, held, held-is, size, fits, exact}
-use Rattle.integers.specs.Rounding.{mostDividend, mostDivisor}
+use Rattle.integers.specs.Bounds.{Abs, ∎, _◂_, abs-as, held, held-is, size}
 use Rattle.grid.specs.Corners.{Below4, cells-below}
 use Rattle.scheme.specs.Ready.{reads}
 use Rattle.scheme.specs.Around.{absolute-vorticity-around, depth-around}
@@ -35,7 +34,7 @@ c-is c = toZ-ofZ {w = w64} (record { sfits = c .struct-told .given .1 .1 .1 .1 .
 turning : (c : tie.After-struct-told) → Within coriolisLimits (held w64 (c .before .before .before .args .p .c))
 turning c = subst (Within coriolisLimits) (sym (c-is c)) (c .before .before .before .pre .0 .coriolis)
 
--- Z, and what is divided
+-- Z
 z-is : (c : tie.After-absolute-vorticity) → let s = c .before .before .before .before in c .absolute-vorticity .result ≡ Z (state s) (s .args .x) (s .args .y)
 z-is c =
     let t = c .before in
@@ -58,12 +57,6 @@ z-size c =
     either : (wall : Bool) {c z : ℤ} → Within coriolisLimits c → Abs z 30000 → Abs (cond wall c z) 30000
     either true l h = size (var 0) (coriolis-size l ◂ ∎) tt
     either false l h = h
-
-abbrev scaled : Expr
-scaled = con (pos 262144) ⊗ var 0
-
-scaled-is : (c : tie.After-absolute-vorticity) → held w64 (pos 262144 *ℤ held w64 (c .absolute-vorticity .result)) ≡ pos 262144 *ℤ c .absolute-vorticity .result
-scaled-is c = exact w64 scaled (z-size c ◂ ∎) tt
 
 -- H
 h-is : (c : tie.After-depth-around) → let s = c .before .before .before .before .before in held w64 (c .depth-around .result) ≡ H (state s) (s .args .x) (s .args .y)
@@ -95,18 +88,18 @@ depth-around-requires c κs =
     let b = below a in
     let p = a .before .pre .0 in (reads (p .depths) (b .ne), reads (p .depths) (b .nw), reads (p .depths) (b .se), reads (p .depths) (b .sw))
 
-rnd-requires : tie.Need-rnd-requires
-rnd-requires c κs =
-    let small : Abs (pos 262144 *ℤ c .before .absolute-vorticity .result) mostDividend = size scaled (z-size (c .before) ◂ ∎) tt in
+vorticity-of-requires : tie.Need-vorticity-of-requires
+vorticity-of-requires c κs =
+    let z = c .before in
     let d = divides c in
-    let most : Abs (held w64 (c .depth-around .result)) mostDivisor = size (var 0) (d .0 ◂ ∎) tt in
-    record { small = abs-as (scaled-is (c .before)) small .abs; some = d .1; most = most .abs }
+    (abs-as (held-is w64 (z .absolute-vorticity .ok) refl) (z-size z), d .0, d .1)
 
 returns : tie.Need-returns
 unfolding vorticityAt
 returns c =
     let d = c .before in
-    held-is w64 (c .rnd .ok) (c .rnd .ensures ∙ ap₂ rnd (scaled-is (d .before) ∙ ap (λ (z : ℤ). pos 262144 *ℤ z) (z-is (d .before))) (h-is d))
+    let z = d .before in
+    held-is w64 (c .vorticity-of .ok) (c .vorticity-of .ensures ∙ ap₂ (λ (z h : ℤ). rnd (pos 262144 *ℤ z) h) (held-is w64 (z .absolute-vorticity .ok) (z-is z)) (h-is d))
 
 pub vorticity-at-spec : {M : Type 1} → statement M
 vorticity-at-spec =
@@ -116,6 +109,5 @@ vorticity-at-spec =
     (λ c κs. search needs)
     absolute-vorticity-requires
     depth-around-requires
-    (λ c. fits scaled (z-size (c .before) ◂ ∎) tt)
-    rnd-requires
+    vorticity-of-requires
     returns)
