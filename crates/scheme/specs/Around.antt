@@ -1,18 +1,22 @@
 -- What is read around a cell is the model's. Assumes nothing.
-use mathlib.Core.Path.{_≡_, refl, sym, ap, _∙_}
+use mathlib.Core.Path.{_≡_, refl, sym, ap, subst, _∙_}
 use mathlib.Core.Bool.{Bool, true, false, cond}
 use mathlib.Core.List.{List}
 use Prim.Native.Nat.{ℕ, _<_}
 use lib.IntN.{ℤ, pos, _+ℤ_, _-ℤ_, _*ℤ_, +ℤ-assoc}
 use lib.ListN.{getD}
-use Rattle.model.specs.Numbers.{rnd}
+use lib.Signed.{_≤ℤ_}
+use Rattle.model.specs.Numbers.{rnd, depthLimits}
 use Rattle.model.specs.Grid.{onWall}
-use Rattle.model.specs.State.{State, walledWest, walledSouth, cornerColumns, cornerRows}
+use Rattle.model.specs.State.{State, walledWest, walledSouth, cornerColumns, cornerRows, FieldWithin}
 use Rattle.model.specs.Scheme.{cornerWeight, fluxU, fluxV, B, Z, H}
 use Rattle.model.specs.Step.{X, Y}
 use Rattle.grid.specs.Cells.{previous-next}
 use Rattle.grid.specs.Stencils.{IsAround}
-use Rattle.grid.specs.Corners.{Corner, onAWall, AreCells, AreCorners, neither, inner}
+use Rattle.integers.specs.Order.{≤-trans}
+use Rattle.integers.specs.Bounds.{Abs, abs-as}
+use Rattle.integers.specs.Magnitudes.{depths-size, depths-least}
+use Rattle.grid.specs.Corners.{Corner, onAWall, Below4, AreCells, AreCorners, neither, inner}
 use Rattle.grid.specs.declared.Stencil.{Stencil}
 use Rattle.grid.specs.declared.Four.{Four}
 use Rattle.scheme.specs.Shares.{fluxAt, squaresAt, geopotentialAt, weightedBy, weightsIn, fluxesIn}
@@ -26,6 +30,16 @@ use Rattle.scheme.specs.declared.Fluxes.{Fluxes}
 masked : (wall : Bool) (z : ℤ) {x y : ℤ} → (wall ≡ false → x ≡ y) → cond wall z x ≡ cond wall z y
 masked true z e = refl
 masked false z e = e refl
+
+-- the depth of four cells divides, and is small
+pub divides : {m : ℕ} {h : List ℤ} {a : Four} {z : ℤ} → FieldWithin depthLimits m h → Below4 m a
+    → z ≡ getD h (a .ne) (pos 0) +ℤ getD h (a .nw) (pos 0) +ℤ getD h (a .se) (pos 0) +ℤ getD h (a .sw) (pos 0)
+    → Abs z 400000 × (pos 1 ≤ℤ z)
+divides f b e =
+    let h = f .each in (
+      abs-as e (depths-size (h _ (b .ne)) (h _ (b .nw)) (h _ (b .se)) (h _ (b .sw))),
+      subst (λ (x : ℤ). pos 1 ≤ℤ x) (sym e) (≤-trans (record { le = tt }) (depths-least (h _ (b .ne)) (h _ (b .nw)) (h _ (b .se)) (h _ (b .sw)))),
+    )
 
 module _ (s : State) {x y : ℕ} {a : Four} (c : Corner (s .kind) (s .w) (s .n) x y) (r : AreCells (s .kind) (s .w) (s .n) x y a) where
   pub absolute-vorticity-around :

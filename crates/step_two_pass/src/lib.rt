@@ -147,8 +147,8 @@ fn second_pass(
     }
 }
 
-// The two passes, each with a potential vorticity of its own in q. All of pass 1 is tested before pass 2. It rules out, for instance: pass 1 returned; a place left by pass 2 told as one
-// of pass 1; a step that has left a bound and keeps what pass 1 made.
+// The two passes, each with a potential vorticity of its own in q. All of pass 1 is tested before pass 2. It rules out, for instance: pass 1
+// returned; a place left by pass 2 told as one of pass 1; a step that has left a bound and keeps what pass 1 made.
 pub fn two_pass(
     p: Parameters,
     h: &mut [i64],

@@ -12,12 +12,11 @@ use Rattle.model.specs.Numbers.{Within, coriolisLimits, rnd}
 use Rattle.model.specs.State.{State, stateOf}
 use Rattle.model.specs.Scheme.{Z, H, vorticityAt}
 use Rattle.integers.specs.Ring.{var}
-use Rattle.integers.specs.Order.{≤-trans}
 use Rattle.integers.specs.Bounds.{Abs, ∎, _◂_, abs-as, held, held-is, size}
 use Rattle.grid.specs.Corners.{Below4, cells-below}
 use Rattle.scheme.specs.Ready.{reads}
-use Rattle.scheme.specs.Around.{absolute-vorticity-around, depth-around}
-use Rattle.integers.specs.Magnitudes.{coriolis-size, absolute-vorticity-size, depths-size, depths-least}
+use Rattle.scheme.specs.Around.{divides, absolute-vorticity-around, depth-around}
+use Rattle.integers.specs.Magnitudes.{coriolis-size, absolute-vorticity-size}
 use Rattle.scheme.proofs.vorticity_at.Statement.{statement}
 use Rattle.scheme.proofs.vorticity_at.Tie as tie
 
@@ -65,15 +64,8 @@ h-is c =
     let s = a .before in
     held-is w64 (c .depth-around .ok) (c .depth-around .ensures ∙ depth-around (state s) (s .pre .1) (a .cells-around .ensures))
 
-divides : (c : tie.After-depth-around) → Abs (held w64 (c .depth-around .result)) 400000 × (pos 1 ≤ℤ held w64 (c .depth-around .result))
-divides c =
-    let a = c .before .before .before .before in
-    let b = below a in
-    let h = a .before .pre .0 .depths .each in
-    let e = held-is w64 (c .depth-around .ok) (c .depth-around .ensures) in (
-      abs-as e (depths-size (h _ (b .ne)) (h _ (b .nw)) (h _ (b .se)) (h _ (b .sw))),
-      subst (λ (x : ℤ). pos 1 ≤ℤ x) (sym e) (≤-trans (record { le = tt }) (depths-least (h _ (b .ne)) (h _ (b .nw)) (h _ (b .se)) (h _ (b .sw)))),
-    )
+divisor : (c : tie.After-depth-around) → Abs (held w64 (c .depth-around .result)) 400000 × (pos 1 ≤ℤ held w64 (c .depth-around .result))
+divisor c = let a = c .before .before .before .before in divides (a .before .pre .0 .depths) (below a) (held-is w64 (c .depth-around .ok) (c .depth-around .ensures))
 
 absolute-vorticity-requires : tie.Need-absolute-vorticity-requires
 absolute-vorticity-requires c κs =
@@ -91,7 +83,7 @@ depth-around-requires c κs =
 vorticity-of-requires : tie.Need-vorticity-of-requires
 vorticity-of-requires c κs =
     let z = c .before in
-    let d = divides c in
+    let d = divisor c in
     (abs-as (held-is w64 (z .absolute-vorticity .ok) refl) (z-size z), d .0, d .1)
 
 returns : tie.Need-returns

@@ -10,12 +10,11 @@ use Rattle.model.specs.Numbers.{rnd}
 use Rattle.model.specs.State.{State, stateOf}
 use Rattle.model.specs.Scheme.{Z, H, vorticityAt}
 use Rattle.integers.specs.Ring.{var}
-use Rattle.integers.specs.Order.{≤-trans}
 use Rattle.integers.specs.Bounds.{Abs, ∎, _◂_, abs-as, held, held-is, size}
-use Rattle.integers.specs.Magnitudes.{coriolis-size, depths-size, depths-least}
+use Rattle.integers.specs.Magnitudes.{coriolis-size}
 use Rattle.grid.specs.Corners.{Below4, cells-below}
 use Rattle.scheme.specs.Ready.{reads}
-use Rattle.scheme.specs.Around.{depth-around}
+use Rattle.scheme.specs.Around.{divides, depth-around}
 use Rattle.scheme.proofs.wall_vorticity_at.Statement.{statement}
 use Rattle.scheme.proofs.wall_vorticity_at.Tie as tie
 
@@ -40,15 +39,8 @@ h-is c u v =
     let s = a .before in
     held-is w64 (c .depth-around .ok) (c .depth-around .ensures ∙ depth-around (state s u v) (s .pre .0) (a .cells-around .ensures))
 
-divides : (c : tie.After-depth-around) → Abs (held w64 (c .depth-around .result)) 400000 × (pos 1 ≤ℤ held w64 (c .depth-around .result))
-divides c =
-    let a = c .before in
-    let b = below a in
-    let h = a .before .pre .3 .each in
-    let e = held-is w64 (c .depth-around .ok) (c .depth-around .ensures) in (
-      abs-as e (depths-size (h _ (b .ne)) (h _ (b .nw)) (h _ (b .se)) (h _ (b .sw))),
-      subst (λ (x : ℤ). pos 1 ≤ℤ x) (sym e) (≤-trans (record { le = tt }) (depths-least (h _ (b .ne)) (h _ (b .nw)) (h _ (b .se)) (h _ (b .sw)))),
-    )
+divisor : (c : tie.After-depth-around) → Abs (held w64 (c .depth-around .result)) 400000 × (pos 1 ≤ℤ held w64 (c .depth-around .result))
+divisor c = let a = c .before in divides (a .before .pre .3) (below a) (held-is w64 (c .depth-around .ok) (c .depth-around .ensures))
 
 depth-around-requires : tie.Need-depth-around-requires
 depth-around-requires c κs =
@@ -57,7 +49,7 @@ depth-around-requires c κs =
 
 vorticity-of-requires : tie.Need-vorticity-of-requires
 vorticity-of-requires c κs =
-    let d = divides (c .before) in
+    let d = divisor (c .before) in
     (abs-as (c-is c) (size (var 0) (coriolis-size (c .before .before .before .pre .2) ◂ ∎) tt), d .0, d .1)
 
 returns : tie.Need-returns
