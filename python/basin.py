@@ -62,7 +62,7 @@ _REFUSALS = {
     1: ((), 'unknown w, n or kind, or too long a run'),
     2: ((), 'a field of a wrong length, or too little work space'),
     3: ((), 'G, c or R outside its bounds'),
-    4: (('field', 'cell'), '{field} outside its bounds, cell {cell}'),
+    4: (('field', 'cell'), '{field} outside its bounds, {place} {cell}'),
     5: (('field', 'cell'), '{field} on a closed edge, cell {cell}'),
     6: (('pass_', 'field', 'cell'), 'pass {pass_} leaves the bounds of {field}, cell {cell}'),
     7: (('offset',), 'a damaged record, at byte {offset}'),
@@ -92,7 +92,7 @@ class Refused(Exception):
         names, words = _REFUSALS[number]
         for name, value in zip(names, values):
             setattr(self, name, _FIELDS[value] if name == 'field' else value)
-        self.cause = cause or words.format(**vars(self))
+        self.cause = cause or words.format(**vars(self), place='corner' if self.field == 'q' else 'cell')
 
     def __str__(self):
         of = '' if self.record is None else f'record {self.record}: '

@@ -199,7 +199,7 @@ class Refusals(Case):
         self.refused(4, lambda: example_4().step([0, 1001]), field='inflow', cell=1)
         self.refused(4, lambda: example_4().run(3, [0, 1001]), field='inflow', cell=1)
         refusal = self.refused(4, lambda: example_4().tendencies([2_000_001, 0]), field='q', cell=0)
-        self.assertEqual(str(refusal), 'refusal 4: q outside its bounds, cell 0')
+        self.assertEqual(str(refusal), 'refusal 4: q outside its bounds, corner 0')
         self.refused(4, lambda: example_4().probe(0, [0, -2_000_001]), field='q', cell=1)
         # of q the corner, here the last one of a dock of two cells
         self.refused(4, lambda: example_4(kind=basin.BASIN, u=[0, 10]).tendencies([0] * 5 + [2_000_001]), field='q', cell=5)

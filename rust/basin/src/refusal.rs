@@ -94,16 +94,29 @@ fields! {
     }
 }
 
+impl Field {
+    /// What the field has a number or a byte for, in words: of q a corner, of every
+    /// other field a cell.
+    pub fn place(self) -> &'static str {
+        match self {
+            Field::Vorticity => "corner",
+            _ => "cell",
+        }
+    }
+}
+
 // ---- refusals
 
 /// A line is a refusal's number, its name, the values that follow the number in
-/// an answer, in their order, and its cause in words, which may name them.
+/// an answer, in their order, and its cause in words, which may name them and one
+/// word more.
 macro_rules! refusals {
     (
         $(#[$attribute:meta])*
         $visibility:vis enum $Refusal:ident {
             $($(#[$doc:meta])*
-            $number:literal: $refusal:ident $({ $($value:ident: $kind:ty),* })? = $cause:literal,)*
+            $number:literal: $refusal:ident $({ $($value:ident: $kind:ty),* })?
+                = $cause:literal $(with $word:ident = $said:expr)?,)*
         }
     ) => {
         $(#[$attribute])*
@@ -127,7 +140,7 @@ macro_rules! refusals {
             /// The cause in words, without the number.
             pub fn cause(&self) -> String {
                 match self {
-                    $($Refusal::$refusal $({ $($value),* })? => format!($cause),)*
+                    $($Refusal::$refusal $({ $($value),* })? => format!($cause $(, $word = $said)?),)*
                 }
             }
 
@@ -186,7 +199,8 @@ refusals! {
         /// G, c or R outside its bounds.
         3: Constants = "G, c or R outside its bounds",
         /// a value outside its bounds. Of q, `cell` is the corner.
-        4: Value { field: Field, cell: usize } = "{field} outside its bounds, cell {cell}",
+        4: Value { field: Field, cell: usize }
+            = "{field} outside its bounds, {place} {cell}" with place = field.place(),
         /// a velocity on an edge that the boundary or a barrier closes.
         5: ClosedEdge { field: Field, cell: usize } = "{field} on a closed edge, cell {cell}",
         /// a pass of the step, 1 or 2, leaves the bounds of h, u or v.
@@ -294,6 +308,16 @@ mod tests {
                 cell: 4_095
             })
         );
+    }
+
+    #[test]
+    fn a_corner_is_not_called_a_cell() {
+        let told = |field| Refusal::from_told(4, &[field, 8]).unwrap_err().cause();
+        assert_eq!(
+            told(4),
+            "potential vorticity q outside its bounds, corner 8"
+        );
+        assert_eq!(told(5), "inflow s outside its bounds, cell 8");
     }
 
     #[test]
