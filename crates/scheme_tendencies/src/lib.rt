@@ -1,5 +1,6 @@
 // The calls that fill lent fields: potential vorticity, and tendencies. They go by rows and columns, without a division for an index,
-// and work each corner and each cell out once; the tendencies do the last cell of a row or column once more where the grid wraps through an open edge.
+// and work each corner and each cell out once; the tendencies do the last cell of a row or column once more where the grid wraps through
+// an open edge.
 ghost use mathlib.Core.Path.{_≡_};
 ghost use mathlib.Core.List.{[], _∷_};
 ghost use Prim.Native.Nat.{_+_, _*_, _<_, _≤_};
