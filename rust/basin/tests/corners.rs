@@ -189,6 +189,8 @@ fn a_depth_counts_at_its_own_corners_alone() {
 #[test]
 fn a_corner_counts_at_its_own_cells_alone() {
     let mut random = Random::new(131);
+    // Grids of each kind in which it counts.
+    let mut counted = [0; 3];
     for (size, kind) in every_grid() {
         let mut case = any(&mut random, size, kind);
         case.fields[Q].fill(0);
@@ -212,7 +214,9 @@ fn a_corner_counts_at_its_own_cells_alone() {
         for cell in differing(&after[2], &before[2]) {
             assert!(has(cell) || has(south(cell)), "{corner}, {cell}: {case:?}");
         }
+        counted[usize::from(kind)] += usize::from(after != before);
     }
+    assert!(counted.iter().all(|&grids| grids > 15), "{counted:?}");
 }
 
 #[test]
