@@ -1,5 +1,7 @@
 // What the C interface tells: 01's number of an answer and then the values with it, in eight places of which the others are 0. What has
 // a sign, and a double, goes into places of its own.
+#![tactic(auto)]
+
 ghost use Rattle.std.specs.Prelude.{◌≡◌, get_or};
 ghost use Rattle.model.specs.Fields.{field_number};
 ghost use Rattle.model.specs.Answers.{number, refusal_numbers, answer_numbers, step_numbers, run_numbers, write_numbers};

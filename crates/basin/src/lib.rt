@@ -2,6 +2,8 @@
 // told crosses as a pointer alone, to one number, three or eight, so that no call has too little room for it. Of the eight numbers of an
 // answer the first is the refusal's number, 0 for none, which is also returned; the values that belong to it follow, and 0 in the other
 // places. Any numbers and any lengths may come in.
+#![tactic(auto)]
+
 ghost use Rattle.std.specs.Prelude.{◌≡◌};
 ghost use Rattle.model.specs.State.{before, after, slices_before, slices_after};
 ghost use Rattle.model.specs.Promises.{TotalDepthPromise, TotalEnergyPromise};

@@ -1,4 +1,6 @@
 // Refusal 9: 1,000 milliseconds, in a record whose tag 8 stands first; its depth of 999 would be a 4, which comes later.
+#![tactic(auto)]
+
 fn main() {
     program::run();
 }

@@ -1,5 +1,7 @@
 // The grid as proved code: the boundary, barriers, neighbours, cells, and parts of a work space. In specs/ the shift law, sums over the
 // torus by computation, and the laws of loops that fill, scan, and write a part.
+#![tactic(auto)]
+
 ghost use Rattle.std.specs.Prelude.{◌≡◌, ℕ, ◌+◌, ◌*◌, ◌<◌, ◌≤◌, pos, length, get_or, replicate};
 ghost use Rattle.model.specs.Grid;
 ghost use Rattle.model.specs.State;
@@ -106,7 +108,7 @@ pub fn highest(bytes: &[u8]) -> u8
 }
 
 // An edge of a cell that has a velocity: u stands on the west edge, v on the south edge.
-#[derive(Drop)]
+#[derive(Clone, Copy)]
 pub enum Edge {
     West,
     South,
@@ -173,7 +175,7 @@ pub fn cell_index(w: usize, n: usize, i: usize, j: usize) -> usize
 }
 
 // The indices of a cell and of the cells around it, as far as the scheme reads them.
-#[derive(Drop)]
+#[derive(Clone, Copy)]
 pub struct Stencil {
     pub here: usize,
     pub east: usize,
@@ -276,7 +278,7 @@ pub fn is_on_wall(kind: u8, w: usize, n: usize, x: usize, y: usize) -> bool
 }
 
 // Four indices: of the cells around a corner, or of the corners of a cell.
-#[derive(Drop)]
+#[derive(Clone, Copy)]
 pub struct Four {
     pub ne: usize,
     pub nw: usize,

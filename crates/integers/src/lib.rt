@@ -1,5 +1,7 @@
 // Whole numbers: rounding as proved code; in specs/ the laws of ℤ that the kit lacks, polynomial identities by computation,
 // bounds by computation for what must fit 64 bits, and the laws of rounding.
+#![tactic(auto)]
+
 ghost use Rattle.std.specs.Prelude.{◌≡◌, ◌+◌, ◌*◌, ◌/◌, ◌≤◌, nat_abs};
 ghost use Prim.Native.Nat;
 ghost use Rattle.model.specs.Numbers;
@@ -41,7 +43,7 @@ pub fn rnd(a: i64, b: i64) -> i64
 }
 
 // The least and the greatest number allowed.
-#[derive(Drop)]
+#[derive(Clone, Copy)]
 pub struct Range {
     pub least: i64,
     pub most: i64,

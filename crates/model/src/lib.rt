@@ -1,8 +1,9 @@
 // The types of the public calls. What they mean is said in specs/: this crate holds all that a reader must believe.
+#![tactic(auto)]
 
 // What a state has beside its five fields: columns, rows, the boundary's byte, gravity (01: G), Coriolis parameter times
 // spacing (01: c), and spacing over time step (01: R). Taken at full width: any numbers may come in.
-#[derive(Drop)]
+#[derive(Clone, Copy)]
 pub struct Parameters {
     pub w: usize,
     pub n: usize,
@@ -14,7 +15,7 @@ pub struct Parameters {
 
 // When a record's state holds (01: stamp): whole seconds since 2000-01-01 00:00, and milliseconds (02: U1). Taken at full width: any
 // numbers may come in, and milliseconds above 999 are refused.
-#[derive(Drop)]
+#[derive(Clone, Copy)]
 pub struct Timestamp {
     pub seconds: u64,
     pub milliseconds: u64,
@@ -22,7 +23,7 @@ pub struct Timestamp {
 
 // The boundary (01: seam): doubly periodic (kind 0); a channel, walled along the south edges of row 0 (kind 1); a closed
 // basin, walled along the west edges of column 0 too (kind 2).
-#[derive(Drop)]
+#[derive(Clone, Copy)]
 pub enum Boundary {
     Periodic,
     Channel,
@@ -30,14 +31,14 @@ pub enum Boundary {
 }
 
 // What the boundary's byte stands for.
-#[derive(Drop)]
+#[derive(Clone, Copy)]
 pub enum BoundaryByte {
     Known(Boundary),
     Unknown,
 }
 
 // A field that a refusal names: h, b, u, v, q, the inflow s (01: river entry) and the barriers (02: piers).
-#[derive(Drop)]
+#[derive(Clone, Copy)]
 pub enum Field {
     Depth,
     Bottom,
@@ -49,7 +50,7 @@ pub enum Field {
 }
 
 // What the tests of a call find before anything is worked out: 01's refusals 1, 2, 3, 4, 5, 7 and 8, and 02's 9 and 10, listed by number.
-#[derive(Drop)]
+#[derive(Clone, Copy)]
 pub enum Refusal {
     Grid,
     Lengths,
@@ -63,7 +64,7 @@ pub enum Refusal {
 }
 
 // The answer of tests, and of a call that fills lent fields (potential vorticity, tendencies): accepted, or the first refusal.
-#[derive(Drop)]
+#[derive(Clone, Copy)]
 pub enum Answer {
     Accepted,
     Refused(Refusal),
@@ -71,7 +72,7 @@ pub enum Answer {
 
 // The answer of the probe of a cell (02, U3): -D, Tu and Tv as doubles, which are those numbers (exact) or are near them. In place of a
 // bare number, the refusal: 4 and 5 return a field and a cell with theirs.
-#[derive(Drop)]
+#[derive(Clone, Copy)]
 pub enum ProbeAnswer {
     Exact(f64, f64, f64),
     Near(f64, f64, f64),
@@ -79,7 +80,7 @@ pub enum ProbeAnswer {
 }
 
 // The answer of the probe of a grid, which fills lent fields with its doubles.
-#[derive(Drop)]
+#[derive(Clone, Copy)]
 pub enum ProbeGridAnswer {
     Exact,
     Near,
@@ -87,7 +88,7 @@ pub enum ProbeGridAnswer {
 }
 
 // The answer of the step: refusal 6 carries the pass, the field and the cell.
-#[derive(Drop)]
+#[derive(Clone, Copy)]
 pub enum StepAnswer {
     Done,
     Refused(Refusal),
@@ -95,7 +96,7 @@ pub enum StepAnswer {
 }
 
 // The answer of the run: the number of steps done, and beside it the refusal 6 where it stopped early.
-#[derive(Drop)]
+#[derive(Clone, Copy)]
 pub enum RunAnswer {
     Finished {
         steps: u64,
@@ -110,21 +111,21 @@ pub enum RunAnswer {
 }
 
 // The answer of total depth, and of four times total energy.
-#[derive(Drop)]
+#[derive(Clone, Copy)]
 pub enum TotalAnswer {
     Total(i64),
     Refused(Refusal),
 }
 
 // The answer of the record writer: the number of bytes written.
-#[derive(Drop)]
+#[derive(Clone, Copy)]
 pub enum WriteAnswer {
     Written(usize),
     Refused(Refusal),
 }
 
 // The answer of the record reader: the parameters, and the timestamp (01: stamp).
-#[derive(Drop)]
+#[derive(Clone, Copy)]
 pub enum ReadAnswer {
     Read {
         parameters: Parameters,
@@ -135,7 +136,7 @@ pub enum ReadAnswer {
 
 // The answer of the comparison (01: same, first newer, second newer, clash), or the refusal of the first or of the second
 // record.
-#[derive(Drop)]
+#[derive(Clone, Copy)]
 pub enum CompareAnswer {
     Same,
     FirstNewer,

@@ -1,5 +1,7 @@
 // The step program: a record read into lent arrays, one step, and what is printed of it; the program's own arrays; its input and
 // output.
+#![tactic(auto)]
+
 ghost use Rattle.std.specs.Prelude.{◌≡◌, [], ◌≤◌, length, take};
 ghost use Rattle.model.specs.State.{WithinLimits, state_of, lent, before, after, slices, slices_before, slices_after};
 ghost use Rattle.model.specs.Program.{state_lines, program_output, Printed, ProgramPromise};

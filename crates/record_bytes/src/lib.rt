@@ -1,5 +1,7 @@
 // Numbers as bytes, big-endian, negative ones in two's complement (01: Record): read from and written to slices of bytes, once for
 // every count of bytes. And the table of the record's tags, by which its writer, reader and comparison go.
+#![tactic(auto)]
+
 ghost use Rattle.std.specs.Prelude.{◌≡◌, ◌+◌, ◌*◌, ◌^◌, ◌≤◌, ◌<◌, length, get_or, take, drop};
 ghost use mir.Val.{to_z, of_z, SFits, hbits};
 ghost use Rattle.model.specs.Grid.{tabulate, filled};
@@ -60,7 +62,7 @@ pub fn put_unsigned(d: &mut [u8], k: usize, count: usize, x: u64) -> usize
 // ---- signed numbers
 
 // How many bytes a signed number takes in a record: two (u and v) or four (G, c, R, h and b).
-#[derive(Drop)]
+#[derive(Clone, Copy)]
 pub enum Size {
     Two,
     Four,
@@ -198,7 +200,7 @@ pub fn put_bytes(d: &mut [u8], k: usize, f: &[u8]) -> usize
 // ---- the table of tags
 
 // How many bytes the value of a tag has in a record: so many, or so many a cell.
-#[derive(Drop)]
+#[derive(Clone, Copy)]
 pub enum TagSize {
     Fixed(usize),
     PerCell(usize),

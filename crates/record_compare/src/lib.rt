@@ -1,4 +1,6 @@
 // Comparison of two records, in place: nothing is copied, and no destination is lent.
+#![tactic(auto)]
+
 ghost use Rattle.std.specs.Prelude.{◌≡◌, ◌≤◌, eqb, get_or};
 ghost use Rattle.model.specs.Numbers.{same_by};
 ghost use Rattle.model.specs.Grid.{tabulate};

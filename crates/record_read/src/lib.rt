@@ -1,4 +1,6 @@
 // The record reader: all tests of a record, and only then the five fields.
+#![tactic(auto)]
+
 ghost use Rattle.std.specs.Prelude.{◌≡◌};
 ghost use Rattle.model.specs.State.{cells, slices, slices_before, slices_after};
 ghost use Rattle.model.specs.Promises.{rooms_in, put, ReadPromise};

@@ -1,4 +1,6 @@
 // Test 7: a walk over the tags of a record (01: Record), which finds where the value of each tag stands.
+#![tactic(auto)]
+
 ghost use Rattle.std.specs.Prelude.{◌≡◌, List, ◌+◌, ◌≤◌, ◌<◌, length, replicate};
 ghost use Rattle.model.specs.Record;
 ghost use Rattle.model.specs.Record.{Part, size_at, part_at, right_size, tag_test, missing_test};

@@ -1,5 +1,7 @@
 // The tests of a record, 7, 1, 2, 8, 3, 9, 4, 5, on its bytes: no field is copied to test it, each number is decoded where it stands.
 // After 7 they are links of a chain, as in `tests`. Reader and comparison share them.
+#![tactic(auto)]
+
 ghost use Rattle.std.specs.Prelude.{◌≡◌, [], ◌∷◌, ◌*◌, ◌≤◌, length, replicate};
 ghost use Rattle.model.specs.Grid.{first_from};
 ghost use Rattle.model.specs.State.{parameters_of};

@@ -1,4 +1,6 @@
 // The record writer: tags 1 to 9 of a state and its timestamp, by rising tag, into a lent slice of bytes.
+#![tactic(auto)]
+
 ghost use Rattle.std.specs.Prelude.{◌≡◌, ◌∷◌, ◌+◌, ◌≤◌, ◌<◌, length};
 ghost use Rattle.model.specs.Grid.{filled};
 ghost use Rattle.model.specs.State.{lent, before};

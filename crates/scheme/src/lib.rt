@@ -5,6 +5,8 @@
 // give a share to each of its four edges, and whoever fills a field hands on those of the cell to the west and of the cell to the
 // south. A cell where a row or a column ends is worked out once more, for the cell where it begins, if the edge between them is open.
 // The functions here serve the calls of the crates above, and require what those have tested.
+#![tactic(auto)]
+
 ghost use Rattle.std.specs.Prelude.{◌≡◌, true, false, cond, List, [], ◌*◌, ◌≤◌, ◌<◌, eqb, ℤ, pos, neg_ℤ, ◌+ℤ◌, ◌-ℤ◌, ◌*ℤ◌, ◌≤ℤ◌, length, get_or};
 ghost use Rattle.model.specs.Numbers.{rnd, bernoulli_scale, tendency_scale, vorticity_scale, Within, gravity_limits, coriolis_limits, ratio_limits, depth_limits};
 ghost use Rattle.model.specs.Numbers.{bottom_limits, velocity_limits};
@@ -155,7 +157,7 @@ fn weight_at(row: usize, corner: usize) -> i64
 }
 
 // A potential vorticity at the corners of a cell.
-#[derive(Drop)]
+#[derive(Clone, Copy)]
 pub struct Corners {
     pub ne: i64,
     pub nw: i64,
@@ -196,7 +198,7 @@ pub fn weighted(row: usize, c: Corners) -> i64
 }
 
 // 01's P, M, E and F of a cell.
-#[derive(Drop)]
+#[derive(Clone, Copy)]
 pub struct Weights {
     pub p: i64,
     pub m: i64,
@@ -239,7 +241,7 @@ fn flux_at(x: &[i64], h: &[i64], k: usize, l: usize) -> i64
 }
 
 // The mass fluxes through the four edges of a cell: 01's U and V, here and at the next cell.
-#[derive(Drop)]
+#[derive(Clone, Copy)]
 pub struct Fluxes {
     pub west: i64,
     pub east: i64,
@@ -337,7 +339,7 @@ fn north_share(w: Weights, f: Fluxes, head: i64) -> i64
 }
 
 // A cell's depth tendency (01: -D), and its shares.
-#[derive(Drop)]
+#[derive(Clone, Copy)]
 pub struct Shares {
     pub depth: i64,
     pub west: i64,
@@ -401,7 +403,7 @@ fn other_share(side: usize, own: i64, handed: i64) -> i64
 
 // The tendencies that a cell holds: of its depth (01: -D), at its west edge (Tu) and at its south edge (Tv). And what it hands on: its
 // shares for the cell to the east and for the cell to the north.
-#[derive(Drop)]
+#[derive(Clone, Copy)]
 pub struct CellTendencies {
     pub depth: i64,
     pub u: i64,
@@ -526,7 +528,7 @@ fn flow_at(r: i64, x: &[i64], h: &[i64], k: usize, l: usize) -> i64
 }
 
 // The flows through a cell's west and south edge: 01's X and Y.
-#[derive(Drop)]
+#[derive(Clone, Copy)]
 pub struct CellFlows {
     pub x: i64,
     pub y: i64,

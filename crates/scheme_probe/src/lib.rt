@@ -2,6 +2,8 @@
 //
 // Each operation is rounded once, in the order of 01's formulas: products first, sums from left to right. So nothing here goes by shares,
 // as the whole numbers of `scheme` do: shares are another grouping, and would give other doubles.
+#![tactic(auto)]
+
 ghost use Rattle.std.specs.Prelude.{◌≡◌, cond, List, ◌*◌, ◌<◌, ℤ, pos, length, get_or};
 ghost use Rattle.model.specs.Numbers.{Within, gravity_limits};
 ghost use Rattle.model.specs.Grid.{filled};
@@ -31,7 +33,7 @@ fn double_at(f: &[i64], k: usize) -> f64
 }
 
 // A potential vorticity at the corners of a cell.
-#[derive(Drop)]
+#[derive(Clone, Copy)]
 pub struct Corners {
     pub ne: f64,
     pub nw: f64,
@@ -56,7 +58,7 @@ fn corners_at(q: &[i64], k: Four) -> Corners
 }
 
 // 01's P, M, E and F of a cell.
-#[derive(Drop)]
+#[derive(Clone, Copy)]
 pub struct Weights {
     pub p: f64,
     pub m: f64,
@@ -116,7 +118,7 @@ fn bernoulli_at(g: i64, h: &[i64], b: &[i64], u: &[i64], v: &[i64], a: Stencil) 
 }
 
 // What a cell has in the tendencies of its edges: 01's P, M, E and F, its mass fluxes through its four edges, and B.
-#[derive(Drop)]
+#[derive(Clone, Copy)]
 pub struct Cell {
     pub p: f64,
     pub m: f64,
@@ -160,7 +162,7 @@ fn cell_at(
 
 // What a cell has in Tv at its north edge: its products with P, M and F, and B. A product rounds once, so that it is the same double
 // wherever it is worked out.
-#[derive(Drop)]
+#[derive(Clone, Copy)]
 pub struct Given {
     pub p: f64,
     pub m: f64,
@@ -214,7 +216,7 @@ fn edge_tendency(closed: bool, t: f64) -> f64
 }
 
 // A cell's three doubles.
-#[derive(Drop)]
+#[derive(Clone, Copy)]
 pub struct Doubles {
     pub h: f64,
     pub u: f64,

@@ -1,6 +1,8 @@
 // The calls that fill lent fields: potential vorticity, and tendencies. They go by rows and columns, without a division for an index,
 // and work each corner and each cell out once; the tendencies do the last cell of a row or column once more where the grid wraps through
 // an open edge.
+#![tactic(auto)]
+
 ghost use Rattle.std.specs.Prelude.{◌≡◌, [], ◌∷◌, ◌+◌, ◌*◌, ◌<◌, ◌≤◌, neg_ℤ, length};
 ghost use Rattle.model.specs.Grid.{filled};
 ghost use Rattle.model.specs.State.{cells, state_of, lent, before};

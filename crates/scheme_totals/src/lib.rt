@@ -1,5 +1,7 @@
 // The calls that answer with one number: total depth, and four times total energy. Both go through the cells once, and their sums
 // fit 64 bits, since a state that passes the tests has 4,096 cells at most.
+#![tactic(auto)]
+
 ghost use Rattle.std.specs.Prelude.{◌≡◌, [], ◌<◌, ◌≤◌, length};
 ghost use Rattle.model.specs.Numbers.{Within, total, gravity_limits, depth_limits, bottom_limits, velocity_limits};
 ghost use Rattle.model.specs.State.{FieldWithin, state_of, before};

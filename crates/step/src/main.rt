@@ -1,5 +1,7 @@
 // The step program (worked example 10 of 01): a record on standard input, one step without inflow, and what is left on standard
 // output.
+#![tactic(auto)]
+
 fn main() {
     program::run();
 }

@@ -1,6 +1,8 @@
 // A pass of the two-pass step: from a base state, with the tendencies of a given state. The given state is lent; the base and the
 // result are banks of the work space, of w·n numbers each. Its potential vorticity, a number a corner, stands in a slice of its own: in a thin
 // basin there are more corners than places free in the work space.
+#![tactic(auto)]
+
 ghost use Rattle.std.specs.Prelude.{◌≡◌, [], ◌+◌, ◌*◌, ◌<◌, ◌≤◌, length};
 ghost use Rattle.model.specs.Grid.{by_cell};
 ghost use Rattle.model.specs.State.{state_of, lent, before};

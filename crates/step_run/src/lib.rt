@@ -1,4 +1,6 @@
 // The run and the step, which is a run of one: the tests, two passes a step, and the work space cleared.
+#![tactic(auto)]
+
 ghost use Rattle.std.specs.Prelude.{◌≡◌, false, List, ℕ, ◌*◌, ◌≤◌, ℤ, pos, length, replicate};
 ghost use Rattle.std.proofs.Math.Option.{some};
 ghost use Rattle.model.specs.Grid.{filled};

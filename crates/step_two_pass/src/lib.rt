@@ -1,6 +1,8 @@
 // A step of a state that passed its tests: two passes, and the scan of each for refusal 6. The base is kept in the work space. The lent
 // state is the given state of pass 1, takes pass 1's result for pass 2, and in the end has pass 2's result, or the base again where that
 // leaves a bound.
+#![tactic(auto)]
+
 ghost use Rattle.std.specs.Prelude.{◌≡◌, List, [], ◌∷◌, ℕ, ◌+◌, ◌*◌, ◌≤◌, ℤ, length};
 ghost use Rattle.model.specs.State.{Side, lent, before, after};
 ghost use Rattle.model.specs.Step.{leaves, two_pass, second};
@@ -15,7 +17,7 @@ use tests::Found;
 // ---- refusal 6
 
 // What a scan of a pass's result finds: each number keeps its bounds, or one is outside.
-#[derive(Drop)]
+#[derive(Clone, Copy)]
 pub enum Bounds {
     Kept,
     Outside { field: Field, cell: usize },
@@ -90,7 +92,7 @@ fn take_state(work: &[i64], a: usize, m: usize, h: &mut [i64], u: &mut [i64], v:
 // ---- a step of a state that passed the tests
 
 // What a step comes to: the state lent is the next one, or the one before, with the pass and the place at which it left a bound.
-#[derive(Drop)]
+#[derive(Clone, Copy)]
 pub enum Outcome {
     Moved,
     Stuck { pass: u8, field: Field, cell: usize },

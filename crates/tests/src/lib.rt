@@ -1,5 +1,7 @@
 // 01's refusals 1 to 5 and 8, and 02's 9 and 10, as links of a chain. A link takes what the tests before it answered, and answers that, or else
 // what its own test finds: after a refusal it does nothing. A call writes its tests as a chain, in the order of its list in the model.
+#![tactic(auto)]
+
 ghost use Rattle.std.specs.Prelude.{◌≡◌, ◌&&◌, List, [], ◌∷◌, map, ◌*◌, ◌≤◌, T, leb, ℤ, pos, length};
 ghost use Rattle.model.specs.Numbers.{longest_side};
 ghost use Rattle.model.specs.Grid.{first_from};
@@ -24,7 +26,7 @@ use model::{Answer, Field, Parameters, Refusal, Timestamp};
 // ---- the fields
 
 // What a field has beside its numbers: the number that names it in an answer, 01's bounds, and 02's narrow ones.
-#[derive(Drop)]
+#[derive(Clone, Copy)]
 pub struct FieldRow {
     pub number: u64,
     pub limits: Range,
@@ -84,7 +86,7 @@ pub fn narrow_limits(field: Field) -> Range
 // ---- scans
 
 // What a scan finds.
-#[derive(Drop)]
+#[derive(Clone, Copy)]
 pub enum Found {
     At(usize),
     Nowhere,

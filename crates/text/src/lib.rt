@@ -1,4 +1,6 @@
 // Text into a lent slice of bytes: a function puts its text at a place, as far as there is room, and answers the place after it.
+#![tactic(auto)]
+
 ghost use Rattle.std.specs.Prelude.{◌≡◌, [], ◌∷◌, ◌++◌, ◌<◌, ◌≤◌, length};
 ghost use Rattle.model.specs.Grid.{tabulate};
 ghost use Rattle.model.specs.Program.{decimal, line, lines, cell_line, refused_line, total_line, Printed};

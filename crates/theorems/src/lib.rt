@@ -1,1 +1,3 @@
 // The theorems of the model, proved: specs/Theorems.antt lists them all. No function.
+#![tactic(auto)]
+
