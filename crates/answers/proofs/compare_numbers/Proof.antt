@@ -3,8 +3,8 @@ use borrow.Author.Rules.{rules}
 use Rattle.answers.proofs.compare_numbers.Statement.{statement}
 use Rattle.answers.proofs.compare_numbers.Tie as tie
 
-pub compare-numbers-spec : {M : Type 1} → statement M
-compare-numbers-spec =
+pub compare_numbers_spec : {M : Type 1} → statement M
+compare_numbers_spec =
     tie.close
     (tie.spec
     (λ c. search rules)
@@ -16,8 +16,8 @@ compare-numbers-spec =
     (λ c. search rules)
     (λ c κs. search rules)
     (λ c. rw c.enum_told.given.1)
-    (λ c. rw c.enum-told2.given.1)
-    (λ c. rw c.enum-told3.given.1)
-    (λ c. rw c.enum-told4.given.1)
-    (λ c. rw c.before.before.comparison.given.1 c.refusal-numbers-of.ensures)
-    (λ c. rw c.before.before.comparison2.given.1 c.refusal-numbers-of2.ensures))
+    (λ c. rw c.enum_told2.given.1)
+    (λ c. rw c.enum_told3.given.1)
+    (λ c. rw c.enum_told4.given.1)
+    (λ c. rw c.before.before.comparison.given.1 c.refusal_numbers_of.ensures)
+    (λ c. rw c.before.before.comparison2.given.1 c.refusal_numbers_of2.ensures))

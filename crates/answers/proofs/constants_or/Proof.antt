@@ -16,5 +16,5 @@ returns c =
     let r = to_z-of_z {w = w64} {z = p.r} (record { sfits = fits.1.1.0.1 }) in
     rw (x.1, g, k, r)
 
-pub constants-or-spec : {M : Type 1} → statement M
-constants-or-spec = tie.close (tie.spec (λ c. search rules) (λ c. search rules) returns (λ c. search rules))
+pub constants_or_spec : {M : Type 1} → statement M
+constants_or_spec = tie.close (tie.spec (λ c. search rules) (λ c. search rules) returns (λ c. search rules))

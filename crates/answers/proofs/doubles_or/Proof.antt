@@ -3,8 +3,8 @@ use borrow.Author.Rules.{rules}
 use Rattle.answers.proofs.doubles_or.Statement.{statement}
 use Rattle.answers.proofs.doubles_or.Tie as tie
 
-pub doubles-or-spec : {M : Type 1} → statement M
-doubles-or-spec =
+pub doubles_or_spec : {M : Type 1} → statement M
+doubles_or_spec =
     tie.close
     (tie.spec
     (λ c. search rules)

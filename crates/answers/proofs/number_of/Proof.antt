@@ -8,11 +8,11 @@ use borrow.Author.Rules.{rules}
 use Rattle.answers.proofs.number_of.Statement.{statement}
 use Rattle.answers.proofs.number_of.Tie as tie
 
-pub number-of-spec : {M : Type 1} → statement M
-number-of-spec =
+pub number_of_spec : {M : Type 1} → statement M
+number_of_spec =
     tie.close
     (tie.spec
     (λ c κs. search rules)
     (λ c. search rules)
-    (λ c. record { fits = small c.before.args.refusal _ c.refusal-numbers.ensures })
-    (λ c. ap (λ l. get_or l 0 0) c.refusal-numbers.ensures ∙ first_of (refusal_numbers c.before.args.refusal)))
+    (λ c. record { fits = small c.before.args.refusal _ c.refusal_numbers.ensures })
+    (λ c. ap (λ l. get_or l 0 0) c.refusal_numbers.ensures ∙ first_of (refusal_numbers c.before.args.refusal)))

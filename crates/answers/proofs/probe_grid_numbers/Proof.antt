@@ -3,8 +3,8 @@ use borrow.Author.Rules.{rules}
 use Rattle.answers.proofs.probe_grid_numbers.Statement.{statement}
 use Rattle.answers.proofs.probe_grid_numbers.Tie as tie
 
-pub probe-grid-numbers-spec : {M : Type 1} → statement M
-probe-grid-numbers-spec =
+pub probe_grid_numbers_spec : {M : Type 1} → statement M
+probe_grid_numbers_spec =
     tie.close
     (tie.spec
     (λ c. search rules)
@@ -12,5 +12,5 @@ probe-grid-numbers-spec =
     (λ c. search rules)
     (λ c κs. search rules)
     (λ c. rw c.enum_told.given.1)
-    (λ c. rw c.enum-told2.given.1)
-    (λ c. rw c.before.before.probe.given.1 c.refusal-numbers.ensures))
+    (λ c. rw c.enum_told2.given.1)
+    (λ c. rw c.before.before.probe.given.1 c.refusal_numbers.ensures))

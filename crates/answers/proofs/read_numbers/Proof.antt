@@ -3,8 +3,8 @@ use borrow.Author.Rules.{rules}
 use Rattle.answers.proofs.read_numbers.Statement.{statement}
 use Rattle.answers.proofs.read_numbers.Tie as tie
 
-pub read-numbers-spec : {M : Type 1} → statement M
-read-numbers-spec =
+pub read_numbers_spec : {M : Type 1} → statement M
+read_numbers_spec =
     tie.close
     (tie.spec
     (λ c. search rules)
@@ -12,4 +12,4 @@ read-numbers-spec =
     (λ c. search rules)
     (λ c κs. search rules)
     (λ c. rw c.before.before.x.given.1)
-    (λ c. rw c.before.before.x2.given.1 c.refusal-numbers.ensures))
+    (λ c. rw c.before.before.x2.given.1 c.refusal_numbers.ensures))

@@ -4,8 +4,8 @@ use borrow.Author.Rules.{rules}
 use Rattle.answers.proofs.refusal_numbers_of.Statement.{statement}
 use Rattle.answers.proofs.refusal_numbers_of.Tie as tie
 
-pub refusal-numbers-of-spec : {M : Type 1} → statement M
-refusal-numbers-of-spec =
+pub refusal_numbers_of_spec : {M : Type 1} → statement M
+refusal_numbers_of_spec =
     tie.close
     (tie.spec
     (λ c κs. search rules)
@@ -13,4 +13,4 @@ refusal-numbers-of-spec =
     (λ c. search rules)
     (λ c. search rules)
     (λ c. search rules)
-    (λ c. of-record c.before.args.which c.before.args.refusal _ c.refusal-numbers.ensures))
+    (λ c. of-record c.before.args.which c.before.args.refusal _ c.refusal_numbers.ensures))

@@ -3,8 +3,8 @@ use borrow.Author.Rules.{rules}
 use Rattle.answers.proofs.run_numbers.Statement.{statement}
 use Rattle.answers.proofs.run_numbers.Tie as tie
 
-pub run-numbers-spec : {M : Type 1} → statement M
-run-numbers-spec =
+pub run_numbers_spec : {M : Type 1} → statement M
+run_numbers_spec =
     tie.close
     (tie.spec
     (λ c. search rules)
@@ -14,5 +14,5 @@ run-numbers-spec =
     (λ c. search rules)
     (λ c κs. search rules)
     (λ c. rw c.before.run.given.1)
-    (λ c. rw c.before.before.run2.given.1 c.refusal-numbers.ensures)
-    (λ c. rw (c.before.before.run3.given.1, c.field-number.ensures)))
+    (λ c. rw c.before.before.run2.given.1 c.refusal_numbers.ensures)
+    (λ c. rw (c.before.before.run3.given.1, c.field_number.ensures)))

@@ -3,8 +3,8 @@ use borrow.Author.Rules.{rules}
 use Rattle.answers.proofs.step_numbers.Statement.{statement}
 use Rattle.answers.proofs.step_numbers.Tie as tie
 
-pub step-numbers-spec : {M : Type 1} → statement M
-step-numbers-spec =
+pub step_numbers_spec : {M : Type 1} → statement M
+step_numbers_spec =
     tie.close
     (tie.spec
     (λ c. search rules)
@@ -14,5 +14,5 @@ step-numbers-spec =
     (λ c. search rules)
     (λ c κs. search rules)
     (λ c. rw c.enum_told.given.1)
-    (λ c. rw c.before.before.step.given.1 c.refusal-numbers.ensures)
-    (λ c. rw (c.before.before.step2.given.1, c.field-number.ensures)))
+    (λ c. rw c.before.before.step.given.1 c.refusal_numbers.ensures)
+    (λ c. rw (c.before.before.step2.given.1, c.field_number.ensures)))

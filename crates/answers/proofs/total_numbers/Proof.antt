@@ -3,12 +3,12 @@ use borrow.Author.Rules.{rules}
 use Rattle.answers.proofs.total_numbers.Statement.{statement}
 use Rattle.answers.proofs.total_numbers.Tie as tie
 
-pub total-numbers-spec : {M : Type 1} → statement M
-total-numbers-spec =
+pub total_numbers_spec : {M : Type 1} → statement M
+total_numbers_spec =
     tie.close
     (tie.spec
     (λ c. search rules)
     (λ c. search rules)
     (λ c κs. search rules)
     (λ c. rw c.enum_told.given.1)
-    (λ c. rw c.before.before.x.given.1 c.refusal-numbers.ensures))
+    (λ c. rw c.before.before.x.given.1 c.refusal_numbers.ensures))

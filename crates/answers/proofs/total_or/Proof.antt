@@ -5,11 +5,11 @@ use borrow.Author.Rules.{rules}
 use Rattle.answers.proofs.total_or.Statement.{statement}
 use Rattle.answers.proofs.total_or.Tie as tie
 
-pub total-or-spec : {M : Type 1} → statement M
-total-or-spec =
+pub total_or_spec : {M : Type 1} → statement M
+total_or_spec =
     tie.close
     (tie.spec
     (λ c. search rules)
     (λ c. search rules)
-    (λ c. let x = c.before.x.given in rw x.1 (to_z-of_z {w = w64} {z = x.0.0} (record { sfits = c.known-told.given.0.1 })))
+    (λ c. let x = c.before.x.given in rw x.1 (to_z-of_z {w = w64} {z = x.0.0} (record { sfits = c.known_told.given.0.1 })))
     (λ c. rw c.enum_told.given.1 (to_z-of_z c.before.before.ranges.kept)))

@@ -3,12 +3,12 @@ use borrow.Author.Rules.{rules}
 use Rattle.answers.proofs.write_numbers.Statement.{statement}
 use Rattle.answers.proofs.write_numbers.Tie as tie
 
-pub write-numbers-spec : {M : Type 1} → statement M
-write-numbers-spec =
+pub write_numbers_spec : {M : Type 1} → statement M
+write_numbers_spec =
     tie.close
     (tie.spec
     (λ c. search rules)
     (λ c. search rules)
     (λ c κs. search rules)
     (λ c. rw c.before.write.given.1)
-    (λ c. rw c.before.before.write2.given.1 c.refusal-numbers.ensures))
+    (λ c. rw c.before.before.write2.given.1 c.refusal_numbers.ensures))

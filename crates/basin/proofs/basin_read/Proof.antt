@@ -9,10 +9,10 @@ returns c =
     let n = c.before in
     let o = n.before.before in
     let k = o.before.before.before.before.before.before.before.before in
-    record { answer = k.read.result; promise = k.read.ensures; holds = o.constants-or.ensures; told = told-by n.read-numbers.ensures c.tell.ensures }
+    record { answer = k.read.result; promise = k.read.ensures; holds = o.constants_or.ensures; told = told-by n.read_numbers.ensures c.tell.ensures }
 
-pub basin-read-spec : {M : Type 1} → statement M
-basin-read-spec =
+pub basin_read_spec : {M : Type 1} → statement M
+basin_read_spec =
     tie.close
     (tie.spec
     (λ c κs. search rules)

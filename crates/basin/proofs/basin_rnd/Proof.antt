@@ -24,8 +24,8 @@ taken a b t =
     let w = (within-iff e b).0 p.1 in
     record { small = (abs-within ((within-iff d a).0 p.0) tt).abs; some = w.low; most = (abs-within w tt).abs }
 
-answered : (c : tie.After-is-roundable) → c.is-roundable.result ≡ roundable c.before.args.a c.before.args.b
-answered c = c.is-roundable.ensures ∙ rw (to_z-of_z c.before.ranges.a, to_z-of_z c.before.ranges.b)
+answered : (c : tie.After-is_roundable) → c.is_roundable.result ≡ roundable c.before.args.a c.before.args.b
+answered c = c.is_roundable.ensures ∙ rw (to_z-of_z c.before.ranges.a, to_z-of_z c.before.ranges.b)
 
 told : (c : tie.Else1) → roundable c.before.before.args.a c.before.before.args.b ≡ true
 told c = sym (answered c.before) ∙ not-false _ c.if1.false
@@ -48,8 +48,8 @@ returns-2 c =
     let t = told c.before in
     record {
       returns = sym (ap (λ t. cond t 0 4) t);
-      holds = held-is w64 c.rnd.type-inv c.rnd.ensures ∙ (rw (to_z-of_z s.ranges.a, to_z-of_z s.ranges.b)) ∙ sym (ap (λ t. cond t (rnd a.a a.b) a.rounded.now) t);
+      holds = held-is w64 c.rnd.type_inv c.rnd.ensures ∙ (rw (to_z-of_z s.ranges.a, to_z-of_z s.ranges.b)) ∙ sym (ap (λ t. cond t (rnd a.a a.b) a.rounded.now) t);
     }
 
-pub basin-rnd-spec : {M : Type 1} → statement M
-basin-rnd-spec = tie.close (tie.spec (λ c κs. search rules) returns rnd-requires returns-2)
+pub basin_rnd_spec : {M : Type 1} → statement M
+basin_rnd_spec = tie.close (tie.spec (λ c κs. search rules) returns rnd-requires returns-2)

@@ -14,10 +14,10 @@ returns c =
     let given = m.before.before.ranges in
     let f = made m.parameters.ensures (to_z-of_z given.g) (to_z-of_z given.c) (to_z-of_z given.r) in
     let a = m.before.before.args in
-    record { answer = k.run.result; promise = run_of f a.h.now a.b.now a.u.now a.v.now a.barriers.now k.run.ensures; told = told-by n.run-numbers.ensures c.tell.ensures }
+    record { answer = k.run.result; promise = run_of f a.h.now a.b.now a.u.now a.v.now a.barriers.now k.run.ensures; told = told-by n.run_numbers.ensures c.tell.ensures }
 
-pub basin-run-spec : {M : Type 1} → statement M
-basin-run-spec =
+pub basin_run_spec : {M : Type 1} → statement M
+basin_run_spec =
     tie.close
     (tie.spec
     (λ c κs. search rules)

@@ -20,16 +20,16 @@ returns c =
     let given = m.before.before.ranges in
     let f = made m.parameters.ensures (to_z-of_z given.g) (to_z-of_z given.c) (to_z-of_z given.r) in
     let a = m.before.before.args in
-    let x = k.total-energy.result in
+    let x = k.total_energy.result in
     record {
       answer = x;
-      promise = energy-of f a.h.now a.b.now a.u.now a.v.now a.barriers.now k.total-energy.ensures;
-      holds = held-is w64 o.total-or.type-inv o.total-or.ensures ∙ ap (λ z. get_or (total_in x) 0 z) (to_z-of_z {w = w64} {z = a.total.now} (record { sfits = o.before.total-or-arg.given }));
-      told = told-by n.total-numbers.ensures c.tell.ensures;
+      promise = energy-of f a.h.now a.b.now a.u.now a.v.now a.barriers.now k.total_energy.ensures;
+      holds = held-is w64 o.total_or.type_inv o.total_or.ensures ∙ ap (λ z. get_or (total_in x) 0 z) (to_z-of_z {w = w64} {z = a.total.now} (record { sfits = o.before.total_or-arg.given }));
+      told = told-by n.total_numbers.ensures c.tell.ensures;
     }
 
-pub basin-total-energy-spec : {M : Type 1} → statement M
-basin-total-energy-spec =
+pub basin_total_energy_spec : {M : Type 1} → statement M
+basin_total_energy_spec =
     tie.close
     (tie.spec
     (λ c κs. search rules)

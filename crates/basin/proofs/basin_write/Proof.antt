@@ -15,7 +15,7 @@ returns c =
     let given = m.before.before.before.ranges in
     let f = made m.parameters.ensures (to_z-of_z given.g) (to_z-of_z given.c) (to_z-of_z given.r) in
     let a = m.before.before.before.args in
-    record { answer = k.write.result; promise = write-of f a.h.now a.b.now a.u.now a.v.now a.barriers.now (timestamp a.seconds a.milliseconds) k.write.ensures; told = told-by n.write-numbers.ensures c.tell.ensures }
+    record { answer = k.write.result; promise = write-of f a.h.now a.b.now a.u.now a.v.now a.barriers.now (timestamp a.seconds a.milliseconds) k.write.ensures; told = told-by n.write_numbers.ensures c.tell.ensures }
 
-pub basin-write-spec : {M : Type 1} → statement M
-basin-write-spec = tie.close (tie.spec (λ c κs. search rules) (λ c κs. search rules) (λ c κs. search rules) (λ c κs. search rules) (λ c. search rules) returns)
+pub basin_write_spec : {M : Type 1} → statement M
+basin_write_spec = tie.close (tie.spec (λ c κs. search rules) (λ c κs. search rules) (λ c κs. search rules) (λ c κs. search rules) (λ c. search rules) returns)

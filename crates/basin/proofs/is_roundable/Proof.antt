@@ -16,5 +16,5 @@ returns c =
 returns-2 : tie.Need-returns-2
 returns-2 c = and-fails _ (c.before.within.ensures ∙ ap (within _) (to_z-of_z c.before.before.ranges.a)) c.if1.false
 
-pub is-roundable-spec : {M : Type 1} → statement M
-is-roundable-spec = tie.close (tie.spec (λ c κs. search rules) (λ c κs. search rules) returns returns-2)
+pub is_roundable_spec : {M : Type 1} → statement M
+is_roundable_spec = tie.close (tie.spec (λ c κs. search rules) (λ c κs. search rules) returns returns-2)

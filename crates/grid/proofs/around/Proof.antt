@@ -19,17 +19,17 @@ returns c =
     let z = south.previous2.ensures.0 in
     let t = west.previous.ensures.0 in
     record {
-      here = c1.cell-index.ensures.0;
-      east = c.before.before.before.before.before.cell-index2.ensures.0 ∙ ap (λ (k : ℕ). a.j * a.w + k) x;
-      west = c.before.before.before.before.cell-index3.ensures.0 ∙ ap (λ (k : ℕ). a.j * a.w + k) t;
-      north = c.before.before.before.cell-index4.ensures.0 ∙ ap (λ (k : ℕ). k * a.w + a.i) y;
-      south = c.before.before.cell-index5.ensures.0 ∙ ap (λ (k : ℕ). k * a.w + a.i) z;
-      northeast = c.before.cell-index6.ensures.0 ∙ ap₂ (λ (k l : ℕ). k * a.w + l) y x;
-      southwest = c.cell-index7.ensures.0 ∙ ap₂ (λ (k l : ℕ). k * a.w + l) z t;
+      here = c1.cell_index.ensures.0;
+      east = c.before.before.before.before.before.cell_index2.ensures.0 ∙ ap (λ (k : ℕ). a.j * a.w + k) x;
+      west = c.before.before.before.before.cell_index3.ensures.0 ∙ ap (λ (k : ℕ). a.j * a.w + k) t;
+      north = c.before.before.before.cell_index4.ensures.0 ∙ ap (λ (k : ℕ). k * a.w + a.i) y;
+      south = c.before.before.cell_index5.ensures.0 ∙ ap (λ (k : ℕ). k * a.w + a.i) z;
+      northeast = c.before.cell_index6.ensures.0 ∙ ap₂ (λ (k l : ℕ). k * a.w + l) y x;
+      southwest = c.cell_index7.ensures.0 ∙ ap₂ (λ (k l : ℕ). k * a.w + l) z t;
     }
 
-pub around-spec : {M : Type 1} → statement M
-around-spec =
+pub around_spec : {M : Type 1} → statement M
+around_spec =
     tie.close
     (tie.spec
     (λ c κs. search rules)

@@ -8,5 +8,5 @@ use Rattle.grid.proofs.barrier_at.Tie as tie
 past : tie.Need-returns-2
 past c = sym (get_or-eq_default c.before.args.barriers.now 0 c.if1.false)
 
-pub barrier-at-spec : {M : Type 1} → statement M
-barrier-at-spec = tie.close (tie.spec (λ c. search rules) (λ c. search rules) past)
+pub barrier_at_spec : {M : Type 1} → statement M
+barrier_at_spec = tie.close (tie.spec (λ c. search rules) (λ c. search rules) past)

@@ -20,5 +20,5 @@ returns-4 : tie.Need-returns-4
 unfolding boundary_of
 returns-4 c = let r = c.match.rest in rw (ne_eqb _ _ r.0.0.1, ne_eqb _ _ r.0.1, ne_eqb _ _ r.1)
 
-pub boundary-of-spec : {M : Type 1} → statement M
-boundary-of-spec = tie.close (tie.spec returns returns-2 returns-3 returns-4)
+pub boundary_of_spec : {M : Type 1} → statement M
+boundary_of_spec = tie.close (tie.spec returns returns-2 returns-3 returns-4)

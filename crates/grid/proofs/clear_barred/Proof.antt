@@ -27,7 +27,7 @@ start c = c.before.before.before.before.before
 inside : (c : tie.In-loop invariant-loop decreases-loop) → (start c).args.at + c.before.loop.k < length c.before.loop.f
 inside c = omega (arith, (start c).requires, c.before.loop.invariant.long, c.loop-test.true)
 
-abbrev turn : tie.After-is-barred invariant-loop decreases-loop → tie.In-loop invariant-loop decreases-loop
+abbrev turn : tie.After-is_barred invariant-loop decreases-loop → tie.In-loop invariant-loop decreases-loop
 turn c = c.before.before
 
 loop-again : tie.Need-loop-preserved invariant-loop decreases-loop
@@ -38,12 +38,12 @@ loop-again c =
     let s = start t in
     let Next = Clearing s.args.edge s.args.barriers.now s.args.at s.args.f.now (t.before.loop.k + 1) in
     ⊎_elim
-    (λ w. subst Next (sym w.1) (clearing-closed inv (sym k.is-barred.ensures ∙ w.0.taken) (inside t)))
-    (λ w. subst Next (sym w.1) (clearing-open inv (sym k.is-barred.ensures ∙ w.0.left)))
+    (λ w. subst Next (sym w.1) (clearing-closed inv (sym k.is_barred.ensures ∙ w.0.taken) (inside t)))
+    (λ w. subst Next (sym w.1) (clearing-open inv (sym k.is_barred.ensures ∙ w.0.left)))
     c.if2.branch
 
-pub clear-barred-spec : {M : Type 1} → statement M
-clear-barred-spec =
+pub clear_barred_spec : {M : Type 1} → statement M
+clear_barred_spec =
     tie.close
     (tie.spec
     invariant-loop

@@ -7,8 +7,8 @@ use Rattle.grid.proofs.closed_south.Statement.{statement}
 use Rattle.grid.proofs.closed_south.Tie as tie
 
 -- what the wall's function answered is the state's own
-wall : (c : tie.After-walled-south) (s : State) → s.kind ≡ c.before.args.kind → c.walled-south.result ≡ wall_south (boundary_of s.kind) c.before.args.j
-wall c s e = c.walled-south.ensures ∙ ap (λ k. wall_south (boundary_of k) c.before.args.j) (sym e)
+wall : (c : tie.After-walled_south) (s : State) → s.kind ≡ c.before.args.kind → c.walled_south.result ≡ wall_south (boundary_of s.kind) c.before.args.j
+wall c s e = c.walled_south.ensures ∙ ap (λ k. wall_south (boundary_of k) c.before.args.j) (sym e)
 
 walled : tie.Need-returns
 unfolding closed_south
@@ -18,8 +18,8 @@ barred : tie.Need-returns-2
 unfolding closed_south
 barred c s i e o =
     let w = c.before in
-    c.is-barred.ensures
+    c.is_barred.ensures
     ∙ sym (ap (λ x. x || bars_south (barrier_at s i w.before.before.args.j)) (sym (wall w.before s e) ∙ w.if1.false) ∙ ap bars_south o)
 
-pub closed-south-spec : {M : Type 1} → statement M
-closed-south-spec = tie.close (tie.spec (λ c κs. search rules) (λ c κs. search rules) walled barred)
+pub closed_south_spec : {M : Type 1} → statement M
+closed_south_spec = tie.close (tie.spec (λ c κs. search rules) (λ c κs. search rules) walled barred)

@@ -7,8 +7,8 @@ use Rattle.grid.proofs.closed_west.Statement.{statement}
 use Rattle.grid.proofs.closed_west.Tie as tie
 
 -- what the wall's function answered is the state's own
-wall : (c : tie.After-walled-west) (s : State) → s.kind ≡ c.before.args.kind → c.walled-west.result ≡ wall_west (boundary_of s.kind) c.before.args.i
-wall c s e = c.walled-west.ensures ∙ ap (λ k. wall_west (boundary_of k) c.before.args.i) (sym e)
+wall : (c : tie.After-walled_west) (s : State) → s.kind ≡ c.before.args.kind → c.walled_west.result ≡ wall_west (boundary_of s.kind) c.before.args.i
+wall c s e = c.walled_west.ensures ∙ ap (λ k. wall_west (boundary_of k) c.before.args.i) (sym e)
 
 walled : tie.Need-returns
 unfolding closed_west
@@ -18,8 +18,8 @@ barred : tie.Need-returns-2
 unfolding closed_west
 barred c s j e o =
     let w = c.before in
-    c.is-barred.ensures
+    c.is_barred.ensures
     ∙ sym (ap (λ x. x || bars_west (barrier_at s w.before.before.args.i j)) (sym (wall w.before s e) ∙ w.if1.false) ∙ ap bars_west o)
 
-pub closed-west-spec : {M : Type 1} → statement M
-closed-west-spec = tie.close (tie.spec (λ c κs. search rules) (λ c κs. search rules) walled barred)
+pub closed_west_spec : {M : Type 1} → statement M
+closed_west_spec = tie.close (tie.spec (λ c κs. search rules) (λ c κs. search rules) walled barred)

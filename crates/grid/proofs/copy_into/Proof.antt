@@ -25,8 +25,8 @@ loop-again c =
 returns : tie.Need-returns invariant-loop decreases-loop
 returns c = writing-done c.before.loop.invariant c.loop-test.false
 
-pub copy-into-spec : {M : Type 1} → statement M
-copy-into-spec =
+pub copy_into_spec : {M : Type 1} → statement M
+copy_into_spec =
     tie.close
     (tie.spec
     invariant-loop

@@ -40,8 +40,8 @@ returns c =
     filling-done c.before.loop.invariant (many s) c.loop-test.false
     ∙ ap (λ k. l ++ drop k a.d.now) (sym s.requires.1) ∙ ap (λ x. l ++ x) (drop-length a.d.now) ∙ append-nil l
 
-pub copy-out-spec : {M : Type 1} → statement M
-copy-out-spec =
+pub copy_out_spec : {M : Type 1} → statement M
+copy_out_spec =
     tie.close
     (tie.spec
     invariant-loop

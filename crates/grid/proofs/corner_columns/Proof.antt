@@ -6,7 +6,7 @@ use Rattle.grid.proofs.corner_columns.Statement.{statement}
 use Rattle.grid.proofs.corner_columns.Tie as tie
 
 returns : tie.Need-returns
-returns c = c.corners-of.ensures ∙ ap (λ b. corners_of b c.before.before.args.w) c.before.walled-west.ensures
+returns c = c.corners_of.ensures ∙ ap (λ b. corners_of b c.before.before.args.w) c.before.walled_west.ensures
 
-pub corner-columns-spec : {M : Type 1} → statement M
-corner-columns-spec = tie.close (tie.spec (λ c κs. search rules) (λ c κs. search rules) returns)
+pub corner_columns_spec : {M : Type 1} → statement M
+corner_columns_spec = tie.close (tie.spec (λ c κs. search rules) (λ c κs. search rules) returns)

@@ -19,11 +19,11 @@ south c p = let l = c.before.requires in few l.0 l.1 p l.3
 north : (c : tie.After-next2) {k : ℕ} → let a = c.before.before.args in k < a.columns → c.next2.result * a.columns + k < 4225
 north c p = let l = c.before.before.requires in few l.0 l.1 p c.next2.ensures.1
 
-mul-south-row : tie.Need-overflow-mul-south-row
-mul-south-row c = omega (arith, south c c.before.requires.2)
+mul-south_row : tie.Need-overflow_mul-south_row
+mul-south_row c = omega (arith, south c c.before.requires.2)
 
-mul-north-row : tie.Need-overflow-mul-north-row
-mul-north-row c = omega (arith, north c c.before.before.requires.2)
+mul-north_row : tie.Need-overflow_mul-north_row
+mul-north_row c = omega (arith, north c c.before.before.requires.2)
 
 returns : tie.Need-returns
 returns c =
@@ -37,14 +37,14 @@ returns c =
       se = ap (λ (k : ℕ). a.j * a.columns + k) e;
     }
 
-pub corners-around-spec : {M : Type 1} → statement M
-corners-around-spec =
+pub corners_around_spec : {M : Type 1} → statement M
+corners_around_spec =
     tie.close
     (tie.spec
     (λ c κs. search rules)
-    mul-south-row
+    mul-south_row
     (λ c κs. search rules)
-    mul-north-row
+    mul-north_row
     (λ c. omega (arith, north c c.before.next.ensures.1))
     (λ c. omega (arith, north c c.before.before.requires.2))
     (λ c. omega (arith, south c.before c.before.before.requires.2))

@@ -6,5 +6,5 @@ use Rattle.grid.proofs.corners_of.Tie as tie
 walled : tie.Need-returns
 walled c = rw c.if1.true
 
-pub corners-of-spec : {M : Type 1} → statement M
-corners-of-spec = tie.close (tie.spec (λ c. search rules) walled (λ c. search rules))
+pub corners_of_spec : {M : Type 1} → statement M
+corners_of_spec = tie.close (tie.spec (λ c. search rules) walled (λ c. search rules))

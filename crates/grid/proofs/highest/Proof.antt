@@ -53,8 +53,8 @@ returns c = ((λ x. by x (leb (length bytes) x) refl), c.before.loop.invariant.1
     by x true e = subst (λ y. y ≤ c.before.loop.most) (sym (get_or-eq_default bytes 0 (leb-true (length bytes) x e))) zero-le
     by x false e = let l = leb-false (length bytes) x e in c.before.loop.invariant.0 x (omega (arith, c.loop-test.false))
 
-pub highest-spec : {M : Type 1} → statement M
-highest-spec =
+pub highest_spec : {M : Type 1} → statement M
+highest_spec =
     tie.close
     (tie.spec
     invariant-loop

@@ -9,7 +9,7 @@ west : tie.Need-returns
 west c = ap (λ e. bars e c.before.before.args.barrier) (sym c.enum_told.given.1)
 
 south : tie.Need-returns-2
-south c = ap (λ e. bars e c.before.before.args.barrier) (sym c.enum-told2.given.1)
+south c = ap (λ e. bars e c.before.before.args.barrier) (sym c.enum_told2.given.1)
 
-pub is-barred-spec : {M : Type 1} → statement M
-is-barred-spec = tie.close (tie.spec (λ c. search rules) (λ c. search rules) west south)
+pub is_barred_spec : {M : Type 1} → statement M
+is_barred_spec = tie.close (tie.spec (λ c. search rules) (λ c. search rules) west south)

@@ -9,13 +9,13 @@ west : tie.Need-returns
 west c s k o =
     let e = c.before in
     let a = e.before.before.args in
-    c.closed-west.ensures s a.j k o ∙ ap (λ x. closed_at s x a.i a.j) (sym e.enum_told.given.1)
+    c.closed_west.ensures s a.j k o ∙ ap (λ x. closed_at s x a.i a.j) (sym e.enum_told.given.1)
 
 south : tie.Need-returns-2
 south c s k o =
     let e = c.before in
     let a = e.before.before.args in
-    c.closed-south.ensures s a.i k o ∙ ap (λ x. closed_at s x a.i a.j) (sym e.enum-told2.given.1)
+    c.closed_south.ensures s a.i k o ∙ ap (λ x. closed_at s x a.i a.j) (sym e.enum_told2.given.1)
 
-pub is-closed-spec : {M : Type 1} → statement M
-is-closed-spec = tie.close (tie.spec (λ c. search rules) (λ c κs. search rules) (λ c. search rules) (λ c κs. search rules) west south)
+pub is_closed_spec : {M : Type 1} → statement M
+is_closed_spec = tie.close (tie.spec (λ c. search rules) (λ c κs. search rules) (λ c. search rules) (λ c κs. search rules) west south)

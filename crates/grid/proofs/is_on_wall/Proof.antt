@@ -7,8 +7,8 @@ use Rattle.model.specs.State.{boundary_of, wall_west, wall_south}
 use Rattle.grid.proofs.is_on_wall.Statement.{statement}
 use Rattle.grid.proofs.is_on_wall.Tie as tie
 
-column : (c : tie.After-on-wall) → let a = c.before.before.args in c.on-wall.result ≡ on_wall (wall_west (boundary_of a.kind) 0) a.w a.x
-column c = let a = c.before.before.args in c.on-wall.ensures ∙ ap (λ b. on_wall b a.w a.x) c.before.walled-west.ensures
+column : (c : tie.After-on_wall) → let a = c.before.before.args in c.on_wall.result ≡ on_wall (wall_west (boundary_of a.kind) 0) a.w a.x
+column c = let a = c.before.before.args in c.on_wall.ensures ∙ ap (λ b. on_wall b a.w a.x) c.before.walled_west.ensures
 
 by-column : tie.Need-returns
 by-column c = let e = c.if1.true in e ∙ sym (rw (sym (column c.before) ∙ e))
@@ -18,9 +18,9 @@ by_row c =
     let s = c.before in
     let l = s.before in
     let a = l.before.before.before.args in
-    c.on-wall2.ensures
-    ∙ ap (λ b. on_wall b a.n a.y) s.walled-south.ensures
+    c.on_wall2.ensures
+    ∙ ap (λ b. on_wall b a.n a.y) s.walled_south.ensures
     ∙ ap (λ b. b || on_wall (wall_south (boundary_of a.kind) 0) a.n a.y) (sym l.if1.false ∙ column l.before)
 
-pub is-on-wall-spec : {M : Type 1} → statement M
-is-on-wall-spec = tie.close (tie.spec (λ c κs. search rules) (λ c κs. search rules) (λ c κs. search rules) (λ c κs. search rules) by-column by_row)
+pub is_on_wall_spec : {M : Type 1} → statement M
+is_on_wall_spec = tie.close (tie.spec (λ c κs. search rules) (λ c κs. search rules) (λ c κs. search rules) (λ c κs. search rules) by-column by_row)

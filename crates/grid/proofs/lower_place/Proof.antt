@@ -26,5 +26,5 @@ wrapped c =
     let l : s.args.x < s.args.w = subst (λ b. s.args.x < corners_of b s.args.w) e s.requires.1 in
     (rw e (sym (lower-first c.before.if1.false l)), omega (arith, s.requires.0))
 
-pub lower-place-spec : {M : Type 1} → statement M
-lower-place-spec = tie.close (tie.spec (λ c. search rules) past (λ c. search rules) inside wrapped)
+pub lower_place_spec : {M : Type 1} → statement M
+lower_place_spec = tie.close (tie.spec (λ c. search rules) past (λ c. search rules) inside wrapped)

@@ -12,5 +12,5 @@ returns c = (sym (next_last _ _ (omega arith)), omega arith)
 returns-2 : tie.Need-returns-2
 returns-2 c = (sym (next-inner _ _ (omega arith)), omega arith)
 
-pub next-spec : {M : Type 1} → statement M
-next-spec = tie.close (tie.spec (λ c. search rules) (λ c. search rules) returns returns-2)
+pub next_spec : {M : Type 1} → statement M
+next_spec = tie.close (tie.spec (λ c. search rules) (λ c. search rules) returns returns-2)

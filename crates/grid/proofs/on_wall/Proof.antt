@@ -12,5 +12,5 @@ first c = let a = c.before.before.args in rw (not-false a.walled c.before.if1.fa
 last : tie.Need-returns-3
 last c = let a = c.before.before.args in rw (not-false a.walled c.before.if1.false, ne_eqb a.x 0 c.if2.false)
 
-pub on-wall-spec : {M : Type 1} → statement M
-on-wall-spec = tie.close (tie.spec open-side first last)
+pub on_wall_spec : {M : Type 1} → statement M
+on_wall_spec = tie.close (tie.spec open-side first last)

@@ -7,7 +7,7 @@ use Rattle.grid.proofs.part_of.Tie as tie
 returns : tie.Need-returns
 returns c = rw add-sub_cancel_left
 
-pub part-of-spec : {M : Type 1} → statement M
-part-of-spec =
+pub part_of_spec : {M : Type 1} → statement M
+part_of_spec =
     tie.close
     (tie.spec (λ c. search rules) (λ c. search rules) (λ c. search rules) (λ c. search rules) (λ c. search rules) returns)

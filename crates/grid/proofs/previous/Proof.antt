@@ -12,5 +12,5 @@ returns c = (sym (previous-first _ _ (omega arith) (omega arith)), omega arith)
 returns-2 : tie.Need-returns-2
 returns-2 c = (sym (previous-inner _ _ (omega arith) (omega arith)), omega arith)
 
-pub previous-spec : {M : Type 1} → statement M
-previous-spec = tie.close (tie.spec (λ c. search rules) (λ c. search rules) returns returns-2)
+pub previous_spec : {M : Type 1} → statement M
+previous_spec = tie.close (tie.spec (λ c. search rules) (λ c. search rules) returns returns-2)

@@ -18,5 +18,5 @@ other c =
     let e = upper-past s.args.walled p.0 p.1 c.if1.false in
     (sym e, rw e at (upper_lt s.args.walled p.0 p.1))
 
-pub upper-place-spec : {M : Type 1} → statement M
-upper-place-spec = tie.close (tie.spec (λ c. search rules) last other)
+pub upper_place_spec : {M : Type 1} → statement M
+upper_place_spec = tie.close (tie.spec (λ c. search rules) last other)

@@ -3,8 +3,8 @@ use borrow.Author.Rules.{rules}
 use Rattle.grid.proofs.wall_south.Statement.{statement}
 use Rattle.grid.proofs.wall_south.Tie as tie
 
-pub wall-south-spec : {M : Type 1} → statement M
-wall-south-spec =
+pub wall_south_spec : {M : Type 1} → statement M
+wall_south_spec =
     tie.close
     (tie.spec
     (λ c. search rules)

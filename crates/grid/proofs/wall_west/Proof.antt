@@ -3,8 +3,8 @@ use borrow.Author.Rules.{rules}
 use Rattle.grid.proofs.wall_west.Statement.{statement}
 use Rattle.grid.proofs.wall_west.Tie as tie
 
-pub wall-west-spec : {M : Type 1} → statement M
-wall-west-spec =
+pub wall_west_spec : {M : Type 1} → statement M
+wall_west_spec =
     tie.close
     (tie.spec
     (λ c. search rules)

@@ -6,7 +6,7 @@ use Rattle.grid.proofs.walled_south.Statement.{statement}
 use Rattle.grid.proofs.walled_south.Tie as tie
 
 returns : tie.Need-returns
-returns c = c.wall-south.ensures ∙ ap (λ b. wall_south b c.before.before.args.j) c.before.boundary-of.ensures
+returns c = c.wall_south.ensures ∙ ap (λ b. wall_south b c.before.before.args.j) c.before.boundary_of.ensures
 
-pub walled-south-spec : {M : Type 1} → statement M
-walled-south-spec = tie.close (tie.spec (λ c κs. search rules) (λ c κs. search rules) returns)
+pub walled_south_spec : {M : Type 1} → statement M
+walled_south_spec = tie.close (tie.spec (λ c κs. search rules) (λ c κs. search rules) returns)

@@ -6,7 +6,7 @@ use Rattle.grid.proofs.walled_west.Statement.{statement}
 use Rattle.grid.proofs.walled_west.Tie as tie
 
 returns : tie.Need-returns
-returns c = c.wall-west.ensures ∙ ap (λ b. wall_west b c.before.before.args.i) c.before.boundary-of.ensures
+returns c = c.wall_west.ensures ∙ ap (λ b. wall_west b c.before.before.args.i) c.before.boundary_of.ensures
 
-pub walled-west-spec : {M : Type 1} → statement M
-walled-west-spec = tie.close (tie.spec (λ c κs. search rules) (λ c κs. search rules) returns)
+pub walled_west_spec : {M : Type 1} → statement M
+walled_west_spec = tie.close (tie.spec (λ c κs. search rules) (λ c κs. search rules) returns)

@@ -30,14 +30,14 @@ up t d s l =
     less : (d r : ℕ) → r < d → 2 * r - d < 2 * d
     less d r l = omega arith
 
-mul-if1 : tie.Need-overflow-mul-if1
+mul-if1 : tie.Need-overflow_mul-if1
 mul-if1 c = omega (arith, mod-lt c.args.t c.requires.1)
 
-add-result : tie.Need-overflow-add-result
+add-result : tie.Need-overflow_add-result
 add-result c = omega (arith, div-le_self c.before.args.t c.before.args.d)
 
-pub nearest-spec : {M : Type 1} → statement M
-nearest-spec =
+pub nearest_spec : {M : Type 1} → statement M
+nearest_spec =
     tie.close
     (tie.spec
     (λ c. search rules)

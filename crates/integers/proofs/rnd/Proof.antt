@@ -82,8 +82,8 @@ returns-2 c =
     ∙ ap pos (size_is c.before)
     ∙ above s.args.a s.args.b (rw (a-is s) at c.if1.false)
 
-pub rnd-spec : {M : Type 1} → statement M
-rnd-spec =
+pub rnd_spec : {M : Type 1} → statement M
+rnd_spec =
     tie.close
     (tie.spec
     (λ c κs. tt)

@@ -22,7 +22,7 @@ returns c =
     let t = c.before.before.before in
     let s = t.before.before in
     let x = to_z-of_z s.ranges.x in
-    rw (x, to_z-of_z (record { sfits = c.struct-told2.given.1.0.1 })) (low-holds _ _ (rw (x, to_z-of_z (record { sfits = t.struct_told.given.0.1 })) at c.before.before.if1.true))
+    rw (x, to_z-of_z (record { sfits = c.struct_told2.given.1.0.1 })) (low-holds _ _ (rw (x, to_z-of_z (record { sfits = t.struct_told.given.0.1 })) at c.before.before.if1.true))
 
 returns-2 : tie.Need-returns-2
 returns-2 c =
@@ -32,5 +32,5 @@ returns-2 c =
     let l = to_z-of_z {w = w64} {z = s.args.l.least} (record { sfits = t.struct_told.given.0.1 }) in
     rw (x, l) (low-fails _ _ (rw (x, l) at c.if1.false))
 
-pub within-spec : {M : Type 1} → statement M
-within-spec = tie.close (tie.spec returns returns-2)
+pub within_spec : {M : Type 1} → statement M
+within_spec = tie.close (tie.spec returns returns-2)

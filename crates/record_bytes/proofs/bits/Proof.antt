@@ -29,11 +29,11 @@ sum_is c =
 own : (c : tie.Else1) → let s = c.before.before in s.args.x ≡ pos (of_z (width_of s.args.size) s.args.x)
 own c = let s = c.before.before in bits_positive s.args.size s.args.x (rw (same s) at c.if1.false)
 
-add-result : tie.Need-overflow-add-result
+add-result : tie.Need-overflow_add-result
 add-result c = subst (SFits w64) (sym (sum_is c)) (record { sfits = short c.before.before })
 
-pub bits-spec : {M : Type 1} → statement M
-bits-spec =
+pub bits_spec : {M : Type 1} → statement M
+bits_spec =
     tie.close
     (tie.spec
     (λ c κs. search rules)

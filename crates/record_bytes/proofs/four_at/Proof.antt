@@ -13,8 +13,8 @@ returns c =
     let r = four_is s.args.s.now s.args.k s.requires first.index.ensures second.index2.ensures third.index3.ensures c.index4.ensures in
     (r.holds, r.small)
 
-pub four-at-spec : {M : Type 1} → statement M
-four-at-spec =
+pub four_at_spec : {M : Type 1} → statement M
+four_at_spec =
     tie.close
     (tie.spec
     (λ c. search rules)

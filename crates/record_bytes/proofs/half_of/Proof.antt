@@ -9,7 +9,7 @@ returns : tie.Need-returns
 returns c = rw c.enum_told.given.1 (refl, lit≤ tt)
 
 returns-2 : tie.Need-returns-2
-returns-2 c = rw c.enum-told2.given.1 (refl, lit≤ tt)
+returns-2 c = rw c.enum_told2.given.1 (refl, lit≤ tt)
 
-pub half-of-spec : {M : Type 1} → statement M
-half-of-spec = tie.close (tie.spec (λ c. search rules) (λ c. search rules) returns returns-2)
+pub half_of_spec : {M : Type 1} → statement M
+half_of_spec = tie.close (tie.spec (λ c. search rules) (λ c. search rules) returns returns-2)

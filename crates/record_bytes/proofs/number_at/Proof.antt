@@ -12,35 +12,35 @@ use Rattle.record_bytes.specs.NumberSizes.{size_of, signed_by}
 use Rattle.record_bytes.proofs.number_at.Statement.{statement}
 use Rattle.record_bytes.proofs.number_at.Tie as tie
 
-unsigned-at-requires : tie.Need-unsigned-at-requires
-unsigned-at-requires c κs = let s = c.before.before.before in (lit≤ tt, subst (λ z. s.args.k + size_of z ≤ length s.args.s.now) c.enum_told.given.1 s.requires)
+unsigned_at-requires : tie.Need-unsigned_at-requires
+unsigned_at-requires c κs = let s = c.before.before.before in (lit≤ tt, subst (λ z. s.args.k + size_of z ≤ length s.args.s.now) c.enum_told.given.1 s.requires)
 
-four-at-requires : tie.Need-four-at-requires
-four-at-requires c κs = let s = c.before.before.before in subst (λ z. s.args.k + size_of z ≤ length s.args.s.now) c.enum-told2.given.1 s.requires
+four_at-requires : tie.Need-four_at-requires
+four_at-requires c κs = let s = c.before.before.before in subst (λ z. s.args.k + size_of z ≤ length s.args.s.now) c.enum_told2.given.1 s.requires
 
 returns : tie.Need-returns
 returns c =
     let q = c.before in
     let s = q.before.before.before.before in
-    held-is w64 c.signed.type-inv
-    (c.signed.ensures ∙ ap (to_z w16) q.unsigned-at.ensures.0 ∙ sym (ap (λ z. signed_by z (take (size_of z) (drop s.args.k s.args.s.now))) q.before.enum_told.given.1))
+    held-is w64 c.signed.type_inv
+    (c.signed.ensures ∙ ap (to_z w16) q.unsigned_at.ensures.0 ∙ sym (ap (λ z. signed_by z (take (size_of z) (drop s.args.k s.args.s.now))) q.before.enum_told.given.1))
 
 returns-2 : tie.Need-returns-2
 returns-2 c =
     let q = c.before in
     let s = q.before.before.before.before in
-    held-is w64 c.signed2.type-inv
-    (c.signed2.ensures ∙ ap (to_z w32) q.four-at.ensures.0 ∙ sym (ap (λ z. signed_by z (take (size_of z) (drop s.args.k s.args.s.now))) q.before.enum-told2.given.1))
+    held-is w64 c.signed2.type_inv
+    (c.signed2.ensures ∙ ap (to_z w32) q.four_at.ensures.0 ∙ sym (ap (λ z. signed_by z (take (size_of z) (drop s.args.k s.args.s.now))) q.before.enum_told2.given.1))
 
-pub number-at-spec : {M : Type 1} → statement M
-number-at-spec =
+pub number_at_spec : {M : Type 1} → statement M
+number_at_spec =
     tie.close
     (tie.spec
     (λ c. search rules)
-    unsigned-at-requires
+    unsigned_at-requires
     (λ c κs. search rules)
     (λ c. search rules)
-    four-at-requires
+    four_at-requires
     (λ c κs. search rules)
     returns
     returns-2)

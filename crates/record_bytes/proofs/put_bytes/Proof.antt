@@ -32,8 +32,8 @@ returns c =
     let a = l.before.args in
     record { ends = refl; holds = writing-done l.loop.invariant c.loop-test.false ∙ sym (sets-eq a.f.now a.d.now a.k l.before.requires) }
 
-pub put-bytes-spec : {M : Type 1} → statement M
-put-bytes-spec =
+pub put_bytes_spec : {M : Type 1} → statement M
+put_bytes_spec =
     tie.close
     (tie.spec
     invariant-loop

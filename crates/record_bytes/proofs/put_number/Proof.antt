@@ -20,13 +20,13 @@ bits-requires : tie.Need-bits-requires
 bits-requires c κs = let e = c.before in let s = e.before.before.before in rw (same s) (subst (λ z. SFits (width_of z) s.args.x) e.enum_told.given.1 s.requires.1)
 
 bits-requires-2 : tie.Need-bits-requires-2
-bits-requires-2 c κs = let e = c.before in let s = e.before.before.before in rw (same s) (subst (λ z. SFits (width_of z) s.args.x) e.enum-told2.given.1 s.requires.1)
+bits-requires-2 c κs = let e = c.before in let s = e.before.before.before in rw (same s) (subst (λ z. SFits (width_of z) s.args.x) e.enum_told2.given.1 s.requires.1)
 
-put-unsigned-requires : tie.Need-put-unsigned-requires
-put-unsigned-requires c κs = let e = c.before.before in let s = e.before.before.before in subst (λ z. s.args.k + size_of z ≤ length s.args.d.now) e.enum_told.given.1 s.requires.0
+put_unsigned-requires : tie.Need-put_unsigned-requires
+put_unsigned-requires c κs = let e = c.before.before in let s = e.before.before.before in subst (λ z. s.args.k + size_of z ≤ length s.args.d.now) e.enum_told.given.1 s.requires.0
 
-put-unsigned-requires-2 : tie.Need-put-unsigned-requires-2
-put-unsigned-requires-2 c κs = let e = c.before.before in let s = e.before.before.before in subst (λ z. s.args.k + size_of z ≤ length s.args.d.now) e.enum-told2.given.1 s.requires.0
+put_unsigned-requires-2 : tie.Need-put_unsigned-requires-2
+put_unsigned-requires-2 c κs = let e = c.before.before in let s = e.before.before.before in subst (λ z. s.args.k + size_of z ≤ length s.args.d.now) e.enum_told2.given.1 s.requires.0
 
 returns : tie.Need-returns
 returns c =
@@ -35,7 +35,7 @@ returns c =
     let e = b.before.before in
     let s = e.before.before.before in
     let value = ap (bytes 2) (b.bits.ensures ∙ ap (of_z w16) (same s)) ∙ sym (ap (λ z. bytes_by z s.args.x) e.enum_told.given.1) in
-    subst (λ l. Puts s.args.d.now s.args.k l p.put-unsigned.result p.put-unsigned.new.0) value p.put-unsigned.ensures
+    subst (λ l. Puts s.args.d.now s.args.k l p.put_unsigned.result p.put_unsigned.new.0) value p.put_unsigned.ensures
 
 returns-2 : tie.Need-returns-2
 returns-2 c =
@@ -43,19 +43,19 @@ returns-2 c =
     let b = p.before in
     let e = b.before.before in
     let s = e.before.before.before in
-    let value = ap (bytes 4) (b.bits2.ensures ∙ ap (of_z w32) (same s)) ∙ sym (ap (λ z. bytes_by z s.args.x) e.enum-told2.given.1) in
-    subst (λ l. Puts s.args.d.now s.args.k l p.put-unsigned2.result p.put-unsigned2.new.0) value p.put-unsigned2.ensures
+    let value = ap (bytes 4) (b.bits2.ensures ∙ ap (of_z w32) (same s)) ∙ sym (ap (λ z. bytes_by z s.args.x) e.enum_told2.given.1) in
+    subst (λ l. Puts s.args.d.now s.args.k l p.put_unsigned2.result p.put_unsigned2.new.0) value p.put_unsigned2.ensures
 
-pub put-number-spec : {M : Type 1} → statement M
-put-number-spec =
+pub put_number_spec : {M : Type 1} → statement M
+put_number_spec =
     tie.close
     (tie.spec
     (λ c. search rules)
     bits-requires
-    put-unsigned-requires
+    put_unsigned-requires
     (λ c. search rules)
     bits-requires-2
-    put-unsigned-requires-2
+    put_unsigned-requires-2
     (λ c. search rules)
     returns
     (λ c. search rules)

@@ -26,12 +26,12 @@ within c =
     omega (arith, number-within (size_of s.args.size) c.loop-test.true, s.requires.0, listing-at l.loop.invariant, listing-long l.loop.invariant)
 
 -- it is the field's own
-number : (c : tie.After-put-number-arg2 invariant-loop decreases-loop)
+number : (c : tie.After-put_number-arg2 invariant-loop decreases-loop)
     → let l = c.before.before.before in let f = l.before.before.args.f.now in to_z w64 (of_z w64 (get_or f l.loop.i (pos 0))) ≡ get_or f l.loop.i (pos 0)
-number c = held-is w64 c.put-number-arg2.given refl
+number c = held-is w64 c.put_number-arg2.given refl
 
-put-number-requires : tie.Need-put-number-requires invariant-loop decreases-loop
-put-number-requires c κs =
+put_number-requires : tie.Need-put_number-requires invariant-loop decreases-loop
+put_number-requires c κs =
     let i = c.before.before in
     let l = i.before in
     (within i, rw (number c) (l.before.before.requires.1.each l.loop.i i.loop-test.true))
@@ -41,10 +41,10 @@ loop-again c =
     let q = c.before.before in
     let a = q.before in
     let i = a.before.before in
-    listing-more i.before.loop.invariant i.loop-test.true (rw (number a) at q.put-number.ensures)
+    listing-more i.before.loop.invariant i.loop-test.true (rw (number a) at q.put_number.ensures)
 
-pub put-numbers-spec : {M : Type 1} → statement M
-put-numbers-spec =
+pub put_numbers_spec : {M : Type 1} → statement M
+put_numbers_spec =
     tie.close
     (tie.spec
     invariant-loop
@@ -52,7 +52,7 @@ put-numbers-spec =
     (λ c. listing_none)
     (λ c. omega arith)
     (λ c. omega arith)
-    put-number-requires
+    put_number-requires
     (λ c. omega arith)
     (λ c. omega arith)
     loop-again

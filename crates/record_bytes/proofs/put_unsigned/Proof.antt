@@ -16,7 +16,7 @@ invariant-loop d₀ k count x remaining₀ rest₀ d remaining rest = Putting d�
 abbrev decreases-loop : tie.decreases-loop
 decreases-loop d₀ k count x remaining₀ rest₀ d remaining rest = remaining
 
-cast-d : tie.Need-overflow-cast-d invariant-loop decreases-loop
+cast-d : tie.Need-overflow_cast-d invariant-loop decreases-loop
 cast-d c = record { fits = mod-lt c.before.before.loop.rest (lit< tt) }
 
 loop-again : tie.Need-loop-preserved invariant-loop decreases-loop
@@ -27,14 +27,14 @@ loop-again c =
     subst (λ p. Putting a.d.now a.k a.count a.x (l.loop.remaining - 1) (l.loop.rest / 256) (set l.loop.d p (l.loop.rest % 256))) (sym c.place.ensures)
     (putting-more l.loop.invariant i.loop-test.true)
 
-same_length : tie.Need-same-length invariant-loop decreases-loop
+same_length : tie.Need-same_length invariant-loop decreases-loop
 same_length c = c.before.loop.invariant.long
 
 returns : tie.Need-returns invariant-loop decreases-loop
 returns c = putting-done c.before.loop.invariant c.loop-test.false
 
-pub put-unsigned-spec : {M : Type 1} → statement M
-put-unsigned-spec =
+pub put_unsigned_spec : {M : Type 1} → statement M
+put_unsigned_spec =
     tie.close
     (tie.spec
     invariant-loop

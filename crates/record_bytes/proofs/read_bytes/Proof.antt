@@ -34,10 +34,10 @@ loop-again c =
     let v = s.args.value.now in
     let m = s.args.m in
     filling-more 0 l.loop.invariant (subst (λ n. l.loop.i < n) (sym (long v m)) t.loop-test.true) (subst (λ n. n ≤ length s.args.d.now) (sym (long v m)) s.requires)
-    (c.barrier-at.ensures ∙ sym (get_d_tabulate m (λ k. get_or v k 0) l.loop.i 0 t.loop-test.true))
+    (c.barrier_at.ensures ∙ sym (get_d_tabulate m (λ k. get_or v k 0) l.loop.i 0 t.loop-test.true))
 
-pub read-bytes-spec : {M : Type 1} → statement M
-read-bytes-spec =
+pub read_bytes_spec : {M : Type 1} → statement M
+read_bytes_spec =
     tie.close
     (tie.spec
     invariant-loop

@@ -37,19 +37,19 @@ loop-again c =
     let a = s.args in
     let long = numbers-long a.size a.m a.value.now in
     filling-more (pos 0) l.loop.invariant (subst (λ m. l.loop.i < m) (sym long) t.loop-test.true) (subst (λ m. m ≤ length a.d.now) (sym long) s.requires.1)
-    (held-is w64 c.number_at.type-inv
+    (held-is w64 c.number_at.type_inv
     (c.number_at.ensures
     ∙ ap (λ n. signed_by a.size (take (size_of a.size) (drop (l.loop.i * n) a.value.now))) l.before.bytes_of.ensures
     ∙ sym (number_is a.size a.m a.value.now l.loop.i t.loop-test.true)))
 
-same_length : tie.Need-same-length invariant-loop decreases-loop
+same_length : tie.Need-same_length invariant-loop decreases-loop
 same_length c = c.before.loop.invariant.long
 
 returns : tie.Need-returns invariant-loop decreases-loop
 returns c = let a = c.before.before.before.before.args in filling-done c.before.loop.invariant (numbers-long a.size a.m a.value.now) c.loop-test.false
 
-pub read-numbers-spec : {M : Type 1} → statement M
-read-numbers-spec =
+pub read_numbers_spec : {M : Type 1} → statement M
+read_numbers_spec =
     tie.close
     (tie.spec
     invariant-loop

@@ -19,8 +19,8 @@ unknown c =
       ne_eqb _ _ r.1,
     )
 
-pub tag-size-spec : {M : Type 1} → statement M
-tag-size-spec =
+pub tag_size_spec : {M : Type 1} → statement M
+tag_size_spec =
     tie.close
     (tie.spec
     (λ c. rw c.match.keys1)

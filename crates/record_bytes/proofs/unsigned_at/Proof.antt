@@ -16,10 +16,10 @@ invariant-loop s k count x₀ i₀ x i = (i ≤ count) × Reading s k i x
 abbrev decreases-loop : tie.decreases-loop
 decreases-loop s k count x₀ i₀ x i = count - i
 
-mul-x : tie.Need-overflow-mul-x invariant-loop decreases-loop
+mul-x : tie.Need-overflow_mul-x invariant-loop decreases-loop
 mul-x c = let l = c.before.before in record { fits = omega (arith, reading-fits {y = 0} l.loop.invariant.1 (omega arith) (lit< tt)) }
 
-add-x : tie.Need-overflow-add-x invariant-loop decreases-loop
+add-x : tie.Need-overflow_add-x invariant-loop decreases-loop
 add-x c =
     let l = c.before.before.before.before in
     record { fits = reading-fits l.loop.invariant.1 (omega arith) c.index.ensures.1 }
@@ -38,8 +38,8 @@ returns c =
     let r = subst (λ i. Reading a.s.now a.k i l.loop.x) (le_antisymm l.loop.invariant.0 c.loop-test.false) l.loop.invariant.1 in
     (r.holds, r.small)
 
-pub unsigned-at-spec : {M : Type 1} → statement M
-unsigned-at-spec =
+pub unsigned_at_spec : {M : Type 1} → statement M
+unsigned_at_spec =
     tie.close
     (tie.spec
     invariant-loop

@@ -27,11 +27,11 @@ abbrev decreases-loop : tie.decreases-loop
 decreases-loop a b m k₀ k = m - k
 
 -- what the two calls tell of cell k
-told : (c : tie.After-barrier-at2 invariant-loop decreases-loop)
+told : (c : tie.After-barrier_at2 invariant-loop decreases-loop)
     → let l = c.before.before.before in
     let a = l.before.before.before.args in
-    (c.before.barrier-at.result ≡ c.barrier-at2.result → ⊥) → get_or a.a.now l.loop.k 0 ≡ get_or a.b.now l.loop.k 0 → ⊥
-told c n e = n (c.before.barrier-at.ensures ∙ e ∙ sym c.barrier-at2.ensures)
+    (c.before.barrier_at.result ≡ c.barrier_at2.result → ⊥) → get_or a.a.now l.loop.k 0 ≡ get_or a.b.now l.loop.k 0 → ⊥
+told c n e = n (c.before.barrier_at.ensures ∙ e ∙ sym c.barrier_at2.ensures)
 
 returns : tie.Need-returns invariant-loop decreases-loop
 returns c =
@@ -47,7 +47,7 @@ loop-again c =
     let w = c.before in
     let i = w.before.before in
     let l = i.before in
-    (omega (arith, i.loop-test.true), below_more _ _ l.loop.invariant.1 (sym w.before.barrier-at.ensures ∙ c.if1.false ∙ w.barrier-at2.ensures))
+    (omega (arith, i.loop-test.true), below_more _ _ l.loop.invariant.1 (sym w.before.barrier_at.ensures ∙ c.if1.false ∙ w.barrier_at2.ensures))
 
 returns-2 : tie.Need-returns-2 invariant-loop decreases-loop
 returns-2 c =
@@ -60,8 +60,8 @@ returns-2 c =
     let z = n a.a.now in
     one a.m a.a.now i (omega arith) ∙ l.loop.invariant.1 i (omega (arith, c.loop-test.false)) ∙ sym (one a.m a.b.now i (omega arith))))
 
-pub same-barriers-spec : {M : Type 1} → statement M
-same-barriers-spec =
+pub same_barriers_spec : {M : Type 1} → statement M
+same_barriers_spec =
     tie.close
     (tie.spec
     invariant-loop

@@ -35,8 +35,8 @@ returns-3 c =
     let a = l.before.before.args in
     lists-same (ext_get_or 0 a.a.now a.b.now l.before.if1.false (λ i h. l.loop.invariant.1 i (omega arith)))
 
-pub same-bytes-spec : {M : Type 1} → statement M
-same-bytes-spec =
+pub same_bytes_spec : {M : Type 1} → statement M
+same_bytes_spec =
     tie.close
     (tie.spec
     invariant-loop

@@ -20,8 +20,8 @@ invariant-loop first p second q tag₀ tag = SameTo first second tag
 abbrev decreases-loop : tie.decreases-loop
 decreases-loop first p second q tag₀ tag = last_required + 1 - tag
 
-same-value-requires : tie.Need-same-value-requires invariant-loop decreases-loop
-same-value-requires c κs =
+same_value-requires : tie.Need-same_value-requires invariant-loop decreases-loop
+same_value-requires c κs =
     let l = c.before.before in
     let r = l.before.before.before.requires in
     (r.first_read.placed, r.second-read.placed, l.loop.invariant.some, omega arith)
@@ -32,8 +32,8 @@ returns c =
     let l = v.before.before.before in
     let second = l.before in
     let first = second.before in
-    other-read (λ k. (first.shared-slice-known.given k).fits) (λ k. (second.shared-slice-known2.given k).fits) first.before.requires l.loop.tag l.loop.invariant.some (omega arith)
-    v.before.if1.true (sym v.same-value.ensures ∙ not-true v.same-value.result c.if2.true)
+    other-read (λ k. (first.shared_slice_known.given k).fits) (λ k. (second.shared_slice_known2.given k).fits) first.before.requires l.loop.tag l.loop.invariant.some (omega arith)
+    v.before.if1.true (sym v.same_value.ensures ∙ not-true v.same_value.result c.if2.true)
 
 loop-again : tie.Need-loop-preserved invariant-loop decreases-loop
 loop-again c =
@@ -49,18 +49,18 @@ returns-2 c =
     let e = m.before in
     let l = e.before.before in
     let s = l.before.before.before in
-    let known = subst (λ p. T (grid_known p)) (sym e.parameters-in.ensures) (known-grid s.requires.first_read) in
-    let cells_are = m.cells_of.ensures.0 known ∙ ap (λ (p : Parameters). p.w * p.n) e.parameters-in.ensures in
-    c.same-barriers.ensures ∙ same_read l.loop.invariant e.before.loop-test.false cells_are a.value-of.ensures.is b.value-of2.ensures.is
+    let known = subst (λ p. T (grid_known p)) (sym e.parameters_in.ensures) (known-grid s.requires.first_read) in
+    let cells_are = m.cells_of.ensures.0 known ∙ ap (λ (p : Parameters). p.w * p.n) e.parameters_in.ensures in
+    c.same_barriers.ensures ∙ same_read l.loop.invariant e.before.loop-test.false cells_are a.value_of.ensures.is b.value_of2.ensures.is
 
-pub same-state-spec : {M : Type 1} → statement M
-same-state-spec =
+pub same_state_spec : {M : Type 1} → statement M
+same_state_spec =
     tie.close
     (tie.spec
     invariant-loop
     decreases-loop
     (λ c. same_none)
-    same-value-requires
+    same_value-requires
     returns
     (λ c. omega arith)
     (λ c. omega arith)

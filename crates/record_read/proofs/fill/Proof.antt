@@ -44,27 +44,27 @@ returns c =
     let a = s.args in
     let e = s.requires.1 in
     λ i. record {
-      h = own v1.value-of.ensures Four a.h.now e (h-is a.rec.now) v2.before.before.read-numbers.ensures i;
-      b = own v2.value-of2.ensures Four a.b.now e (b-is a.rec.now) v3.before.before.read-numbers2.ensures i;
-      u = own v3.value-of3.ensures Two a.u.now e (u-is a.rec.now) v4.before.before.read-numbers3.ensures i;
-      v = own v4.value-of4.ensures Two a.v.now e (v-is a.rec.now) v5.before.before.read-numbers4.ensures i;
-      barriers = own-bytes v5.value-of5.ensures a.barriers.now e c.before.before.read-bytes.ensures i;
+      h = own v1.value_of.ensures Four a.h.now e (h-is a.rec.now) v2.before.before.read_numbers.ensures i;
+      b = own v2.value_of2.ensures Four a.b.now e (b-is a.rec.now) v3.before.before.read_numbers2.ensures i;
+      u = own v3.value_of3.ensures Two a.u.now e (u-is a.rec.now) v4.before.before.read_numbers3.ensures i;
+      v = own v4.value_of4.ensures Two a.v.now e (v-is a.rec.now) v5.before.before.read_numbers4.ensures i;
+      barriers = own-bytes v5.value_of5.ensures a.barriers.now e c.before.before.read_bytes.ensures i;
     }
 
-abbrev at-4 : tie.After-read-numbers-arg → tie.Start
+abbrev at-4 : tie.After-read_numbers-arg → tie.Start
 at-4 c = c.before.before.before.before
 
-abbrev at_5 : tie.After-read-numbers-arg2 → tie.Start
+abbrev at_5 : tie.After-read_numbers-arg2 → tie.Start
 at_5 c = c.before.before.before.before.before.before.before.before
 
-abbrev at-6 : tie.After-read-numbers-arg3 → tie.Start
+abbrev at-6 : tie.After-read_numbers-arg3 → tie.Start
 at-6 c = c.before.before.before.before.before.before.before.before.before.before.before.before
 
-abbrev at_7 : tie.After-read-numbers-arg4 → tie.Start
+abbrev at_7 : tie.After-read_numbers-arg4 → tie.Start
 at_7 c = c.before.before.before.before.before.before.before.before.before.before.before.before.before.before.before.before
 
 -- the destination of the barriers is lent to no call before
-room-9 : tie.Need-read-bytes-requires
+room-9 : tie.Need-read_bytes-requires
 room-9 c κs = (at_7 c.before.before.before.before).requires.3.1.1.1.1.0
 
 pub fill_spec : {M : Type 1} → statement M
@@ -72,13 +72,13 @@ fill_spec =
     tie.close
     (tie.spec
     (λ c κs. search rules)
-    (λ c κs. let s = at-4 c in (enough c.before.value-of.ensures 4 s.args.m s.pre.2.0, s.pre.3.0))
+    (λ c κs. let s = at-4 c in (enough c.before.value_of.ensures 4 s.args.m s.pre.2.0, s.pre.3.0))
     (λ c κs. search rules)
-    (λ c κs. let s = at_5 c in (enough c.before.value-of2.ensures 4 s.args.m s.pre.2.1, s.pre.3.1.0))
+    (λ c κs. let s = at_5 c in (enough c.before.value_of2.ensures 4 s.args.m s.pre.2.1, s.pre.3.1.0))
     (λ c κs. search rules)
-    (λ c κs. let s = at-6 c in (enough c.before.value-of3.ensures 2 s.args.m s.pre.2.2, s.pre.3.1.1.0))
+    (λ c κs. let s = at-6 c in (enough c.before.value_of3.ensures 2 s.args.m s.pre.2.2, s.pre.3.1.1.0))
     (λ c κs. search rules)
-    (λ c κs. let s = at_7 c in (enough c.before.value-of4.ensures 2 s.args.m s.pre.2.3, s.pre.3.1.1.1.0))
+    (λ c κs. let s = at_7 c in (enough c.before.value_of4.ensures 2 s.args.m s.pre.2.3, s.pre.3.1.1.1.0))
     (λ c κs. ((at_7 c.before.before).requires.0, lit≤ tt, lit≤ tt))
     room-9
     (λ c. search rules)

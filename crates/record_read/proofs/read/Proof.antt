@@ -31,16 +31,16 @@ shortest c =
     c.min4.ensures ∙ ap (λ n. min n o) (m.min3.ensures ∙ ap₂ min m.before.before.min.ensures m.before.min2.ensures)
 
 -- the record has passed every test
-passed : (c : tie.After-enum-told) → let x = c.before.before in Accepted (start x).args.rec.now x.examine.new.1.0 (x.before.before.min4.result ∷ [])
+passed : (c : tie.After-enum_told) → let x = c.before.before in Accepted (start x).args.rec.now x.examine.new.1.0 (x.before.before.min4.result ∷ [])
 passed c =
     let x = c.before.before in
     subst (λ r. Examined (start x).args.rec.now (x.before.before.min4.result ∷ []) r x.examine.new.1.0) c.enum_told.given.1 x.examine.ensures
 
 -- the parameters read are the state's
-cells_are : (c : tie.After-parameters-in) → let x = c.before.before.before.before in cells (state_read (start x).args.rec.now) ≡ c.parameters-in.result.w * c.parameters-in.result.n
-cells_are c = sym (ap (λ (p : Parameters). p.w * p.n) c.parameters-in.ensures)
+cells_are : (c : tie.After-parameters_in) → let x = c.before.before.before.before in cells (state_read (start x).args.rec.now) ≡ c.parameters_in.result.w * c.parameters_in.result.n
+cells_are c = sym (ap (λ (p : Parameters). p.w * p.n) c.parameters_in.ensures)
 
-most : (c : tie.After-parameters-in) → c.parameters-in.result.w * c.parameters-in.result.n ≤ 4096
+most : (c : tie.After-parameters_in) → c.parameters_in.result.w * c.parameters_in.result.n ≤ 4096
 most c = omega (arith, cells_are c, cells-most (passed c.before.before))
 
 fill-requires : tie.Need-fill-requires
@@ -59,7 +59,7 @@ returns c =
     let l = m.before.before.before.before.before.before in
     let s = l.before.before.before.before.before.before in
     let t = f.before.before.before.before.before.before.before.before in
-    read_done s.args.rec.now (lent s) (shortest l) (passed m.before.before) m.parameters-in.ensures t.timestamp-in.ensures f.fill.ensures
+    read_done s.args.rec.now (lent s) (shortest l) (passed m.before.before) m.parameters_in.ensures t.timestamp_in.ensures f.fill.ensures
 
 returns-2 : tie.Need-returns-2
 returns-2 c =

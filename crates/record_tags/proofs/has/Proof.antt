@@ -8,5 +8,5 @@ use Rattle.record_tags.proofs.has.Tie as tie
 returns : tie.Need-returns
 returns c = let s = c.before in sym (s.requires.0.seen.found s.args.tag (let h = s.requires.2 in omega arith))
 
-pub has-spec : {M : Type 1} → statement M
-has-spec = tie.close (tie.spec (λ c. search rules) (λ c. search rules) returns)
+pub has_spec : {M : Type 1} → statement M
+has_spec = tie.close (tie.spec (λ c. search rules) (λ c. search rules) returns)

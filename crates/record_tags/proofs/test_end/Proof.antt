@@ -15,8 +15,8 @@ decreases-loop rec at tag₀ tag = last_required + 1 - tag
 returns : tie.Need-returns invariant-loop decreases-loop
 returns c parts s = let l = c.before.before.before in incomplete s l.loop.tag l.loop.invariant.some c.before.before.loop-test.true c.if1.true
 
-pub test-end-spec : {M : Type 1} → statement M
-test-end-spec =
+pub test_end_spec : {M : Type 1} → statement M
+test_end_spec =
     tie.close
     (tie.spec
     invariant-loop

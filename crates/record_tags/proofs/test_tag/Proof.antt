@@ -96,14 +96,14 @@ returns-5 c parts s =
     let z = c.before in
     let t = tagged z.before.before.before in
     let b = t.bytes in
-    past t parts s z.size-at.result z.size-at.ensures.0 (omega arith)
+    past t parts s z.size_at.result z.size_at.ensures.0 (omega arith)
 
 returns-6 : tie.Need-returns-6
 returns-6 c parts s =
     let r = c.before in
     let z = r.before.before in
-    wrong (tagged z.before.before.before) parts s z.size-at.result z.size-at.ensures.0
-    (sym r.right-size.ensures ∙ not-true r.right-size.result c.if6.true)
+    wrong (tagged z.before.before.before) parts s z.size_at.result z.size_at.ensures.0
+    (sym r.right_size.ensures ∙ not-true r.right_size.result c.if6.true)
 
 returns-7 : tie.Need-returns-7
 returns-7 c parts s =
@@ -112,11 +112,11 @@ returns-7 c parts s =
     let z = f.before in
     let t = tagged z.before.before.before in
     let b = t.bytes in
-    sound t parts s z.size-at.result z.size-at.ensures.0 z.before.if4.false (omega arith)
-    (sym r.right-size.ensures ∙ not-false r.right-size.result c.if6.false)
+    sound t parts s z.size_at.result z.size_at.ensures.0 z.before.if4.false (omega arith)
+    (sym r.right_size.ensures ∙ not-false r.right_size.result c.if6.false)
 
-pub test-tag-spec : {M : Type 1} → statement M
-test-tag-spec =
+pub test_tag_spec : {M : Type 1} → statement M
+test_tag_spec =
     tie.close
     (tie.spec
     (λ c. search rules)

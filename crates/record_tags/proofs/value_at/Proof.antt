@@ -11,13 +11,13 @@ returns : tie.Need-returns
 returns c =
     let s = c.before.before.before in
     let a = s.args in
-    ap (λ n. take n (drop (a.k + 3) a.rec.now)) (same (a.k + 3) c.before.size-at.result ∙ c.before.size-at.ensures.0)
+    ap (λ n. take n (drop (a.k + 3) a.rec.now)) (same (a.k + 3) c.before.size_at.result ∙ c.before.size_at.ensures.0)
   where
     same : (k n : ℕ) → k + n - k ≡ n
     same k n = omega arith
 
-pub value-at-spec : {M : Type 1} → statement M
-value-at-spec =
+pub value_at_spec : {M : Type 1} → statement M
+value_at_spec =
     tie.close
     (tie.spec
     (λ c. search rules)

@@ -19,8 +19,8 @@ stands s l = s.requires.0.seen.stands s.args.tag (placed s) l
 returns : tie.Need-returns
 returns c = let s = c.before.before.before.before in no_value s.requires.0 s.requires.1 (placed s) c.before.if1.true
 
-pub value-of-spec : {M : Type 1} → statement M
-value-of-spec =
+pub value_of_spec : {M : Type 1} → statement M
+value_of_spec =
     tie.close
     (tie.spec
     (λ c. search rules)
@@ -30,4 +30,4 @@ value-of-spec =
     (λ c. search rules)
     returns
     (λ c κs. (stands c.before.before.before c.if1.false).inside)
-    (λ c. is-value (stands c.before.before.before.before c.before.if1.false) c.value-at.ensures))
+    (λ c. is-value (stands c.before.before.before.before c.before.if1.false) c.value_at.ensures))

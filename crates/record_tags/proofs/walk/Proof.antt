@@ -19,15 +19,15 @@ abbrev decreases-loop : tie.decreases-loop
 decreases-loop rec at₀ k₀ at k = length rec - k
 
 -- the tests at the tag have passed
-passed : (c : tie.After-enum-told invariant-loop decreases-loop)
+passed : (c : tie.After-enum_told invariant-loop decreases-loop)
     → let l = c.before.before.before.before.before in tag_test l.before.before.args.rec.now l.loop.k l.loop.invariant.parts ≡ none
 passed c =
     let t = c.before.before in
     let i = t.before.before in
     let w = i.before.loop.invariant in
-    walking-accepted w i.loop-test.true (t.test-tag.ensures w.parts w.seen) c.enum_told.given.1
+    walking-accepted w i.loop-test.true (t.test_tag.ensures w.parts w.seen) c.enum_told.given.1
 
-sound : (c : tie.After-enum-told invariant-loop decreases-loop)
+sound : (c : tie.After-enum_told invariant-loop decreases-loop)
     → let l = c.before.before.before.before.before in Sound l.before.before.args.rec.now l.loop.k l.loop.invariant.parts
 sound c =
     let l = c.before.before.before.before.before in
@@ -40,16 +40,16 @@ tag-most c =
     let i = e.before.before.before.before in
     omega (arith, c.index.ensures.0, tag-room i.before.loop.invariant i.loop-test.true (sound e).tag)
 
-next-most : (c : tie.After-size-at invariant-loop decreases-loop)
-    → let l = c.before.before.before.before.before.before.before.before in l.loop.k + 3 + c.size-at.result ≤ length l.before.before.args.rec.now
-next-most c = omega (arith, c.size-at.ensures.0, (sound c.before.before.before).room)
+next-most : (c : tie.After-size_at invariant-loop decreases-loop)
+    → let l = c.before.before.before.before.before.before.before.before in l.loop.k + 3 + c.size_at.result ≤ length l.before.before.args.rec.now
+next-most c = omega (arith, c.size_at.ensures.0, (sound c.before.before.before).room)
 
 returns : tie.Need-returns invariant-loop decreases-loop
 returns c =
     let t = c.before.before in
     let i = t.before.before in
     let w = i.before.loop.invariant in
-    walking-refused w i.loop-test.true (t.test-tag.ensures w.parts w.seen) c.enum-told2.given.1
+    walking-refused w i.loop-test.true (t.test_tag.ensures w.parts w.seen) c.enum_told2.given.1
 
 loop-again : tie.Need-loop-preserved invariant-loop decreases-loop
 loop-again c =
@@ -58,18 +58,18 @@ loop-again c =
     let i = e.before.before.before.before in
     let l = i.before in
     let r = l.before.before.args.rec.now in
-    subst (λ t. Walking r (set l.loop.at t l.loop.k) (l.loop.k + 3 + c.size-at.result)) (sym x.index.ensures.0)
-    (subst (λ n. Walking r (set l.loop.at (tag_at r l.loop.k) l.loop.k) (l.loop.k + 3 + n)) (sym c.size-at.ensures.0)
+    subst (λ t. Walking r (set l.loop.at t l.loop.k) (l.loop.k + 3 + c.size_at.result)) (sym x.index.ensures.0)
+    (subst (λ n. Walking r (set l.loop.at (tag_at r l.loop.k) l.loop.k) (l.loop.k + 3 + n)) (sym c.size_at.ensures.0)
     (walking-more l.loop.invariant i.loop-test.true (passed e)))
 
 returns-2 : tie.Need-returns-2 invariant-loop decreases-loop
 returns-2 c =
     let e = c.before.before in
     let w = e.before.loop.invariant in
-    walking-ended w e.loop-test.false (c.test-end.ensures w.parts w.seen)
+    walking-ended w e.loop-test.false (c.test_end.ensures w.parts w.seen)
 
-pub walk-spec : {M : Type 1} → statement M
-walk-spec =
+pub walk_spec : {M : Type 1} → statement M
+walk_spec =
     tie.close
     (tie.spec
     invariant-loop

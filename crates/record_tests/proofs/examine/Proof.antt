@@ -8,20 +8,20 @@ use Rattle.record_tests.proofs.examine.Statement.{statement}
 use Rattle.record_tests.proofs.examine.Tie as tie
 
 -- test 7 has passed: the tags have their places
-placed : (c : tie.After-enum-told) → let w = c.before.before in Placed w.before.before.before.args.rec.now w.walk.new.1.0
+placed : (c : tie.After-enum_told) → let w = c.before.before in Placed w.before.before.before.args.rec.now w.walk.new.1.0
 placed c = let w = c.before.before in subst (λ r. Found w.before.before.before.args.rec.now r w.walk.new.1.0) c.enum_told.given.1 w.walk.ensures
 
 returns : tie.Need-returns
 returns c =
     let w = c.before.before in
     let a = w.before.before.before.args in
-    examined-damaged a.rec.now (a.room ∷ []) w.walk.new.1.0 w.walk.result w.walk.ensures c.enum-told2.given.1
+    examined-damaged a.rec.now (a.room ∷ []) w.walk.new.1.0 w.walk.result w.walk.ensures c.enum_told2.given.1
 
 returns-2 : tie.Need-returns-2
 returns-2 c =
     let e = c.before.before in
     let a = e.before.before.before.before.before.args in
-    examined a.rec.now (a.room ∷ []) c.test-record.result (placed e) c.test-record.ensures
+    examined a.rec.now (a.room ∷ []) c.test_record.result (placed e) c.test_record.ensures
 
-pub examine-spec : {M : Type 1} → statement M
-examine-spec = tie.close (tie.spec (λ c κs. search rules) (λ c. search rules) (λ c. search rules) returns (λ c κs. placed c.before) returns-2)
+pub examine_spec : {M : Type 1} → statement M
+examine_spec = tie.close (tie.spec (λ c κs. search rules) (λ c. search rules) (λ c. search rules) returns (λ c κs. placed c.before) returns-2)

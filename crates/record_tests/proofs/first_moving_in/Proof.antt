@@ -83,14 +83,14 @@ bad-is : (c : tie.In-loop invariant-loop decreases-loop invariant-scan decreases
 bad-is c = by_index (moving_at (edges c) (start c).args.edge (get_or (numbers c) (index c) (pos 0))) c.before.before.before.scan.j c.loop-test.true
 
 -- what the calls tell of it: whether the edge is closed, and whether the number there is 0
-abbrev turn : tie.After-is-closed invariant-loop decreases-loop invariant-scan decreases-scan → tie.In-loop invariant-loop decreases-loop invariant-scan decreases-scan
+abbrev turn : tie.After-is_closed invariant-loop decreases-loop invariant-scan decreases-scan → tie.In-loop invariant-loop decreases-loop invariant-scan decreases-scan
 turn c = c.before.before.before
 
-told : (c : tie.After-is-closed invariant-loop decreases-loop invariant-scan decreases-scan)
-    → let i = turn c in c.is-closed.result ≡ closed_at (edges i) (start i).args.edge i.before.loop.i i.before.before.before.scan.j
-told c = c.is-closed.ensures (edges (turn c)) refl (sym c.before.barrier-at.ensures)
+told : (c : tie.After-is_closed invariant-loop decreases-loop invariant-scan decreases-scan)
+    → let i = turn c in c.is_closed.result ≡ closed_at (edges i) (start i).args.edge i.before.loop.i i.before.before.before.scan.j
+told c = c.is_closed.ensures (edges (turn c)) refl (sym c.before.barrier_at.ensures)
 
-number : (c : tie.After-number-at invariant-loop decreases-loop invariant-scan decreases-scan) → let i = turn c.before.before in c.number_at.result ≡ get_or (numbers i) (index i) (pos 0)
+number : (c : tie.After-number_at invariant-loop decreases-loop invariant-scan decreases-scan) → let i = turn c.before.before in c.number_at.result ≡ get_or (numbers i) (index i) (pos 0)
 number c =
     let i = turn c.before.before in
     let a = (start i).args in
@@ -98,9 +98,9 @@ number c =
     ∙ ap (λ n. signed_by a.size (take (size_of a.size) (drop (index i * n) a.value.now))) i.before.before.before.before.bytes_of.ensures
     ∙ sym (number_is a.size (a.p.w * a.p.n) a.value.now (index i) (below i))
 
-zero : (c : tie.After-number-at invariant-loop decreases-loop invariant-scan decreases-scan)
+zero : (c : tie.After-number_at invariant-loop decreases-loop invariant-scan decreases-scan)
     → let i = turn c.before.before in eqb (of_z w64 c.number_at.result) 0 ≡ eqℤ (get_or (numbers i) (index i) (pos 0)) (pos 0)
-zero c = zero_bits c.number_at.result (record { sfits = c.number_at.type-inv }) ∙ ap (λ x. eqℤ x (pos 0)) (number c)
+zero c = zero_bits c.number_at.result (record { sfits = c.number_at.type_inv }) ∙ ap (λ x. eqℤ x (pos 0)) (number c)
 
 -- an open edge, or a velocity of 0
 still : (c : tie.Joined1 invariant-loop decreases-loop invariant-scan decreases-scan) → bad (turn c.before) ≡ false
@@ -111,7 +111,7 @@ still c =
     bad-is i
     ∙ ⊎_elim
     (λ w.
-    let n : tie.After-number-at invariant-loop decreases-loop invariant-scan decreases-scan = record { before = record { before = k; if1 = w.0 }; number_at = w.1 } in
+    let n : tie.After-number_at invariant-loop decreases-loop invariant-scan decreases-scan = record { before = record { before = k; if1 = w.0 }; number_at = w.1 } in
     ap (λ z. closed && not z) (sym (zero n) ∙ ap (λ x. eqb x 0) w.2.left) ∙ and-false closed)
     (λ w. ap (λ t. t && not (eqℤ (get_or (numbers i) (index i) (pos 0)) (pos 0))) (sym (told k) ∙ w.left))
     c.if1.branch
@@ -149,8 +149,8 @@ returns-2 c =
     let i = turn c.before.before.before in
     sym (ap found_by (scanned-bad i.before.loop.inv.2 (below i) (moving c)))
 
-pub first-moving-in-spec : {M : Type 1} → statement M
-first-moving-in-spec =
+pub first_moving_in_spec : {M : Type 1} → statement M
+first_moving_in_spec =
     tie.close
     (tie.spec
     invariant-loop

@@ -49,7 +49,7 @@ told c =
     let k = i.before.loop.k in
     c.within.ensures
     ∙ ap (λ (z : ℤ). within (between a.l) z)
-    (held-is w64 x.number_at.type-inv
+    (held-is w64 x.number_at.type_inv
     (x.number_at.ensures
     ∙ ap (λ n. signed_by a.size (take (size_of a.size) (drop (k * n) a.value.now))) i.before.before.bytes_of.ensures
     ∙ sym (number_is a.size a.m a.value.now k (below i))))
@@ -69,8 +69,8 @@ loop-again c =
 returns-2 : tie.Need-returns-2 invariant-loop decreases-loop
 returns-2 c = sym (ap found_by (scanned-all c.before.loop.invariant c.loop-test.false))
 
-pub first-outside-in-spec : {M : Type 1} → statement M
-first-outside-in-spec =
+pub first_outside_in_spec : {M : Type 1} → statement M
+first_outside_in_spec =
     tie.close
     (tie.spec
     invariant-loop

@@ -22,9 +22,9 @@ use Rattle.record_tests.proofs.test_record.Statement.{statement}
 use Rattle.record_tests.proofs.test_record.Tie as tie
 
 -- what was read: the parameters, the fields and the state that they mean
-module _ (c : tie.After-cells-of) where
+module _ (c : tie.After-cells_of) where
   abbrev read : Parameters
-  read = c.before.parameters-in.result
+  read = c.before.parameters_in.result
 
   abbrev parts : List Part
   parts = parts_in c.before.before.before.args.rec.now
@@ -33,7 +33,7 @@ module _ (c : tie.After-cells-of) where
   state = state_read c.before.before.before.args.rec.now
 
   meant : Meant c.before.before.before.args.rec.now c.before.before.before.args.at.now read
-  meant = record { placed = c.before.before.before.requires; parameters = c.before.parameters-in.ensures }
+  meant = record { placed = c.before.before.before.requires; parameters = c.before.parameters_in.ensures }
 
   -- no tag is missing
   full : Missing parts → ⊥
@@ -46,38 +46,38 @@ module _ (c : tie.After-cells-of) where
       ∷ (bytes_tests (p.w * p.n) parts tag_table ++ (room_tests (p.w * p.n) (c.before.before.before.args.room ∷ []) ++ (constants_test p ∷ time_test t ∷ [])))
 
 -- the chain so far
-grid : (c : tie.After-then-grid) → Chain Accepted c.then-grid.result (grid_test (read c.before) ∷ [])
-grid c = start Accepted _ c.then-grid.ensures
+grid : (c : tie.After-then_grid) → Chain Accepted c.then_grid.result (grid_test (read c.before) ∷ [])
+grid c = start Accepted _ c.then_grid.ensures
 
-bytes : (c : tie.After-then-values) → let p = read c.before.before in Chain Accepted c.then-values.result (grid_test p ∷ bytes_tests (p.w * p.n) (parts c.before.before) tag_table)
+bytes : (c : tie.After-then_values) → let p = read c.before.before in Chain Accepted c.then_values.result (grid_test p ∷ bytes_tests (p.w * p.n) (parts c.before.before) tag_table)
 bytes c =
     let g = c.before in
     let m = g.before in
-    counted (λ k. bytes_tests k (parts m) tag_table) (grid g) (λ h. m.cells_of.ensures.0 (passed (grid g) h).0) c.then-values.ensures
+    counted (λ k. bytes_tests k (parts m) tag_table) (grid g) (λ h. m.cells_of.ensures.0 (passed (grid g) h).0) c.then_values.ensures
 
-rooms : (c : tie.After-then-room)
+rooms : (c : tie.After-then_room)
     → let m = c.before.before.before in
     let p = read m in
-    Chain Accepted c.then-room.result (grid_test p ∷ (bytes_tests (p.w * p.n) (parts m) tag_table ++ room_tests (p.w * p.n) (m.before.before.before.args.room ∷ [])))
+    Chain Accepted c.then_room.result (grid_test p ∷ (bytes_tests (p.w * p.n) (parts m) tag_table ++ room_tests (p.w * p.n) (m.before.before.before.args.room ∷ [])))
 rooms c =
     let b = c.before in
     let m = b.before.before in
-    counted (λ k. room_tests k (m.before.before.before.args.room ∷ [])) (bytes b) (λ h. m.cells_of.ensures.0 (passed (bytes b) h).0) c.then-room.ensures
+    counted (λ k. room_tests k (m.before.before.before.args.room ∷ [])) (bytes b) (λ h. m.cells_of.ensures.0 (passed (bytes b) h).0) c.then_room.ensures
 
-constants : (c : tie.After-then-constants)
+constants : (c : tie.After-then_constants)
     → let m = c.before.before.before.before in
     let p = read m in
-    Chain Accepted c.then-constants.result (grid_test p ∷ (bytes_tests (p.w * p.n) (parts m) tag_table ++ (room_tests (p.w * p.n) (m.before.before.before.args.room ∷ []) ++ (constants_test p ∷ []))))
-constants c = more (constants_test (read c.before.before.before.before) ∷ []) (rooms c.before) c.then-constants.ensures
+    Chain Accepted c.then_constants.result (grid_test p ∷ (bytes_tests (p.w * p.n) (parts m) tag_table ++ (room_tests (p.w * p.n) (m.before.before.before.args.room ∷ []) ++ (constants_test p ∷ []))))
+constants c = more (constants_test (read c.before.before.before.before) ∷ []) (rooms c.before) c.then_constants.ensures
 
-time : (c : tie.After-then-time)
-    → let x = c.before in let m = x.before.before.before.before.before in Chain Accepted c.then-time.result (so_far m (read m) x.timestamp-in.result)
-time c = let x = c.before in more (time_test x.timestamp-in.result ∷ []) (constants x.before) c.then-time.ensures
+time : (c : tie.After-then_time)
+    → let x = c.before in let m = x.before.before.before.before.before in Chain Accepted c.then_time.result (so_far m (read m) x.timestamp_in.result)
+time c = let x = c.before in more (time_test x.timestamp_in.result ∷ []) (constants x.before) c.then_time.ensures
 
-values : (c : tie.After-then-fields-in)
+values : (c : tie.After-then_fields_in)
     → let x = c.before.before in
-    let m = x.before.before.before.before.before in Chain Accepted c.then-fields-in.result (so_far m (read m) x.timestamp-in.result ++ value_tests Value (fields_of (state m)))
-values c = more (value_tests Value (fields_of (state c.before.before.before.before.before.before.before))) (time c.before) c.then-fields-in.ensures
+    let m = x.before.before.before.before.before in Chain Accepted c.then_fields_in.result (so_far m (read m) x.timestamp_in.result ++ value_tests Value (fields_of (state m)))
+values c = more (value_tests Value (fields_of (state c.before.before.before.before.before.before.before))) (time c.before) c.then_fields_in.ensures
 
 -- the parameters read are the state's, and the timestamp is the record's
 returns : tie.Need-returns
@@ -86,11 +86,11 @@ returns c =
     let x = c.before.before.before in
     let m = x.before.before.before.before.before in
     let s = state m in
-    (more (edge_tests s) (values c.before) c.then-edges-in.ensures).is
-    ∙ ap₂ (λ p t. after Accepted (so_far m p t ++ (value_tests Value (fields_of s) ++ edge_tests s))) (meant m).parameters x.timestamp-in.ensures
+    (more (edge_tests s) (values c.before) c.then_edges_in.ensures).is
+    ∙ ap₂ (λ p t. after Accepted (so_far m p t ++ (value_tests Value (fields_of s) ++ edge_tests s))) (meant m).parameters x.timestamp_in.ensures
 
-pub test-record-spec : {M : Type 1} → statement M
-test-record-spec =
+pub test_record_spec : {M : Type 1} → statement M
+test_record_spec =
     tie.close
     (tie.spec
     (λ c κs. search rules)

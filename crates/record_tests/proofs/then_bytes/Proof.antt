@@ -30,10 +30,10 @@ there c = sym (not-false c.before.has.result c.if1.false) ∙ c.before.has.ensur
 
 -- the table's size of the tag
 row : (c : tie.After-k) → PerCell c.k.given.0.0 ≡ tag_size_of (size_in tag_table c.before.before.before.before.before.before.before.args.tag)
-row c = sym c.k.given.1 ∙ c.before.before.tag-size.ensures
+row c = sym c.k.given.1 ∙ c.before.before.tag_size.ensures
 
-mul-then-length : tie.Need-overflow-mul-then-length
-mul-then-length c =
+mul-then_length : tie.Need-overflow_mul-then_length
+mul-then_length c =
     let k = c.before in
     let s = k.before.before.before.before.before.before.before in
     record { fits = lt_of_le_of_lt (mul-le-mul (cells-few s.args.tag (row k)) s.requires.3) (lit< tt) }
@@ -52,7 +52,7 @@ fixed c =
     let s = e.before.before.before in
     let a = s.args in
     sym (after_none a.earlier)
-    ∙ ap (after a.earlier) (sym (fixed-untested a.m (value_of a.tag (parts_in a.rec.now)) (size_in tag_table a.tag) (sym c.enum_told.given.1 ∙ t.tag-size.ensures)))
+    ∙ ap (after a.earlier) (sym (fixed-untested a.m (value_of a.tag (parts_in a.rec.now)) (size_in tag_table a.tag) (sym c.enum_told.given.1 ∙ t.tag_size.ensures)))
     ∙ ap (λ b. after a.earlier (tested s b)) (there e)
 
 by-cells : tie.Need-returns-3
@@ -61,13 +61,13 @@ by-cells c =
     let v = k.before.before.before in
     let s = v.before.before.before.before in
     let a = s.args in
-    c.then-length.ensures
-    ∙ ap (λ l. after a.earlier (length_test (k.k.given.0.0 * a.m) (length l) ∷ [])) v.value-of.ensures.is
+    c.then_length.ensures
+    ∙ ap (λ l. after a.earlier (length_test (k.k.given.0.0 * a.m) (length l) ∷ [])) v.value_of.ensures.is
     ∙ ap (after a.earlier) (sym (cells-tested a.m (value_of a.tag (parts_in a.rec.now)) (size_in tag_table a.tag) (row k)))
     ∙ ap (λ b. after a.earlier (tested s b)) (there v.before)
 
-pub then-bytes-spec : {M : Type 1} → statement M
-then-bytes-spec =
+pub then_bytes_spec : {M : Type 1} → statement M
+then_bytes_spec =
     tie.close
     (tie.spec
     (λ c κs. search rules)
@@ -76,7 +76,7 @@ then-bytes-spec =
     (λ c κs. search rules)
     (λ c. search rules)
     (λ c. search rules)
-    mul-then-length
+    mul-then_length
     (λ c κs. search rules)
     fixed
     by-cells)

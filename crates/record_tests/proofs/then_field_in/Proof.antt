@@ -17,8 +17,8 @@ returns c =
     let l = c.before in
     let a = l.before.before.args in
     let m = a.p.w * a.p.n in
-    c.then-within-in.ensures
+    c.then_within_in.ensures
     ∙ ap (λ (x : Limits). after a.earlier (value_test Value (record { field = a.field; count = m; limits = x; numbers = numbers_by a.size m a.value.now }) ∷ [])) l.limits.ensures
 
-pub then-field-in-spec : {M : Type 1} → statement M
-then-field-in-spec = tie.close (tie.spec (λ c κs. search rules) (λ c κs. c.before.before.requires) returns)
+pub then_field_in_spec : {M : Type 1} → statement M
+then_field_in_spec = tie.close (tie.spec (λ c κs. search rules) (λ c κs. c.before.before.requires) returns)

@@ -14,15 +14,15 @@ returns-2 c =
     let e = b.before in
     let a = e.before.before.before.before.args in
     let m = a.p.w * a.p.n in
-    sought (bad_in (moving_at (edges_of a.p a.barriers.now) a.edge) a.p.w (numbers_by a.size m a.value.now)) m (ClosedEdge a.field) e.enum_told.given.1 b.first-moving-in.ensures c.edge-answer.ensures
+    sought (bad_in (moving_at (edges_of a.p a.barriers.now) a.edge) a.p.w (numbers_by a.size m a.value.now)) m (ClosedEdge a.field) e.enum_told.given.1 b.first_moving_in.ensures c.edge_answer.ensures
 
-pub then-still-in-spec : {M : Type 1} → statement M
-then-still-in-spec =
+pub then_still_in_spec : {M : Type 1} → statement M
+then_still_in_spec =
     tie.close
     (tie.spec
     (λ c. search rules)
     (λ c. search rules)
-    (λ c. rw c.enum-told2.given.1)
+    (λ c. rw c.enum_told2.given.1)
     (λ c κs. c.before.before.before.before.requires c.enum_told.given.1)
     (λ c κs. search rules)
     returns-2)

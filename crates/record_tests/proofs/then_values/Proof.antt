@@ -17,8 +17,8 @@ invariant-loop rec at m earlier tag₀ answer tag = (1 ≤ tag) × (tag ≤ last
 abbrev decreases-loop : tie.decreases-loop
 decreases-loop rec at m earlier tag₀ answer tag = last_tag + 1 - tag
 
-then-bytes-requires : tie.Need-then-bytes-requires invariant-loop decreases-loop
-then-bytes-requires c κs = let l = c.before in let s = l.before.before in (s.requires.0, l.loop.invariant.0, c.loop-test.true, s.requires.1)
+then_bytes-requires : tie.Need-then_bytes-requires invariant-loop decreases-loop
+then_bytes-requires c κs = let l = c.before in let s = l.before.before in (s.requires.0, l.loop.invariant.0, c.loop-test.true, s.requires.1)
 
 loop-again : tie.Need-loop-preserved invariant-loop decreases-loop
 loop-again c =
@@ -30,9 +30,9 @@ loop-again c =
     let e : t ≡ t + 1 - 1 = omega arith in (
       omega arith,
       omega (arith, i.loop-test.true),
-      subst (λ k. Chain a.earlier c.then-bytes.result (bytes_tests a.m parts (take k tag_table))) e
-          (subst (Chain a.earlier c.then-bytes.result) (row_more a.m parts t l.loop.invariant.0 i.loop-test.true)
-          (more (bytes_test a.m (has t parts) (value_of t parts) (size_in tag_table t)) l.loop.invariant.2 c.then-bytes.ensures)),
+      subst (λ k. Chain a.earlier c.then_bytes.result (bytes_tests a.m parts (take k tag_table))) e
+          (subst (Chain a.earlier c.then_bytes.result) (row_more a.m parts t l.loop.invariant.0 i.loop-test.true)
+          (more (bytes_test a.m (has t parts) (value_of t parts) (size_in tag_table t)) l.loop.invariant.2 c.then_bytes.ensures)),
     )
 
 returns : tie.Need-returns invariant-loop decreases-loop
@@ -42,14 +42,14 @@ returns c =
     let e : l.loop.tag ≡ last_tag + 1 = omega (arith, c.loop-test.false, l.loop.invariant.1) in
     (subst (λ t. Chain a.earlier l.loop.answer (bytes_tests a.m (parts_in a.rec.now) (take (t - 1) tag_table))) e l.loop.invariant.2).is
 
-pub then-values-spec : {M : Type 1} → statement M
-then-values-spec =
+pub then_values_spec : {M : Type 1} → statement M
+then_values_spec =
     tie.close
     (tie.spec
     invariant-loop
     decreases-loop
     (λ c. let a = c.before.args in (omega arith, omega arith, start a.earlier [] (sym (after_none a.earlier))))
-    then-bytes-requires
+    then_bytes-requires
     (λ c. omega arith)
     (λ c. omega arith)
     loop-again

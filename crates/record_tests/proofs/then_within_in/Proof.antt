@@ -12,7 +12,7 @@ use Rattle.record_tests.proofs.then_within_in.Statement.{statement}
 use Rattle.record_tests.proofs.then_within_in.Tie as tie
 
 -- the value has a byte for each cell at least
-few : (c : tie.After-enum-told) → let a = c.before.before.before.args in a.p.w * a.p.n ≤ length a.value.now
+few : (c : tie.After-enum_told) → let a = c.before.before.before.args in a.p.w * a.p.n ≤ length a.value.now
 few c =
     let b = c.before.before.before in
     let a = b.args in
@@ -24,15 +24,15 @@ returns-2 c =
     let e = b.before.before in
     let a = e.before.before.before.args in
     let m = a.p.w * a.p.n in
-    sought (outside_in a.limits (numbers_by a.size m a.value.now)) m (Value a.field) e.enum_told.given.1 b.first-outside-in.ensures c.value-answer.ensures
+    sought (outside_in a.limits (numbers_by a.size m a.value.now)) m (Value a.field) e.enum_told.given.1 b.first_outside_in.ensures c.value_answer.ensures
 
-pub then-within-in-spec : {M : Type 1} → statement M
-then-within-in-spec =
+pub then_within_in_spec : {M : Type 1} → statement M
+then_within_in_spec =
     tie.close
     (tie.spec
     (λ c. search rules)
     (λ c. search rules)
-    (λ c. rw c.enum-told2.given.1)
+    (λ c. rw c.enum_told2.given.1)
     (λ c. omega (arith, few c.before))
     (λ c κs. c.before.before.before.before.requires c.before.enum_told.given.1)
     (λ c κs. search rules)

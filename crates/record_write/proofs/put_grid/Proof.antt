@@ -10,10 +10,10 @@ returns : tie.Need-returns
 returns c =
     let h = c.before.before.before.before in
     let p = h.before.before.before.args.p in
-    field_put 1 refl h.put-head.ensures (three-put h.put-head.new.0 h.put-head.result p.w p.n p.kind)
+    field_put 1 refl h.put_head.ensures (three-put h.put_head.new.0 h.put_head.result p.w p.n p.kind)
 
-pub put-grid-spec : {M : Type 1} → statement M
-put-grid-spec =
+pub put_grid_spec : {M : Type 1} → statement M
+put_grid_spec =
     tie.close
     (tie.spec
     (λ c κs. search rules)

@@ -10,7 +10,7 @@ use Rattle.record_write.proofs.put_scalars.Statement.{statement}
 use Rattle.record_write.proofs.put_scalars.Tie as tie
 
 -- the array that is lent holds the constants
-constants : (c : tie.After-struct-told)
+constants : (c : tie.After-struct_told)
     → let p = c.before.before.before.before.before.before.before.args.p in held w64 p.g ∷ held w64 p.c ∷ held w64 p.r ∷ [] ≡ p.g ∷ p.c ∷ p.r ∷ []
 constants c =
     let t = c.struct_told.given.1.1.1 in
@@ -21,8 +21,8 @@ returns c =
     let t = c.before.before in
     let f = t.before.before.before.before in
     let g = f.before.before.before.before.before.before in
-    let put = subst (λ l. Puts g.put-grid.new.0 g.put-grid.result (constants_of l) f.put-field.result f.put-field.new.0) (constants f.before.before) f.put-field.ensures in
-    puts_then g.put-grid.ensures (puts_then put t.put-unsigned-field.ensures)
+    let put = subst (λ l. Puts g.put-grid.new.0 g.put-grid.result (constants_of l) f.put_field.result f.put_field.new.0) (constants f.before.before) f.put_field.ensures in
+    puts_then g.put-grid.ensures (puts_then put t.put_unsigned_field.ensures)
 
-pub put-scalars-spec : {M : Type 1} → statement M
-put-scalars-spec = tie.close (tie.spec (λ c κs. search rules) (λ c. search rules) (λ c κs. search rules) (λ c κs. search rules) (λ c. search rules) returns)
+pub put_scalars_spec : {M : Type 1} → statement M
+put_scalars_spec = tie.close (tie.spec (λ c κs. search rules) (λ c. search rules) (λ c κs. search rules) (λ c κs. search rules) (λ c. search rules) returns)

@@ -13,18 +13,18 @@ use Rattle.record_write.proofs.put_unsigned_field.Tie as tie
 long : (s : tie.Start) → length (bytes s.args.count s.args.x) ≡ s.args.count
 long s = length-bytes s.args.count s.args.x
 
-put-unsigned-requires : tie.Need-put-unsigned-requires
-put-unsigned-requires c κs =
+put_unsigned-requires : tie.Need-put_unsigned-requires
+put_unsigned-requires c κs =
     let h = c.before.before.before in
     let s = h.before.before.before in
-    omega (arith, s.requires, long s, h.put-head.ensures.ends, h.put-head.auto.0)
+    omega (arith, s.requires, long s, h.put_head.ensures.ends, h.put_head.auto.0)
 
 returns : tie.Need-returns
 returns c =
     let u = c.before.before in
     let h = u.before.before.before.before in
     let s = h.before.before.before in
-    field_put s.args.tag (long s) h.put-head.ensures u.put-unsigned.ensures
+    field_put s.args.tag (long s) h.put_head.ensures u.put_unsigned.ensures
 
-pub put-unsigned-field-spec : {M : Type 1} → statement M
-put-unsigned-field-spec = tie.close (tie.spec (λ c κs. search rules) put-unsigned-requires (λ c. search rules) returns)
+pub put_unsigned_field_spec : {M : Type 1} → statement M
+put_unsigned_field_spec = tie.close (tie.spec (λ c κs. search rules) put_unsigned-requires (λ c. search rules) returns)

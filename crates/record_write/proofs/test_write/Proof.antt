@@ -11,22 +11,22 @@ use Rattle.tests.specs.Links.{Chain, start, more, counted, passed, outline_tests
 use Rattle.record_write.proofs.test_write.Statement.{statement}
 use Rattle.record_write.proofs.test_write.Tie as tie
 
-abbrev state : tie.After-shared-slice-known → State
+abbrev state : tie.After-shared_slice_known → State
 state c = let a = c.before.args in state_of a.p a.h.now a.b.now a.u.now a.v.now a.barriers.now
 
 -- the chain so far
-time : (c : tie.After-then-time) → let b = c.before.before in Chain Accepted c.then-time.result (outline_tests (state b) ++ (time_test b.before.args.timestamp ∷ []))
+time : (c : tie.After-then_time) → let b = c.before.before in Chain Accepted c.then_time.result (outline_tests (state b) ++ (time_test b.before.args.timestamp ∷ []))
 time c =
     let o = c.before in
-    more (time_test o.before.before.args.timestamp ∷ []) (start Accepted (outline_tests (state o.before)) o.test-outline.ensures) c.then-time.ensures
+    more (time_test o.before.before.args.timestamp ∷ []) (start Accepted (outline_tests (state o.before)) o.test_outline.ensures) c.then_time.ensures
 
-values : (c : tie.After-then-fields)
+values : (c : tie.After-then_fields)
     → let b = c.before.before.before in
-    let s = state b in Chain Accepted c.then-fields.result (outline_tests s ++ (time_test b.before.args.timestamp ∷ value_tests Value (fields_of s)))
-values c = more (value_tests Value (fields_of (state c.before.before.before))) (time c.before) c.then-fields.ensures
+    let s = state b in Chain Accepted c.then_fields.result (outline_tests s ++ (time_test b.before.args.timestamp ∷ value_tests Value (fields_of s)))
+values c = more (value_tests Value (fields_of (state c.before.before.before))) (time c.before) c.then_fields.ensures
 
-edges : (c : tie.After-then-edges) → let b = c.before.before.before.before in Chain Accepted c.then-edges.result (timed_tests (state b) b.before.args.timestamp)
-edges c = let s = state c.before.before.before.before in more (edge_tests s) (values c.before) (c.then-edges.ensures s.h s.b)
+edges : (c : tie.After-then_edges) → let b = c.before.before.before.before in Chain Accepted c.then_edges.result (timed_tests (state b) b.before.args.timestamp)
+edges c = let s = state c.before.before.before.before in more (edge_tests s) (values c.before) (c.then_edges.ensures s.h s.b)
 
 returns : tie.Need-returns
 unfolding write_test
@@ -34,10 +34,10 @@ returns c =
     let m = c.before in
     let e = m.before in
     let b = e.before.before.before.before in
-    (counted (λ k. room_tests (52 + 13 * k) (b.before.args.room ∷ [])) (edges e) (λ h. m.cells_of.ensures.0 (passed (edges e) h).0) c.then-room.ensures).is
+    (counted (λ k. room_tests (52 + 13 * k) (b.before.args.room ∷ [])) (edges e) (λ h. m.cells_of.ensures.0 (passed (edges e) h).0) c.then_room.ensures).is
 
-pub test-write-spec : {M : Type 1} → statement M
-test-write-spec =
+pub test_write_spec : {M : Type 1} → statement M
+test_write_spec =
     tie.close
     (tie.spec
     (λ c κs. search rules)

@@ -9,14 +9,14 @@ use Rattle.record_write.specs.WriteLaws.{write-ready, write-refused, write_done}
 use Rattle.record_write.proofs.write.Statement.{statement}
 use Rattle.record_write.proofs.write.Tie as tie
 
-abbrev state : tie.After-shared-slice-known → State
+abbrev state : tie.After-shared_slice_known → State
 state c = let a = c.before.args in state_of a.p a.h.now a.b.now a.u.now a.v.now a.barriers.now
 
-accepted : (c : tie.After-enum-told) → let b = c.before.before.before.before in Accepted ≡ answer_of (write_test (state b) b.before.args.timestamp (length b.before.args.d.now))
-accepted c = sym c.enum_told.given.1 ∙ c.before.before.test-write.ensures
+accepted : (c : tie.After-enum_told) → let b = c.before.before.before.before in Accepted ≡ answer_of (write_test (state b) b.before.args.timestamp (length b.before.args.d.now))
+accepted c = sym c.enum_told.given.1 ∙ c.before.before.test_write.ensures
 
-put-record-requires : tie.Need-put-record-requires
-put-record-requires c κs =
+put_record-requires : tie.Need-put_record-requires
+put_record-requires c κs =
     let e = c.before in
     let b = e.before.before.before.before in
     write-ready (state b) b.before.args.timestamp b.before.args.d.now (accepted e)
@@ -33,7 +33,7 @@ returns-2 c =
     let k = c.before in
     let t = k.before.before in
     let b = t.before.before in
-    write-refused (state b) b.before.args.timestamp b.before.args.d.now (sym k.refusal.given.1 ∙ t.test-write.ensures)
+    write-refused (state b) b.before.args.timestamp b.before.args.d.now (sym k.refusal.given.1 ∙ t.test_write.ensures)
 
 pub write_spec : {M : Type 1} → statement M
 write_spec =
@@ -41,7 +41,7 @@ write_spec =
     (tie.spec
     (λ c κs. search rules)
     (λ c. search rules)
-    put-record-requires
+    put_record-requires
     (λ c. search rules)
     (λ c. search rules)
     returns

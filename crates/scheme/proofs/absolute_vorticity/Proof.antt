@@ -30,8 +30,8 @@ other : tie.Need-returns-2
 other c =
     let o = c.before.before.before.before in rw o.if1.false (exact w64 absolute_vorticity (sizes o.before) tt)
 
-pub absolute-vorticity-spec : {M : Type 1} → statement M
-absolute-vorticity-spec =
+pub absolute_vorticity_spec : {M : Type 1} → statement M
+absolute_vorticity_spec =
     tie.close
     (tie.spec
     walled

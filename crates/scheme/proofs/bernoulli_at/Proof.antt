@@ -44,8 +44,8 @@ geopotential-requires c κs =
 returns : tie.Need-returns
 returns c = exact w64 sum (sizes c) tt ∙ rw (c.before.before.squares.ensures, c.before.squares2.ensures, third c)
 
-pub bernoulli-at-spec : {M : Type 1} → statement M
-bernoulli-at-spec =
+pub bernoulli_at_spec : {M : Type 1} → statement M
+bernoulli_at_spec =
     tie.close
     (tie.spec
     (λ c κs. let p = c.requires.1 in (reads p.us p.around.here, reads p.us p.around.east))

@@ -18,8 +18,8 @@ sizes c = c.requires.1 ◂ c.requires.0 ◂ c.requires.3 ◂ c.requires.2 ◂ �
 returns : tie.Need-returns
 returns c = exact w64 (con (pos 0) ⊖ out) (sizes c.before.before.before.before.before.before) tt ∙ +ℤ_idl _
 
-pub convergence-spec : {M : Type 1} → statement M
-convergence-spec =
+pub convergence_spec : {M : Type 1} → statement M
+convergence_spec =
     tie.close
     (tie.spec
     (λ c. fits (var 0 ⊖ var 1) (sizes c.before.before) tt)

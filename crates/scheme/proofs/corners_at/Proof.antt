@@ -6,8 +6,8 @@ use Rattle.scheme.proofs.corners_at.Tie as tie
 returns : tie.Need-returns
 returns c = search rules
 
-pub corners-at-spec : {M : Type 1} → statement M
-corners-at-spec =
+pub corners_at_spec : {M : Type 1} → statement M
+corners_at_spec =
     tie.close
     (tie.spec
     (λ c. search rules)

@@ -21,8 +21,8 @@ sizes c = let p = c.requires in depth-size p.0.value ◂ depth-size p.1.value �
 returns : tie.Need-returns
 returns c = exact w64 depth_sum (sizes c.before.before.before.before) tt
 
-pub depth-around-spec : {M : Type 1} → statement M
-depth-around-spec =
+pub depth_around_spec : {M : Type 1} → statement M
+depth_around_spec =
     tie.close
     (tie.spec
     (λ c. search rules)

@@ -9,8 +9,8 @@ use Rattle.scheme.proofs.east_share.Tie as tie
 returns : tie.Need-returns
 returns c = exact w64 east_expr (fit-sizes c.before.before.before.before.before.before.before.before.before.before.before.before.requires) tt
 
-pub east-share-spec : {M : Type 1} → statement M
-east-share-spec =
+pub east_share_spec : {M : Type 1} → statement M
+east_share_spec =
     tie.close
     (tie.spec
     (λ c. fits (var 1 ⊗ var 7) (fit-sizes c.before.before.before.before.requires) tt)

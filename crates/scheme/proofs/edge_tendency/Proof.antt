@@ -14,8 +14,8 @@ sizes c = let p = c.before.requires in p.0 ◂ p.1 c.if1.false ◂ ∎
 returns-2 : tie.Need-returns-2
 returns-2 c = exact w64 (var 0 ⊕ var 1) (sizes c) tt ∙ rw c.if1.false
 
-pub edge-tendency-spec : {M : Type 1} → statement M
-edge-tendency-spec =
+pub edge_tendency_spec : {M : Type 1} → statement M
+edge_tendency_spec =
     tie.close
     (tie.spec
     (λ c. fits (var 0 ⊕ var 1) (sizes c) tt)

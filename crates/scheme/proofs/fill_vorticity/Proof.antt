@@ -21,43 +21,43 @@ decreases-loop p h u v d₀ rows y₀ d y = rows - y
 abbrev state : tie.Start invariant-loop decreases-loop → State
 state c = let a = c.args in state_of a.p a.h.now [] a.u.now a.v.now []
 
-abbrev begin : tie.In-loop invariant-loop decreases-loop → tie.After-corner-rows invariant-loop decreases-loop
+abbrev begin : tie.In-loop invariant-loop decreases-loop → tie.After-corner_rows invariant-loop decreases-loop
 begin c = c.before.before
 
-tall : (c : tie.After-corner-rows invariant-loop decreases-loop) → c.corner-rows.result ≤ 65
+tall : (c : tie.After-corner_rows invariant-loop decreases-loop) → c.corner_rows.result ≤ 65
 tall c =
     let s = c.before in
-    subst (λ (m : ℕ). m ≤ 65) (sym c.corner-rows.ensures) (side-most (walled_south (state s)) s.requires.0.rows)
+    subst (λ (m : ℕ). m ≤ 65) (sym c.corner_rows.ensures) (side-most (walled_south (state s)) s.requires.0.rows)
 
-vorticity-row-requires : tie.Need-vorticity-row-requires invariant-loop decreases-loop
-vorticity-row-requires c κs =
+vorticity_row-requires : tie.Need-vorticity_row-requires invariant-loop decreases-loop
+vorticity_row-requires c κs =
     let t = c.before in
     let k = begin t in
     let s = k.before in
-    (s.pre.0, subst (λ (m : ℕ). t.before.loop.y < m) k.corner-rows.ensures t.loop-test.true, omega (arith, s.pre.1, t.before.loop.invariant.1.long))
+    (s.pre.0, subst (λ (m : ℕ). t.before.loop.y < m) k.corner_rows.ensures t.loop-test.true, omega (arith, s.pre.1, t.before.loop.invariant.1.long))
 
 loop-again : tie.Need-loop-preserved invariant-loop decreases-loop
 loop-again c =
     let r = c.before in
     let t = r.before.before in
     let s = (begin t).before in
-    (omega (arith, t.loop-test.true), row_done _ _ _ t.before.loop.y r.vorticity-row.ensures (omega arith) (omega (arith, s.pre.1)) t.before.loop.invariant.1)
+    (omega (arith, t.loop-test.true), row_done _ _ _ t.before.loop.y r.vorticity_row.ensures (omega arith) (omega (arith, s.pre.1)) t.before.loop.invariant.1)
 
 returns : tie.Need-returns invariant-loop decreases-loop
 unfolding vorticity
 returns c =
     let k = c.before.before in
-    rows-filled _ _ _ c.before.loop.invariant.1 (subst (λ (m : ℕ). m ≤ c.before.loop.y) k.corner-rows.ensures c.loop-test.false)
+    rows-filled _ _ _ c.before.loop.invariant.1 (subst (λ (m : ℕ). m ≤ c.before.loop.y) k.corner_rows.ensures c.loop-test.false)
 
-pub fill-vorticity-spec : {M : Type 1} → statement M
-fill-vorticity-spec =
+pub fill_vorticity_spec : {M : Type 1} → statement M
+fill_vorticity_spec =
     tie.close
     (tie.spec
     invariant-loop
     decreases-loop
     (λ c κs. c.requires.0.rows.most)
     (λ c. (zero-le, rows_none _ _ _))
-    vorticity-row-requires
+    vorticity_row-requires
     (λ c. omega (arith, c.before.before.before.loop-test.true, tall (begin c.before.before.before)))
     (λ c. omega (arith, c.before.before.before.loop-test.true))
     loop-again

@@ -20,8 +20,8 @@ use Rattle.scheme.proofs.flow_at.Tie as tie
 abbrev twice : Expr
 twice = con (pos 2) ⊗ var 0
 
-flux-is : (c : tie.After-flux-at) → let a = c.before.args in held w64 c.flux-at.result ≡ flux_at a.x.now a.h.now a.k a.l
-flux-is c = held-is w64 c.flux-at.type-inv c.flux-at.ensures
+flux-is : (c : tie.After-flux_at) → let a = c.before.args in held w64 c.flux_at.result ≡ flux_at a.x.now a.h.now a.k a.l
+flux-is c = held-is w64 c.flux_at.type_inv c.flux_at.ensures
 
 divides : (c : tie.Start) → held w64 (pos 2 *ℤ held w64 c.args.r) ≡ pos 2 *ℤ c.args.r
 divides c = exact w64 twice (ratio-size c.requires.0 ◂ ∎) tt
@@ -38,10 +38,10 @@ rnd-requires c κs =
     }
 
 returns : tie.Need-returns
-returns c = held-is w64 c.rnd.type-inv (c.rnd.ensures ∙ ap₂ rnd (flux-is c.before) (divides c.before.before))
+returns c = held-is w64 c.rnd.type_inv (c.rnd.ensures ∙ ap₂ rnd (flux-is c.before) (divides c.before.before))
 
-pub flow-at-spec : {M : Type 1} → statement M
-flow-at-spec =
+pub flow_at_spec : {M : Type 1} → statement M
+flow_at_spec =
     tie.close
     (tie.spec
     (λ c κs. search rules)

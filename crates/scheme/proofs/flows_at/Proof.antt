@@ -47,12 +47,12 @@ returns c =
     let x = c.before.before in
     let a = x.before.before in
     let s = state a.before in (
-      held-is w64 x.flow-at.type-inv (x.flow-at.ensures ∙ by-ratio a.before _ ∙ x-around s a.around.ensures),
-      held-is w64 c.flow-at2.type-inv (c.flow-at2.ensures ∙ by-ratio a.before _ ∙ y-around s a.around.ensures),
+      held-is w64 x.flow_at.type_inv (x.flow_at.ensures ∙ by-ratio a.before _ ∙ x-around s a.around.ensures),
+      held-is w64 c.flow_at2.type_inv (c.flow_at2.ensures ∙ by-ratio a.before _ ∙ y-around s a.around.ensures),
     )
 
-pub flows-at-spec : {M : Type 1} → statement M
-flows-at-spec =
+pub flows_at_spec : {M : Type 1} → statement M
+flows_at_spec =
     tie.close
     (tie.spec
     (λ c κs. search rules)

@@ -17,8 +17,8 @@ sizes c = let p = c.before.before.before.requires in velocity-size p.0.value ◂
 returns : tie.Need-returns
 returns c = exact w64 flux_expr (sizes c) tt
 
-pub flux-at-spec : {M : Type 1} → statement M
-flux-at-spec =
+pub flux_at_spec : {M : Type 1} → statement M
+flux_at_spec =
     tie.close
     (tie.spec
     (λ c. search rules)

@@ -4,8 +4,8 @@ use Rattle.scheme.specs.Ready.{reads}
 use Rattle.scheme.proofs.fluxes_at.Statement.{statement}
 use Rattle.scheme.proofs.fluxes_at.Tie as tie
 
-pub fluxes-at-spec : {M : Type 1} → statement M
-fluxes-at-spec =
+pub fluxes_at_spec : {M : Type 1} → statement M
+fluxes_at_spec =
     tie.close
     (tie.spec
     (λ c κs. let p = c.requires in let a = p.around in (reads p.us a.here, reads p.depths a.west, reads p.depths a.here))

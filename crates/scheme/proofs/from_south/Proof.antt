@@ -33,5 +33,5 @@ returns-2 c =
           (k.Shares-at.ensures.north ∙ ap (λ j. north_share_at (state s) s.args.q.now s.args.i j) p.previous.ensures.0);
     }
 
-pub from-south-spec : {M : Type 1} → statement M
-from-south-spec = tie.close (tie.spec (λ c κs. search rules) returns (λ c κs. search rules) (λ c κs. search rules) returns-2)
+pub from_south_spec : {M : Type 1} → statement M
+from_south_spec = tie.close (tie.spec (λ c κs. search rules) returns (λ c κs. search rules) (λ c κs. search rules) returns-2)

@@ -33,5 +33,5 @@ returns-2 c =
           (k.Shares-at.ensures.east ∙ ap (λ i. east_share_at (state s) s.args.q.now i s.args.j) p.previous.ensures.0);
     }
 
-pub from-west-spec : {M : Type 1} → statement M
-from-west-spec = tie.close (tie.spec (λ c κs. search rules) returns (λ c κs. search rules) (λ c κs. search rules) returns-2)
+pub from_west_spec : {M : Type 1} → statement M
+from_west_spec = tie.close (tie.spec (λ c κs. search rules) returns (λ c κs. search rules) (λ c κs. search rules) returns-2)

@@ -17,8 +17,8 @@ sizes c = let p = c.requires in gravity-size p.0 ◂ depth-size p.1.value ◂ bo
 returns : tie.Need-returns
 returns c = exact w64 geopotential_expr (sizes c.before.before) tt
 
-pub geopotential-spec : {M : Type 1} → statement M
-geopotential-spec =
+pub geopotential_spec : {M : Type 1} → statement M
+geopotential_spec =
     tie.close
     (tie.spec
     (λ c. fits (con (pos 4) ⊗ var 0) (sizes c) tt)

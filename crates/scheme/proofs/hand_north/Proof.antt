@@ -29,11 +29,11 @@ loop-again c =
     let i = c.before in
     let s = i.before.before in
     let inv = i.before.loop.invariant in
-    let x = c.from-south in
-    (each_more inv.0 (in-slice i) (subst (FromSouth (state s) s.args.q.now i.before.loop.i 0) (sym (held-is w64 x.type-inv refl)) x.ensures), rw length-set inv.1)
+    let x = c.from_south in
+    (each_more inv.0 (in-slice i) (subst (FromSouth (state s) s.args.q.now i.before.loop.i 0) (sym (held-is w64 x.type_inv refl)) x.ensures), rw length-set inv.1)
 
-pub hand-north-spec : {M : Type 1} → statement M
-hand-north-spec =
+pub hand_north_spec : {M : Type 1} → statement M
+hand_north_spec =
     tie.close
     (tie.spec
     invariant-loop

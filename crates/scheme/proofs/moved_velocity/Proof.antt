@@ -41,8 +41,8 @@ returns : tie.Need-returns
 returns c =
     exact w64 (var 0 ⊕ var 1) (velocity-size c.before.requires.0 ◂ small c ◂ ∎) tt ∙ ap (λ z. c.before.args.x +ℤ z) (change-is c)
 
-pub moved-velocity-spec : {M : Type 1} → statement M
-moved-velocity-spec =
+pub moved_velocity_spec : {M : Type 1} → statement M
+moved_velocity_spec =
     tie.close
     (tie.spec
     (λ c. fits scaled (ratio-size c.requires.2 ◂ ∎) tt)

@@ -10,8 +10,8 @@ use Rattle.scheme.proofs.north_share.Tie as tie
 returns : tie.Need-returns
 returns c = exact w64 north_expr (fit-sizes c.before.before.before.before.before.before.before.before.before.before.before.before.requires) tt
 
-pub north-share-spec : {M : Type 1} → statement M
-north-share-spec =
+pub north_share_spec : {M : Type 1} → statement M
+north_share_spec =
     tie.close
     (tie.spec
     (λ c. fits (var 0 ⊗ var 4) (fit-sizes c.before.before.before.before.requires) tt)

@@ -11,5 +11,5 @@ returns c = to_z-of_z c.before.ranges.own ∙ rw (eq-eqb _ 1 c.if1.true)
 returns-2 : tie.Need-returns-2
 returns-2 c = to_z-of_z c.before.ranges.handed ∙ rw (ne_eqb _ 1 c.if1.false)
 
-pub other-share-spec : {M : Type 1} → statement M
-other-share-spec = tie.close (tie.spec returns returns-2)
+pub other_share_spec : {M : Type 1} → statement M
+other_share_spec = tie.close (tie.spec returns returns-2)

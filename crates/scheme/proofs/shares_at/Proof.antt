@@ -23,11 +23,11 @@ use Rattle.scheme.proofs.shares_at.Tie as tie
 abbrev state : tie.Start → State
 state c = let a = c.args in state_of a.p a.h.now a.b.now a.u.now a.v.now []
 
-corners-in : (c : tie.After-cell-corners) → Below4 (corners (state c.before.before)) c.cell-corners.result
+corners-in : (c : tie.After-cell_corners) → Below4 (corners (state c.before.before)) c.cell_corners.result
 corners-in c =
     let s = c.before.before in
     let p = s.requires in
-    corners-below (corners-more (walled_west (state s)) p.1) (corners-more (walled_south (state s)) p.2) c.cell-corners.ensures
+    corners-below (corners-more (walled_west (state s)) p.1) (corners-more (walled_south (state s)) p.2) c.cell_corners.ensures
 
 below : (c : tie.After-around) → let p = c.before.args.p in Below (p.w * p.n) c.around.result
 below c =
@@ -42,40 +42,40 @@ flow c =
     subst (λ m. Flow m a.h.now a.u.now a.v.now c.around.result) (sym s.depths.long) (record { depths = s.depths; us = s.us; vs = s.vs; around = below c })
 
 -- g as the machine holds it
-g-is : (c : tie.After-struct-told) → let p = c.before.before.before.before.before.before.args.p in held w64 p.g ≡ p.g
+g-is : (c : tie.After-struct_told) → let p = c.before.before.before.before.before.before.args.p in held w64 p.g ≡ p.g
 g-is c = to_z-of_z {w = w64} (record { sfits = c.struct_told.given.1.1.1.0.1 })
 
 -- what each call tells is the model's
-weights-are : (c : tie.After-weights-of) → let s = c.before.before.before.before in c.weights-of.result ≡ weights_in (state s) s.args.q.now s.args.i s.args.j
+weights-are : (c : tie.After-weights_of) → let s = c.before.before.before.before in c.weights_of.result ≡ weights_in (state s) s.args.q.now s.args.i s.args.j
 weights-are c =
     let k = c.before in
     let a = k.before in
     let s = a.before.before in
-    weights-around (state s) a.cell-corners.ensures s.args.q.now k.corners-at.result c.weights-of.result k.corners-at.ensures c.weights-of.ensures
+    weights-around (state s) a.cell_corners.ensures s.args.q.now k.corners_at.result c.weights_of.result k.corners_at.ensures c.weights_of.ensures
 
-fluxes-are : (c : tie.After-fluxes-at) → let s = c.before.before.before.before.before in c.fluxes-at.result ≡ fluxes_in (state s) s.args.i s.args.j
+fluxes-are : (c : tie.After-fluxes_at) → let s = c.before.before.before.before.before in c.fluxes_at.result ≡ fluxes_in (state s) s.args.i s.args.j
 fluxes-are c =
     let a = c.before.before.before.before in
     let p = a.before.requires in
-    fluxes-around (state a.before) a.around.ensures c.fluxes-at.result p.1 p.2 c.fluxes-at.ensures
+    fluxes-around (state a.before) a.around.ensures c.fluxes_at.result p.1 p.2 c.fluxes_at.ensures
 
-bernoulli-is : (c : tie.After-bernoulli-at) → let s = c.before.before.before.before.before.before.before in held w64 c.bernoulli-at.result ≡ B (state s) s.args.i s.args.j
+bernoulli-is : (c : tie.After-bernoulli_at) → let s = c.before.before.before.before.before.before.before in held w64 c.bernoulli_at.result ≡ B (state s) s.args.i s.args.j
 bernoulli-is c =
     let t = c.before in
     let a = t.before.before.before.before.before in
-    held-is w64 c.bernoulli-at.type-inv (c.bernoulli-at.ensures ∙ rw (g-is t) (bernoulli-around (state a.before) a.around.ensures))
+    held-is w64 c.bernoulli_at.type_inv (c.bernoulli_at.ensures ∙ rw (g-is t) (bernoulli-around (state a.before) a.around.ensures))
 
-corners-at-requires : tie.Need-corners-at-requires
-corners-at-requires c κs =
+corners_at-requires : tie.Need-corners_at-requires
+corners_at-requires c κs =
     let b = corners-in c in
     let q = c.before.before.requires.0.vorticity in ((reads q b.ne).inside, (reads q b.nw).inside, (reads q b.sw).inside, (reads q b.se).inside)
 
-weights-of-requires : tie.Need-weights-of-requires
-weights-of-requires c κs =
+weights_of-requires : tie.Need-weights_of-requires
+weights_of-requires c κs =
     let a = c.before in
     let b = corners-in a in
     let q = a.before.before.requires.0.vorticity.each in
-    let e = c.corners-at.ensures in
+    let e = c.corners_at.ensures in
     record {
       ne = abs-as e.0 (vorticity-size (q _ b.ne));
       nw = abs-as e.1 (vorticity-size (q _ b.nw));
@@ -83,8 +83,8 @@ weights-of-requires c κs =
       se = abs-as e.3 (vorticity-size (q _ b.se));
     }
 
-bernoulli-at-requires : tie.Need-bernoulli-at-requires
-bernoulli-at-requires c κs =
+bernoulli_at-requires : tie.Need-bernoulli_at-requires
+bernoulli_at-requires c κs =
     let a = c.before.before.before.before.before in
     let s = a.before.requires.0.state in (
       subst (Within gravity_limits) (sym (g-is c)) s.gravity,
@@ -92,8 +92,8 @@ bernoulli-at-requires c κs =
       subst (λ m. FieldWithin bottom_limits m a.before.args.b.now) (sym s.depths.long) s.bottoms,
     )
 
-shares-of-requires : tie.Need-shares-of-requires
-shares-of-requires c κs =
+shares_of-requires : tie.Need-shares_of-requires
+shares_of-requires c κs =
     let f = c.before.before in
     let p = f.before.before.before.before.before.requires in
     rw (weights-are f.before, fluxes-are f, bernoulli-is c) (fit-in p.0 p.1 p.2, B-size p.0.state p.1 p.2)
@@ -108,15 +108,15 @@ returns c =
     let e : AreShares w x (head_in (state s) s.args.i s.args.j) c.shares_of.result = rw (weights-are f.before, fluxes-are f, bernoulli-is c.before) at c.shares_of.ensures in
     record { depth = e.depth; west = e.west; east = e.east; south = e.south; north = e.north }
 
-pub shares-at-spec : {M : Type 1} → statement M
-shares-at-spec =
+pub shares_at_spec : {M : Type 1} → statement M
+shares_at_spec =
     tie.close
     (tie.spec
     (λ c κs. search rules)
     (λ c κs. search rules)
-    corners-at-requires
-    weights-of-requires
+    corners_at-requires
+    weights_of-requires
     (λ c κs. flow c.before.before.before)
-    bernoulli-at-requires
-    shares-of-requires
+    bernoulli_at-requires
+    shares_of-requires
     returns)

@@ -27,15 +27,15 @@ returns c =
     let f = s.args.f in
     let e = head-is s in
     record {
-      depth = held-is w64 own.convergence.type-inv own.convergence.ensures;
-      west = held-is w64 west.west-share.type-inv (west.west-share.ensures ∙ ap (west_share w f) e);
-      east = held-is w64 east.east-share.type-inv (east.east-share.ensures ∙ ap (east_share w f) e);
-      south = held-is w64 south.south-share.type-inv (south.south-share.ensures ∙ ap (south_share w f) e);
-      north = held-is w64 north.north-share.type-inv (north.north-share.ensures ∙ ap (north_share w f) e);
+      depth = held-is w64 own.convergence.type_inv own.convergence.ensures;
+      west = held-is w64 west.west_share.type_inv (west.west_share.ensures ∙ ap (west_share w f) e);
+      east = held-is w64 east.east_share.type_inv (east.east_share.ensures ∙ ap (east_share w f) e);
+      south = held-is w64 south.south_share.type_inv (south.south_share.ensures ∙ ap (south_share w f) e);
+      north = held-is w64 north.north_share.type_inv (north.north_share.ensures ∙ ap (north_share w f) e);
     }
 
-pub shares-of-spec : {M : Type 1} → statement M
-shares-of-spec =
+pub shares_of_spec : {M : Type 1} → statement M
+shares_of_spec =
     tie.close
     (tie.spec
     (λ c. fits head_expr (c.requires.1 ◂ ∎) tt)

@@ -10,8 +10,8 @@ use Rattle.scheme.proofs.south_share.Tie as tie
 returns : tie.Need-returns
 returns c = exact w64 south_expr (fit-sizes c.before.before.before.before.before.before.before.before.before.before.before.before.requires) tt
 
-pub south-share-spec : {M : Type 1} → statement M
-south-share-spec =
+pub south_share_spec : {M : Type 1} → statement M
+south_share_spec =
     tie.close
     (tie.spec
     (λ c. fits (var 0 ⊗ var 5) (fit-sizes c.before.before.before.before.requires) tt)

@@ -17,8 +17,8 @@ sizes c = velocity-size c.requires.0.value ◂ velocity-size c.requires.1.value 
 returns : tie.Need-returns
 returns c = exact w64 squares_expr (sizes c.before.before) tt
 
-pub squares-spec : {M : Type 1} → statement M
-squares-spec =
+pub squares_spec : {M : Type 1} → statement M
+squares_spec =
     tie.close
     (tie.spec
     (λ c. search rules)

@@ -25,7 +25,7 @@ rnd-requires c κs =
     record { small = (abs-as (scaled-is c) small).abs; some = subst (λ (x : ℤ). pos 1 ≤ℤ x) (sym e) c.requires.2; most = (abs-as e most).abs }
 
 returns : tie.Need-returns
-returns c = let s = c.before in held-is w64 c.rnd.type-inv (c.rnd.ensures ∙ ap₂ rnd (scaled-is s) (to_z-of_z s.ranges.depth))
+returns c = let s = c.before in held-is w64 c.rnd.type_inv (c.rnd.ensures ∙ ap₂ rnd (scaled-is s) (to_z-of_z s.ranges.depth))
 
-pub vorticity-of-spec : {M : Type 1} → statement M
-vorticity-of-spec = tie.close (tie.spec (λ c. fits scaled (c.requires.0 ◂ ∎) tt) rnd-requires returns)
+pub vorticity_of_spec : {M : Type 1} → statement M
+vorticity_of_spec = tie.close (tie.spec (λ c. fits scaled (c.requires.0 ◂ ∎) tt) rnd-requires returns)

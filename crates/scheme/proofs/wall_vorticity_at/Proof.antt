@@ -21,11 +21,11 @@ use Rattle.scheme.proofs.wall_vorticity_at.Tie as tie
 abbrev state : tie.Start → (u v : List ℤ) → State
 state c u v = let a = c.args in state_of a.p a.h.now [] u v []
 
-below : (c : tie.After-cells-around) → let p = c.before.args.p in Below4 (p.w * p.n) c.cells-around.result
-below c = cells-below c.before.requires.0 c.cells-around.ensures
+below : (c : tie.After-cells_around) → let p = c.before.args.p in Below4 (p.w * p.n) c.cells_around.result
+below c = cells-below c.before.requires.0 c.cells_around.ensures
 
 -- c as the machine holds it, and Z
-c-is : (c : tie.After-struct-told) → let p = c.before.before.before.args.p in held w64 p.c ≡ p.c
+c-is : (c : tie.After-struct_told) → let p = c.before.before.before.args.p in held w64 p.c ≡ p.c
 c-is c = to_z-of_z {w = w64} (record { sfits = c.struct_told.given.1.1.1.1.0.1 })
 
 z-is : (c : tie.Start) (u v : List ℤ) → c.args.p.c ≡ Z (state c u v) c.args.x c.args.y
@@ -33,22 +33,22 @@ unfolding Z
 z-is c u v = rw c.requires.1
 
 -- H
-h-is : (c : tie.After-depth-around) (u v : List ℤ) → let s = c.before.before in held w64 c.depth-around.result ≡ H (state s u v) s.args.x s.args.y
+h-is : (c : tie.After-depth_around) (u v : List ℤ) → let s = c.before.before in held w64 c.depth_around.result ≡ H (state s u v) s.args.x s.args.y
 h-is c u v =
     let a = c.before in
     let s = a.before in
-    held-is w64 c.depth-around.type-inv (c.depth-around.ensures ∙ depth-around (state s u v) s.requires.0 a.cells-around.ensures)
+    held-is w64 c.depth_around.type_inv (c.depth_around.ensures ∙ depth-around (state s u v) s.requires.0 a.cells_around.ensures)
 
-divisor : (c : tie.After-depth-around) → Abs (held w64 c.depth-around.result) 400000 × (pos 1 ≤ℤ held w64 c.depth-around.result)
-divisor c = let a = c.before in divides a.before.requires.3 (below a) (held-is w64 c.depth-around.type-inv c.depth-around.ensures)
+divisor : (c : tie.After-depth_around) → Abs (held w64 c.depth_around.result) 400000 × (pos 1 ≤ℤ held w64 c.depth_around.result)
+divisor c = let a = c.before in divides a.before.requires.3 (below a) (held-is w64 c.depth_around.type_inv c.depth_around.ensures)
 
-depth-around-requires : tie.Need-depth-around-requires
-depth-around-requires c κs =
+depth_around-requires : tie.Need-depth_around-requires
+depth_around-requires c κs =
     let b = below c in
     let h = c.before.requires.3 in (reads h b.ne, reads h b.nw, reads h b.se, reads h b.sw)
 
-vorticity-of-requires : tie.Need-vorticity-of-requires
-vorticity-of-requires c κs =
+vorticity_of-requires : tie.Need-vorticity_of-requires
+vorticity_of-requires c κs =
     let d = divisor c.before in
     (abs-as (c-is c) (size (var 0) (coriolis-size c.before.before.before.requires.2 ◂ ∎) tt), d.0, d.1)
 
@@ -57,7 +57,7 @@ unfolding vorticity_at
 returns c u v =
     let t = c.before in
     let d = t.before in
-    held-is w64 c.vorticity-of.type-inv (c.vorticity-of.ensures ∙ ap₂ (λ (z h : ℤ). rnd (pos 262144 *ℤ z) h) (c-is t ∙ z-is d.before.before u v) (h-is d u v))
+    held-is w64 c.vorticity_of.type_inv (c.vorticity_of.ensures ∙ ap₂ (λ (z h : ℤ). rnd (pos 262144 *ℤ z) h) (c-is t ∙ z-is d.before.before u v) (h-is d u v))
 
-pub wall-vorticity-at-spec : {M : Type 1} → statement M
-wall-vorticity-at-spec = tie.close (tie.spec (λ c κs. c.requires.0) depth-around-requires vorticity-of-requires returns)
+pub wall_vorticity_at_spec : {M : Type 1} → statement M
+wall_vorticity_at_spec = tie.close (tie.spec (λ c κs. c.requires.0) depth_around-requires vorticity_of-requires returns)

@@ -12,5 +12,5 @@ returns : tie.Need-returns
 unfolding weights weight_at
 returns c = exact w64 (var 0) (table-size c.before.args.row c.before.args.corner ◂ ∎) tt
 
-pub weight-at-spec : {M : Type 1} → statement M
-weight-at-spec = tie.close (tie.spec (λ c. search rules) (λ c. search rules) (λ c. search rules) (λ c. search rules) returns)
+pub weight_at_spec : {M : Type 1} → statement M
+weight_at_spec = tie.close (tie.spec (λ c. search rules) (λ c. search rules) (λ c. search rules) (λ c. search rules) returns)

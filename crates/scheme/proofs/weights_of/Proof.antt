@@ -13,10 +13,10 @@ use Rattle.scheme.proofs.weights_of.Tie as tie
 abbrev over : ((ne nw sw se : Expr) → Expr) → Expr
 over e = e (var 0) (var 1) (var 2) (var 3)
 
-abbrev start : tie.After-struct-told4 → tie.Start
+abbrev start : tie.After-struct_told4 → tie.Start
 start c = c.before.before.before.before
 
-sizes : (c : tie.After-struct-told4)
+sizes : (c : tie.After-struct_told4)
     → let q = (start c).args.c in Sizes (q.ne ∷ q.nw ∷ q.sw ∷ q.se ∷ []) (most_corner ∷ most_corner ∷ most_corner ∷ most_corner ∷ [])
 sizes c = let q = (start c).requires in q.ne ◂ q.nw ◂ q.sw ◂ q.se ◂ ∎
 
@@ -29,8 +29,8 @@ returns c =
       exact w64 (over sum_f) (sizes c) tt ∙ formulas.f q.ne q.nw q.sw q.se,
     )
 
-pub weights-of-spec : {M : Type 1} → statement M
-weights-of-spec =
+pub weights_of_spec : {M : Type 1} → statement M
+weights_of_spec =
     tie.close
     (tie.spec
     (λ c. fits (var 0 ⊕ var 1) (sizes c) tt)

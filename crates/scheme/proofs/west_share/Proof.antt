@@ -9,8 +9,8 @@ use Rattle.scheme.proofs.west_share.Tie as tie
 returns : tie.Need-returns
 returns c = exact w64 west_expr (fit-sizes c.before.before.before.before.before.before.before.before.before.before.before.before.requires) tt
 
-pub west-share-spec : {M : Type 1} → statement M
-west-share-spec =
+pub west_share_spec : {M : Type 1} → statement M
+west_share_spec =
     tie.close
     (tie.spec
     (λ c. fits (var 0 ⊗ var 7) (fit-sizes c.before.before.before.before.requires) tt)

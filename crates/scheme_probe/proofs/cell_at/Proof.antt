@@ -28,11 +28,11 @@ below c =
     let p = c.before.requires in
     around-below (record { columns = p.0.state.columns; rows = p.0.state.rows; column = p.1; row = p.2 }) c.around.ensures
 
-corners-in : (c : tie.After-cell-corners) → Below4 (corners (state c.before.before)) c.cell-corners.result
+corners-in : (c : tie.After-cell_corners) → Below4 (corners (state c.before.before)) c.cell_corners.result
 corners-in c =
     let s = c.before.before in
     let p = s.requires in
-    corners-below (corners-more (walled_west (state s)) p.1) (corners-more (walled_south (state s)) p.2) c.cell-corners.ensures
+    corners-below (corners-more (walled_west (state s)) p.1) (corners-more (walled_south (state s)) p.2) c.cell_corners.ensures
 
 -- a double holds each number of the fields
 record Held (s : State) (q : List ℤ) : Type 0 where
@@ -56,18 +56,18 @@ held_in r =
 all : (c : tie.Start) → Held (state c) c.args.q.now
 all c = held_in c.requires.0
 
-corners-at-requires : tie.Need-corners-at-requires
-corners-at-requires c κs =
+corners_at-requires : tie.Need-corners_at-requires
+corners_at-requires c κs =
     let s = c.before.before in
     let q = s.args.q.now in
-    subst (λ m. Holds m q × Below4 m c.cell-corners.result) (sym s.requires.0.vorticity.long) ((all s).vorticities, corners-in c)
+    subst (λ m. Holds m q × Below4 m c.cell_corners.result) (sym s.requires.0.vorticity.long) ((all s).vorticities, corners-in c)
 
-weights-of-requires : tie.Need-weights-of-requires
-weights-of-requires c κs =
+weights_of-requires : tie.Need-weights_of-requires
+weights_of-requires c κs =
     let a = c.before in
     let b = corners-in a in
     let q = a.before.before.requires.0.vorticity.each in
-    let e = c.corners-at.ensures in
+    let e = c.corners_at.ensures in
     record {
       ne = record { number = _; is = e.0; small = vorticity-size (q _ b.ne) };
       nw = record { number = _; is = e.1; small = vorticity-size (q _ b.nw) };
@@ -76,11 +76,11 @@ weights-of-requires c κs =
     }
 
 -- g as the machine holds it
-g-is : (c : tie.After-struct-told) → let p = c.before.before.before.before.before.before.before.before.before.args.p in held w64 p.g ≡ p.g
+g-is : (c : tie.After-struct_told) → let p = c.before.before.before.before.before.before.before.before.before.args.p in held w64 p.g ≡ p.g
 g-is c = to_z-of_z {w = w64} (record { sfits = c.struct_told.given.1.1.1.0.1 })
 
-bernoulli-at-requires : tie.Need-bernoulli-at-requires
-bernoulli-at-requires c κs =
+bernoulli_at-requires : tie.Need-bernoulli_at-requires
+bernoulli_at-requires c κs =
     let a = c.before.before.before.before.before.before.before.before in
     let f = all a.before in
     let b = below a in (
@@ -108,33 +108,33 @@ returns c =
     let s = state x in
     let q = x.args.q.now in
     let r = a.around.ensures in
-    let o = four.cell-corners.ensures in
-    let told = k.corners-at.result in
-    let read = k.corners-at.ensures in
-    let rows = weights.weights-of.ensures in
+    let o = four.cell_corners.ensures in
+    let told = k.corners_at.result in
+    let read = k.corners_at.ensures in
+    let rows = weights.weights_of.ensures in
     record {
       p = rows.0 ∙ weight-around s o q 0 told read;
       m = rows.1 ∙ weight-around s o q 1 told read;
       e = rows.2 ∙ weight-around s o q 2 told read;
       f = rows.3 ∙ weight-around s o q 3 told read;
-      west = west.flux-at.ensures ∙ west-around s r;
-      east = east.flux-at2.ensures ∙ east-around s r x.requires.1;
-      south = south.flux-at3.ensures ∙ south-around s r;
-      north = north.flux-at4.ensures ∙ north-around s r x.requires.2;
-      bernoulli = c.bernoulli-at.ensures ∙ rw (g-is t) (bernoulli-around s r);
+      west = west.flux_at.ensures ∙ west-around s r;
+      east = east.flux_at2.ensures ∙ east-around s r x.requires.1;
+      south = south.flux_at3.ensures ∙ south-around s r;
+      north = north.flux_at4.ensures ∙ north-around s r x.requires.2;
+      bernoulli = c.bernoulli_at.ensures ∙ rw (g-is t) (bernoulli-around s r);
     }
 
-pub cell-at-spec : {M : Type 1} → statement M
-cell-at-spec =
+pub cell_at_spec : {M : Type 1} → statement M
+cell_at_spec =
     tie.close
     (tie.spec
     (λ c κs. search rules)
     (λ c κs. search rules)
-    corners-at-requires
-    weights-of-requires
+    corners_at-requires
+    weights_of-requires
     (λ c κs. let a = c.before.before.before in let f = all a.before in let b = below a in (f.u _ b.here, f.h _ b.west, f.h _ b.here))
     (λ c κs. let a = c.before.before.before.before in let f = all a.before in let b = below a in (f.u _ b.east, f.h _ b.here, f.h _ b.east))
     (λ c κs. let a = c.before.before.before.before.before in let f = all a.before in let b = below a in (f.v _ b.here, f.h _ b.south, f.h _ b.here))
     (λ c κs. let a = c.before.before.before.before.before.before in let f = all a.before in let b = below a in (f.v _ b.north, f.h _ b.here, f.h _ b.north))
-    bernoulli-at-requires
+    bernoulli_at-requires
     returns)

@@ -3,8 +3,8 @@ use borrow.Author.Rules.{rules}
 use Rattle.scheme_probe.proofs.corners_at.Statement.{statement}
 use Rattle.scheme_probe.proofs.corners_at.Tie as tie
 
-pub corners-at-spec : {M : Type 1} → statement M
-corners-at-spec =
+pub corners_at_spec : {M : Type 1} → statement M
+corners_at_spec =
     tie.close
     (tie.spec
     (λ c κs. c.requires.0 _ c.requires.1.ne)

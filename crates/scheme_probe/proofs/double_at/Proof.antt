@@ -8,8 +8,8 @@ use Rattle.scheme_probe.specs.Held.{kept, converts}
 use Rattle.scheme_probe.proofs.double_at.Statement.{statement}
 use Rattle.scheme_probe.proofs.double_at.Tie as tie
 
-pub double-at-spec : {M : Type 1} → statement M
-double-at-spec =
+pub double_at_spec : {M : Type 1} → statement M
+double_at_spec =
     tie.close
     (tie.spec
     (λ c. search rules)

@@ -21,7 +21,7 @@ below c = cell-lt c.requires.1 c.requires.2
 most : (c : tie.Start) → let a = c.args in a.j * a.p.w + a.i < 4096
 most c = let s = c.requires.0.0.state in omega (arith, below c, cells-most s.columns s.rows)
 
-abbrev start : tie.After-struct-known → tie.Start
+abbrev start : tie.After-struct_known → tie.Start
 start c = c.before.before.before.before.before.before.before.before
 
 returns : tie.Need-returns
@@ -36,15 +36,15 @@ returns c =
     let b = start k in
     let s = state b in
     let q = b.args.q.now in
-    c.doubles-of.ensures s q refl refl
+    c.doubles_of.ensures s q refl refl
     (record {
       here = cell-barred s own.Cell-at.ensures;
-      to-west = cell-barred s (subst (λ i. IsCell (unbarred s) q i b.args.j west.cell-at2.result) pw.previous.ensures.0 west.cell-at2.ensures);
-      to-south = record { given = λ o. given (cell-barred s (subst (λ j. IsCell (unbarred s) q b.args.i j south.cell-at3.result) ps.previous2.ensures.0 south.cell-at3.ensures)) given-south.to-north.ensures };
+      to-west = cell-barred s (subst (λ i. IsCell (unbarred s) q i b.args.j west.cell_at2.result) pw.previous.ensures.0 west.cell_at2.ensures);
+      to-south = record { given = λ o. given (cell-barred s (subst (λ j. IsCell (unbarred s) q b.args.i j south.cell_at3.result) ps.previous2.ensures.0 south.cell_at3.ensures)) given-south.to_north.ensures };
     })
 
-pub doubles-at-spec : {M : Type 1} → statement M
-doubles-at-spec =
+pub doubles_at_spec : {M : Type 1} → statement M
+doubles_at_spec =
     tie.close
     (tie.spec
     (λ c κs. search rules)

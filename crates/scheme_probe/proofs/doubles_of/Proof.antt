@@ -15,12 +15,12 @@ returns c s q kind barrier cells =
     let west = south.before in
     record {
       h = h.convergence.ensures ∙ convergence-is cells;
-      u = at-west cells (west.is-closed.ensures s kind barrier) u.momentum-u.ensures eu.edge-tendency.ensures;
-      v = at-south cells (south.is-closed2.ensures s kind barrier) v.momentum-v.ensures c.edge-tendency2.ensures;
+      u = at-west cells (west.is_closed.ensures s kind barrier) u.momentum_u.ensures eu.edge_tendency.ensures;
+      v = at-south cells (south.is_closed2.ensures s kind barrier) v.momentum_v.ensures c.edge_tendency2.ensures;
     }
 
-pub doubles-of-spec : {M : Type 1} → statement M
-doubles-of-spec =
+pub doubles_of_spec : {M : Type 1} → statement M
+doubles_of_spec =
     tie.close
     (tie.spec
     (λ c κs. search rules)

@@ -43,7 +43,7 @@ abbrev state : tie.Start invariant-loop2 decreases-loop2 invariant-loop decrease
 state c = let a = c.args in state_of a.p a.h.now a.b.now a.u.now a.v.now a.barriers.now
 
 -- the function's entry, from where the rows begin and from a row
-abbrev entry : tie.After-slice-known3 invariant-loop2 decreases-loop2 invariant-loop decreases-loop → tie.Start invariant-loop2 decreases-loop2 invariant-loop decreases-loop
+abbrev entry : tie.After-slice_known3 invariant-loop2 decreases-loop2 invariant-loop decreases-loop → tie.Start invariant-loop2 decreases-loop2 invariant-loop decreases-loop
 entry c = c.before.before.before.before
 
 abbrev start : tie.In-loop invariant-loop2 decreases-loop2 invariant-loop decreases-loop → tie.Start invariant-loop2 decreases-loop2 invariant-loop decreases-loop
@@ -52,7 +52,7 @@ start c = entry c.before.before.before
 -- ---- the rows begin
 
 loop-holds : tie.Need-loop-init invariant-loop2 decreases-loop2 invariant-loop decreases-loop
-loop-holds c = (zero-le, rows_none _ _ _, rows_none _ _ _, rows_none _ _ _, row-barred (state (entry c.before)) c.from-south.ensures)
+loop-holds c = (zero-le, rows_none _ _ _, rows_none _ _ _, rows_none _ _ _, row-barred (state (entry c.before)) c.from_south.ensures)
 
 -- ---- a row begins
 
@@ -96,22 +96,22 @@ in_row c =
       omega (arith, below c, l.2.long, o.3.long, r.v),
     )
 
-abbrev turn : tie.After-doubles-of invariant-loop2 decreases-loop2 invariant-loop decreases-loop → tie.In-loop2 invariant-loop2 decreases-loop2 invariant-loop decreases-loop
+abbrev turn : tie.After-doubles_of invariant-loop2 decreases-loop2 invariant-loop decreases-loop → tie.In-loop2 invariant-loop2 decreases-loop2 invariant-loop decreases-loop
 turn c = c.before.before.before.before.before.before
 
 -- what the turn works out
-doubles : (c : tie.After-doubles-of invariant-loop2 decreases-loop2 invariant-loop decreases-loop)
+doubles : (c : tie.After-doubles_of invariant-loop2 decreases-loop2 invariant-loop decreases-loop)
     → let t = turn c in let b = start (row t) in
-    AreDoubles (state b) b.args.q.now t.before.loop2.i (row t).before.loop.j c.doubles-of.result
+    AreDoubles (state b) b.args.q.now t.before.loop2.i (row t).before.loop.j c.doubles_of.result
 doubles c =
     let own = c.before.before.before.before.before in
     let t = turn c in
     let b = start (row t) in
     let s = state b in
     let inv = t.before.loop2.inv in
-    c.doubles-of.ensures s b.args.q.now refl refl
+    c.doubles_of.ensures s b.args.q.now refl refl
     (record {
-      here = cell-barred s own.cell-at2.ensures;
+      here = cell-barred s own.cell_at2.ensures;
       to-west = inv.3;
       to-south = handing-south inv.4 _ t.loop2-test.taken;
     })
@@ -126,13 +126,13 @@ loop2-again c =
     let r = (row t).loop-test.taken in
     let d = doubles c in
     let north = c.before.before.before in
-    let own = north.before.before.cell-at2 in
+    let own = north.before.before.cell_at2 in
     let here = cell-barred s own.ensures in (
       row-filled _ _ _ inv.0 p r d.h,
       row-filled _ _ _ inv.1 p r d.u,
       row-filled _ _ _ inv.2 p r d.v,
       subst (λ i. IsCell s b.args.q.now i (row t).before.loop.j own.result) (sym (previous-after p)) here,
-      handing-more inv.4 p r (given here north.to-north.ensures),
+      handing-more inv.4 p r (given here north.to_north.ensures),
     )
 
 -- ---- a row is filled, and all are

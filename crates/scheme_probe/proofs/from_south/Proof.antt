@@ -26,7 +26,7 @@ returns c =
     let w = c.before in
     record {
       long = w.before.requires.0.state.columns.most;
-      each = record { at = λ d i a e. record { given = λ o. absurd (true≢false (sym c.if1.true ∙ w.walled-south.ensures ∙ o)) } };
+      each = record { at = λ d i a e. record { given = λ o. absurd (true≢false (sym c.if1.true ∙ w.walled_south.ensures ∙ o)) } };
     }
 
 abbrev start : tie.At-loop invariant-loop decreases-loop → tie.Start invariant-loop decreases-loop
@@ -43,9 +43,9 @@ loop-again c =
     let l = i.before in
     let inv = l.loop.invariant in
     let b = start l in
-    let g = given k.Cell-at.ensures c.to-north.ensures in (
+    let g = given k.Cell-at.ensures c.to_north.ensures in (
       each_more inv.0 (omega (arith, in_row i, inv.1))
-          (record { given = λ o. subst (λ j. IsGiven (state b) b.args.q.now l.loop.i j c.to-north.result) l.before.previous.ensures.0 g }),
+          (record { given = λ o. subst (λ j. IsGiven (state b) b.args.q.now l.loop.i j c.to_north.result) l.before.previous.ensures.0 g }),
       rw length-set inv.1,
     )
 
@@ -54,8 +54,8 @@ returns-2 c =
     let inv = c.before.loop.invariant in
     record { long = omega (arith, inv.1, (start c.before).pre.0.state.columns.most); each = each_all inv.0 c.loop-test.false }
 
-pub from-south-spec : {M : Type 1} → statement M
-from-south-spec =
+pub from_south_spec : {M : Type 1} → statement M
+from_south_spec =
     tie.close
     (tie.spec
     invariant-loop

@@ -3,5 +3,5 @@ use Rattle.scheme_probe.specs.Held.{scale}
 use Rattle.scheme_probe.proofs.momentum_v.Statement.{statement}
 use Rattle.scheme_probe.proofs.momentum_v.Tie as tie
 
-pub momentum-v-spec : {M : Type 1} → statement M
-momentum-v-spec = tie.close (tie.spec (λ c. rw scale))
+pub momentum_v_spec : {M : Type 1} → statement M
+momentum_v_spec = tie.close (tie.spec (λ c. rw scale))

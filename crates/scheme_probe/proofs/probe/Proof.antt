@@ -20,7 +20,7 @@ abbrev state : tie.Start → State
 state c = let a = c.args in state_of a.p a.h.now a.b.now a.u.now a.v.now a.barriers.now
 
 -- what the tests have found, once all are made
-tested : (c : tie.After-then-cell) → let b = c.before.before.before.before in c.then-cell.result ≡ answer_of (probe_test (state b) b.args.q.now b.args.cell)
+tested : (c : tie.After-then_cell) → let b = c.before.before.before.before in c.then_cell.result ≡ answer_of (probe_test (state b) b.args.q.now b.args.cell)
 unfolding probe_test
 tested c =
     let t = c.before in
@@ -28,20 +28,20 @@ tested c =
     let b = m.before.before in
     let a = b.args in
     let s = state b in
-    let g = start Accepted (state_tests s (taken s Vorticity a.q.now ∷ []) [] []) t.test-vorticity.ensures in
-    (counted (λ k. cell_test k a.cell ∷ []) g (λ h. m.cells_of.ensures.0 (passed g h).0) c.then-cell.ensures).is
+    let g = start Accepted (state_tests s (taken s Vorticity a.q.now ∷ []) [] []) t.test_vorticity.ensures in
+    (counted (λ k. cell_test k a.cell ∷ []) g (λ h. m.cells_of.ensures.0 (passed g h).0) c.then_cell.ensures).is
 
 -- once they have passed
-abbrev begin : tie.After-enum-told → tie.Start
+abbrev begin : tie.After-enum_told → tie.Start
 begin c = c.before.before.before.before.before.before
 
-accepted : (c : tie.After-enum-told) → let b = begin c in Accepted ≡ answer_of (probe_test (state b) b.args.q.now b.args.cell)
+accepted : (c : tie.After-enum_told) → let b = begin c in Accepted ≡ answer_of (probe_test (state b) b.args.q.now b.args.cell)
 accepted c = sym c.enum_told.given.1 ∙ tested c.before.before
 
-inside : (c : tie.After-enum-told) → let b = begin c in Ready (state b) b.args.q.now × (b.args.cell < cells (state b))
+inside : (c : tie.After-enum_told) → let b = begin c in Ready (state b) b.args.q.now × (b.args.cell < cells (state b))
 inside c = let b = begin c in probe-passed (state b) b.args.q.now b.args.cell (accepted c)
 
-some : (c : tie.After-enum-told) → 0 < (begin c).args.p.w
+some : (c : tie.After-enum_told) → 0 < (begin c).args.p.w
 some c = (inside c).0.0.state.columns.some
 
 returns : tie.Need-returns
@@ -52,7 +52,7 @@ returns c =
     let b = begin e in
     let s = state b in
     let q = b.args.q.now in
-    probe-done s q b.args.cell (accepted e) (n.is-narrow.ensures ∙ narrow-barred s q) d.doubles-at.ensures c.mark.ensures
+    probe-done s q b.args.cell (accepted e) (n.is_narrow.ensures ∙ narrow-barred s q) d.doubles_at.ensures c.mark.ensures
 
 returns-2 : tie.Need-returns-2
 returns-2 c =
@@ -61,8 +61,8 @@ returns-2 c =
     let b = t.before.before.before.before in
     probe-refused (state b) b.args.q.now b.args.cell _ (sym k.refusal.given.1 ∙ tested t)
 
-pub probe-spec : {M : Type 1} → statement M
-probe-spec =
+pub probe_spec : {M : Type 1} → statement M
+probe_spec =
     tie.close
     (tie.spec
     (λ c κs. search rules)

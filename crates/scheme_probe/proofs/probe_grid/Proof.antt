@@ -24,27 +24,27 @@ abbrev fillings : tie.Start → List (Filling Float)
 fillings c = let a = c.args in h_doubles (state c) into a.dh.now ∷ u_doubles (state c) a.q.now into a.du.now ∷ v_doubles (state c) a.q.now into a.dv.now ∷ []
 
 -- what the tests have found, once all are made
-abbrev entry : tie.After-then-rooms → tie.Start
+abbrev entry : tie.After-then_rooms → tie.Start
 entry c = c.before.before.before.before.before.before.before
 
-tested : (c : tie.After-then-rooms)
+tested : (c : tie.After-then_rooms)
     → let b = entry c in let a = b.args in
-    c.then-rooms.result ≡ answer_of (tendencies_test (state b) a.q.now (length a.dh.now) (length a.du.now) (length a.dv.now))
+    c.then_rooms.result ≡ answer_of (tendencies_test (state b) a.q.now (length a.dh.now) (length a.du.now) (length a.dv.now))
 tested c =
     let t = c.before in
     let b = entry c in
-    tendencies-tested (state b) b.args.q.now _ _ _ t.test-vorticity.ensures t.before.cells_of.ensures.0 c.then-rooms.ensures
+    tendencies-tested (state b) b.args.q.now _ _ _ t.test_vorticity.ensures t.before.cells_of.ensures.0 c.then_rooms.ensures
 
 -- once they have passed
-abbrev begin : tie.After-enum-told → tie.Start
+abbrev begin : tie.After-enum_told → tie.Start
 begin c = entry c.before.before
 
-accepted : (c : tie.After-enum-told)
+accepted : (c : tie.After-enum_told)
     → let b = begin c in let a = b.args in
     Accepted ≡ answer_of (tendencies_test (state b) a.q.now (length a.dh.now) (length a.du.now) (length a.dv.now))
 accepted c = sym c.enum_told.given.1 ∙ tested c.before.before
 
-inside : (c : tie.After-enum-told) → let b = begin c in let a = b.args in Ready (state b) a.q.now × Room (cells (state b)) a.dh.now a.du.now a.dv.now
+inside : (c : tie.After-enum_told) → let b = begin c in let a = b.args in Ready (state b) a.q.now × Room (cells (state b)) a.dh.now a.du.now a.dv.now
 inside c =
     let b = begin c in
     let a = b.args in
@@ -61,7 +61,7 @@ done c =
     let q = b.args.q.now in
     let l = f.fill.ensures in
     fill_done (probe_grid_answer (narrow s q)) told_probe_grid (cells s) (fillings b) (accepted-none _ (accepted e))
-    (c.mark-grid.ensures ∙ ap marked_grid (n.is-narrow.ensures ∙ narrow-barred s q))
+    (c.mark_grid.ensures ∙ ap marked_grid (n.is_narrow.ensures ∙ narrow-barred s q))
     (λ i. l.0 i ∷ l.1 i ∷ l.2 i ∷ [])
 
 refused : tie.Need-returns-2
@@ -72,8 +72,8 @@ refused c =
     let s = state b in
     fill-refused (probe_grid_answer (narrow s b.args.q.now)) told_probe_grid (cells s) (fillings b) _ (refused-some _ _ (sym k.refusal.given.1 ∙ tested t)) refl
 
-pub probe-grid-spec : {M : Type 1} → statement M
-probe-grid-spec =
+pub probe_grid_spec : {M : Type 1} → statement M
+probe_grid_spec =
     tie.close
     (tie.spec
     (λ c κs. search rules)

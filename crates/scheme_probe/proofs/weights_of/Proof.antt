@@ -12,5 +12,5 @@ returns c =
     h.ne.small ◂ h.nw.small ◂ h.sw.small ◂ h.se.small ◂ ∎ in
     rw (h.ne.is, h.nw.is, h.sw.is, h.se.is) (p-row sizes, m-row sizes, e-row sizes, f-row sizes)
 
-pub weights-of-spec : {M : Type 1} → statement M
-weights-of-spec = tie.close (tie.spec returns)
+pub weights_of_spec : {M : Type 1} → statement M
+weights_of_spec = tie.close (tie.spec returns)

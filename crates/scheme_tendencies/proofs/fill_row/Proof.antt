@@ -39,15 +39,15 @@ loop-holds : tie.Need-loop-init invariant-loop decreases-loop
 loop-holds c =
     let s = c.before in
     let a = s.args in
-    let x = c.from-west in
-    (row-none _ _ _ a.j, row-none _ _ _ a.j, row-none _ _ _ a.j, handing-none s.requires.2, subst (FromWest (state s) a.q.now 0 a.j) (sym (held-is w64 x.type-inv refl)) x.ensures)
+    let x = c.from_west in
+    (row-none _ _ _ a.j, row-none _ _ _ a.j, row-none _ _ _ a.j, handing-none s.requires.2, subst (FromWest (state s) a.q.now 0 a.j) (sym (held-is w64 x.type_inv refl)) x.ensures)
 
 -- ---- a turn
 
 abbrev begin : tie.In-loop invariant-loop decreases-loop → tie.Start invariant-loop decreases-loop
 begin c = c.before.before.before
 
-abbrev turn : tie.After-struct-known invariant-loop decreases-loop → tie.In-loop invariant-loop decreases-loop
+abbrev turn : tie.After-struct_known invariant-loop decreases-loop → tie.In-loop invariant-loop decreases-loop
 turn c = c.before.before.before.before.before.before.before.before
 
 below : (c : tie.In-loop invariant-loop decreases-loop) → let a = (begin c).args in a.j * a.p.w + c.before.loop.i < a.p.w * a.p.n
@@ -67,8 +67,8 @@ in_row c =
     let r = (begin c).requires.3 in
     (omega (arith, below c, l.0.long, r.h), omega (arith, below c, l.1.long, r.u), omega (arith, below c, l.2.long, r.v))
 
-tendencies-at-requires : tie.Need-tendencies-at-requires invariant-loop decreases-loop
-tendencies-at-requires c κs =
+tendencies_at-requires : tie.Need-tendencies_at-requires invariant-loop decreases-loop
+tendencies_at-requires c κs =
     let i = c.before in
     let s = begin i in
     let inv = i.before.loop.invariant in
@@ -84,7 +84,7 @@ loop-again c =
     let p = i.loop-test.taken in
     let r = s.pre.1 in
     let fit = fit-in s.pre.0 p r in
-    let e = k.tendencies-at.ensures in (
+    let e = k.tendencies_at.ensures in (
       row-filled _ _ _ inv.0 p r (held-is w64 t.struct_told.given.0.1 e.depth),
       row-filled _ _ _ inv.1 p r (held-is w64 t.struct_told.given.1.0.1 e.u),
       row-filled _ _ _ inv.2 p r (held-is w64 t.struct_told.given.1.1.0.1 e.v),
@@ -105,8 +105,8 @@ returns c =
       handing-all inv.3 all s.requires.2.long,
     )
 
-pub fill-row-spec : {M : Type 1} → statement M
-fill-row-spec =
+pub fill_row_spec : {M : Type 1} → statement M
+fill_row_spec =
     tie.close
     (tie.spec
     invariant-loop
@@ -115,7 +115,7 @@ fill-row-spec =
     loop-holds
     (λ c. omega (arith, most c))
     in-handed
-    tendencies-at-requires
+    tendencies_at-requires
     (λ c. omega (arith, most (turn c)))
     (λ c. omega (arith, most (turn c)))
     (λ c. omega (arith, most (turn c)))

@@ -27,13 +27,13 @@ abbrev decreases-loop : tie.decreases-loop
 decreases-loop p h b u v q dh₀ du₀ dv₀ handed₀ j₀ j-end dh du dv handed j = p.n - j
 
 loop-holds : tie.Need-loop-init invariant-loop decreases-loop
-loop-holds c = (zero-le, rows_none _ _ _, rows_none _ _ _, rows_none _ _ _, c.before.hand-north.ensures, c.handed2.given)
+loop-holds c = (zero-le, rows_none _ _ _, rows_none _ _ _, rows_none _ _ _, c.before.hand_north.ensures, c.handed2.given)
 
-slice-aggregate-fill-row : tie.Need-slice-aggregate-fill-row invariant-loop decreases-loop
-slice-aggregate-fill-row c = sym c.before.before.loop.invariant.5
+slice_aggregate-fill_row : tie.Need-slice_aggregate-fill_row invariant-loop decreases-loop
+slice_aggregate-fill_row c = sym c.before.before.loop.invariant.5
 
-fill-row-requires : tie.Need-fill-row-requires invariant-loop decreases-loop
-fill-row-requires c κs =
+fill_row-requires : tie.Need-fill_row-requires invariant-loop decreases-loop
+fill_row-requires c κs =
     let i = c.before.before.before.before in
     let s = i.before.before.before.before.before in
     let inv = i.before.loop.invariant in
@@ -46,7 +46,7 @@ loop-again c =
     let s = i.before.before.before.before.before in
     let inv = i.before.loop.invariant in
     let j = i.before.loop.j in
-    let e = f.fill-row.ensures in (
+    let e = f.fill_row.ensures in (
       omega arith,
       row_done _ _ _ j e.0 (omega arith) (omega (arith, s.requires.1.h)) inv.1,
       row_done _ _ _ j e.1 (omega arith) (omega (arith, s.requires.1.u)) inv.2,
@@ -62,8 +62,8 @@ returns c =
     let all = c.loop-test.false in
     (rows-filled _ _ _ inv.1 all, rows-filled _ _ _ inv.2 all, rows-filled _ _ _ inv.3 all)
 
-pub fill-walled-spec : {M : Type 1} → statement M
-fill-walled-spec =
+pub fill_walled_spec : {M : Type 1} → statement M
+fill_walled_spec =
     tie.close
     (tie.spec
     invariant-loop
@@ -71,8 +71,8 @@ fill-walled-spec =
     (λ c. refl)
     (λ c κs. let s = c.before in (s.requires.0, s.requires.0.state.columns.most))
     loop-holds
-    slice-aggregate-fill-row
-    fill-row-requires
+    slice_aggregate-fill_row
+    fill_row-requires
     (λ c. let i = c.before.before.before.before.before.before.before.before.before in omega (arith, i.loop-test.true, i.before.before.before.before.before.requires.0.state.rows.most))
     (λ c. omega (arith, c.before.before.before.before.before.before.before.before.before.loop-test.true))
     loop-again

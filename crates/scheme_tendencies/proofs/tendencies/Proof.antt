@@ -22,21 +22,21 @@ abbrev fillings : tie.Start → List (Filling ℤ)
 fillings c = let a = c.args in h_tendencies (state c) into a.dh.now ∷ u_tendencies (state c) a.q.now into a.du.now ∷ v_tendencies (state c) a.q.now into a.dv.now ∷ []
 
 -- what the tests have found, once all are made
-tested : (c : tie.After-then-rooms)
+tested : (c : tie.After-then_rooms)
     → let b = c.before.before.before.before in let a = b.args in
-    c.then-rooms.result ≡ answer_of (tendencies_test (state b) a.q.now (length a.dh.now) (length a.du.now) (length a.dv.now))
+    c.then_rooms.result ≡ answer_of (tendencies_test (state b) a.q.now (length a.dh.now) (length a.du.now) (length a.dv.now))
 tested c =
     let t = c.before in
     let b = t.before.before.before in
-    tendencies-tested (state b) b.args.q.now _ _ _ t.test-vorticity.ensures t.before.cells_of.ensures.0 c.then-rooms.ensures
+    tendencies-tested (state b) b.args.q.now _ _ _ t.test_vorticity.ensures t.before.cells_of.ensures.0 c.then_rooms.ensures
 
-accepted : (c : tie.After-enum-told)
+accepted : (c : tie.After-enum_told)
     → let b = c.before.before.before.before.before.before in let a = b.args in
     Accepted ≡ answer_of (tendencies_test (state b) a.q.now (length a.dh.now) (length a.du.now) (length a.dv.now))
 accepted c = sym c.enum_told.given.1 ∙ tested c.before.before
 
-fill-tendencies-requires : tie.Need-fill-tendencies-requires
-fill-tendencies-requires c κs =
+fill_tendencies-requires : tie.Need-fill_tendencies-requires
+fill_tendencies-requires c κs =
     let e = c.before.before.before in
     let b = e.before.before.before.before.before.before in
     let a = b.args in
@@ -47,7 +47,7 @@ refused c =
     let t = c.before.before in
     let b = t.before.before.before.before in
     let s = state b in
-    let h = c.enum-told2.given.1 in
+    let h = c.enum_told2.given.1 in
     fill-refused answer_of told_answer (cells s) (fillings b) _ (refused-some _ _ (sym h ∙ tested t)) h
 
 done : tie.Need-returns-2
@@ -56,11 +56,11 @@ done c =
     let e = f.before.before.before.before in
     let b = e.before.before.before.before.before.before in
     let s = state b in
-    let l = f.fill-tendencies.ensures in
+    let l = f.fill_tendencies.ensures in
     fill_done answer_of told_answer (cells s) (fillings b) (accepted-none _ (accepted e)) refl (λ i. l.0 i ∷ l.1 i ∷ l.2 i ∷ [])
 
-pub tendencies-spec : {M : Type 1} → statement M
-tendencies-spec =
+pub tendencies_spec : {M : Type 1} → statement M
+tendencies_spec =
     tie.close
     (tie.spec
     (λ c κs. search rules)
@@ -69,7 +69,7 @@ tendencies-spec =
     (λ c. search rules)
     (λ c. search rules)
     refused
-    fill-tendencies-requires
+    fill_tendencies-requires
     (λ c. search rules)
     (λ c. search rules)
     (λ c. search rules)

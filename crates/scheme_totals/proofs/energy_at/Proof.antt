@@ -30,41 +30,41 @@ abbrev potential : tie.After-around → ℤ
 potential c = let a = c.before.args in potential_at a.p.g a.h.now a.b.now c.around.result.here
 
 -- g as the machine holds it
-g-is : (c : tie.After-struct-told) → let p = c.before.before.before.before.args.p in held w64 p.g ≡ p.g
+g-is : (c : tie.After-struct_told) → let p = c.before.before.before.before.args.p in held w64 p.g ≡ p.g
 g-is c = to_z-of_z {w = w64} (record { sfits = c.struct_told.given.1.1.1.0.1 })
 
-potential-is : (c : tie.After-potential-at) → c.potential-at.result ≡ potential c.before.before.before.before
+potential-is : (c : tie.After-potential_at) → c.potential_at.result ≡ potential c.before.before.before.before
 potential-is c =
     let r = c.before.before.before.before in
     let a = r.before.args in
-    c.potential-at.ensures ∙ ap (λ (g : ℤ). potential_at g a.h.now a.b.now r.around.result.here) (g-is c.before)
+    c.potential_at.ensures ∙ ap (λ (g : ℤ). potential_at g a.h.now a.b.now r.around.result.here) (g-is c.before)
 
-sizes : (c : tie.After-kinetic-at2) → Sizes (c.before.kinetic-at.result ∷ c.kinetic-at2.result ∷ potential c.before.before ∷ []) (most_kinetic ∷ most_kinetic ∷ most_potential ∷ [])
+sizes : (c : tie.After-kinetic_at2) → Sizes (c.before.kinetic_at.result ∷ c.kinetic_at2.result ∷ potential c.before.before ∷ []) (most_kinetic ∷ most_kinetic ∷ most_potential ∷ [])
 sizes c =
     let a = c.before.before in
     let b = below a in
-    rw (c.before.kinetic-at.ensures, c.kinetic-at2.ensures) (energy-sizes a.before.requires.0 (omega arith) (omega arith) (omega arith))
+    rw (c.before.kinetic_at.ensures, c.kinetic_at2.ensures) (energy-sizes a.before.requires.0 (omega arith) (omega arith) (omega arith))
 
-kinetic-at-requires : tie.Need-kinetic-at-requires
-kinetic-at-requires c κs =
+kinetic_at-requires : tie.Need-kinetic_at-requires
+kinetic_at-requires c κs =
     let b = below c in
     let l = c.before.requires.0 in
     (reads l.us (omega arith), reads l.depths (omega arith), reads l.depths (omega arith))
 
-kinetic-at-requires-2 : tie.Need-kinetic-at-requires-2
-kinetic-at-requires-2 c κs =
+kinetic_at-requires-2 : tie.Need-kinetic_at-requires-2
+kinetic_at-requires-2 c κs =
     let b = below c.before in
     let l = c.before.before.requires.0 in
     (reads l.vs (omega arith), reads l.depths (omega arith), reads l.depths (omega arith))
 
-potential-at-requires : tie.Need-potential-at-requires
-potential-at-requires c κs =
+potential_at-requires : tie.Need-potential_at-requires
+potential_at-requires c κs =
     let a = c.before.before.before in
     let b = below a in
     let l = a.before.requires.0 in
     (subst (Within gravity_limits) (sym (g-is c)) l.gravity, reads l.depths (omega arith), reads l.bottoms (omega arith))
 
-add-result-2 : tie.Need-overflow-add-result-2
+add-result-2 : tie.Need-overflow_add-result-2
 add-result-2 c = rw (potential-is c) (fits energy_expr (sizes c.before.before) tt)
 
 returns : tie.Need-returns
@@ -72,16 +72,16 @@ returns c =
     let k = c.before.before in
     let a = k.before.before in
     rw (potential-is c)
-    (exact w64 energy_expr (sizes k) tt ∙ rw (k.before.kinetic-at.ensures, k.kinetic-at2.ensures) (energy-around (state a.before) a.around.ensures))
+    (exact w64 energy_expr (sizes k) tt ∙ rw (k.before.kinetic_at.ensures, k.kinetic_at2.ensures) (energy-around (state a.before) a.around.ensures))
 
-pub energy-at-spec : {M : Type 1} → statement M
-energy-at-spec =
+pub energy_at_spec : {M : Type 1} → statement M
+energy_at_spec =
     tie.close
     (tie.spec
     (λ c κs. search rules)
-    kinetic-at-requires
-    kinetic-at-requires-2
+    kinetic_at-requires
+    kinetic_at-requires-2
     (λ c. fits (var 0 ⊕ var 1) (sizes c) tt)
-    potential-at-requires
+    potential_at-requires
     add-result-2
     returns)

@@ -17,8 +17,8 @@ sizes c = let p = c.before.before.before.requires in velocity-size p.0.value ◂
 returns : tie.Need-returns
 returns c = exact w64 kinetic_expr (sizes c) tt
 
-pub kinetic-at-spec : {M : Type 1} → statement M
-kinetic-at-spec =
+pub kinetic_at_spec : {M : Type 1} → statement M
+kinetic_at_spec =
     tie.close
     (tie.spec
     (λ c. search rules)

@@ -17,8 +17,8 @@ sizes c = let p = c.requires in gravity-size p.0 ◂ depth-size p.1.value ◂ bo
 returns : tie.Need-returns
 returns c = exact w64 potential_expr (sizes c.before.before.before) tt
 
-pub potential-at-spec : {M : Type 1} → statement M
-potential-at-spec =
+pub potential_at_spec : {M : Type 1} → statement M
+potential_at_spec =
     tie.close
     (tie.spec
     (λ c. fits (con (pos 2) ⊗ var 0) (sizes c) tt)

@@ -47,8 +47,8 @@ returns c =
     let h = c.before.before.args.h.now in
     l.invariant.1 ∙ ap (λ (k : ℕ). sum_to k (depth h)) (le_antisymm l.invariant.0 c.loop-test.false) ∙ sym (total-sum h)
 
-pub sum-depths-spec : {M : Type 1} → statement M
-sum-depths-spec =
+pub sum_depths_spec : {M : Type 1} → statement M
+sum_depths_spec =
     tie.close
     (tie.spec
     invariant-loop

@@ -37,7 +37,7 @@ abbrev cell : tie.Start invariant-loop2 decreases-loop2 invariant-loop decreases
 cell c = let a = c.args in energy a.p a.h.now a.b.now a.u.now a.v.now
 
 -- the sizes of the sum so far, and of what is added to it
-module _ (c : tie.After-energy-at invariant-loop2 decreases-loop2 invariant-loop decreases-loop) where
+module _ (c : tie.After-energy_at invariant-loop2 decreases-loop2 invariant-loop decreases-loop) where
   abbrev inner : tie.At-loop2 invariant-loop2 decreases-loop2 invariant-loop decreases-loop
   inner = c.before.before
 
@@ -49,8 +49,8 @@ module _ (c : tie.After-energy-at invariant-loop2 decreases-loop2 invariant-loop
       let l = outer.before.pre in
       before-most 64 l.columns.most l.rows.most inner.loop2.inv.0 inner.before.loop-test.taken (λ i j p q. energy-size _ l p q)
 
-  added : Abs c.energy-at.result most_energy
-  added = abs-as c.energy-at.ensures (energy-size _ outer.before.pre c.before.loop2-test.true inner.before.loop-test.taken)
+  added : Abs c.energy_at.result most_energy
+  added = abs-as c.energy_at.ensures (energy-size _ outer.before.pre c.before.loop2-test.true inner.before.loop-test.taken)
 
 loop2-again : tie.Need-loop2-preserved invariant-loop2 decreases-loop2 invariant-loop decreases-loop
 loop2-again c =
@@ -59,7 +59,7 @@ loop2-again c =
     let l = (inner c).loop2 in
     let w = (outer c).before.args.p.w in (
       omega arith,
-      added_is l.sum l.inv.1 (so_far c) (added c) tt ∙ ap (λ (x : ℤ). sum_before w f j l.i +ℤ x) c.energy-at.ensures ∙ row_more w f j l.i,
+      added_is l.sum l.inv.1 (so_far c) (added c) tt ∙ ap (λ (x : ℤ). sum_before w f j l.i +ℤ x) c.energy_at.ensures ∙ row_more w f j l.i,
     )
 
 loop-again : tie.Need-loop-preserved invariant-loop2 decreases-loop2 invariant-loop decreases-loop
@@ -79,8 +79,8 @@ returns c =
     let s = c.before.before in
     l.invariant.1 ∙ ap (λ (j : ℕ). sum_grid s.args.p.w j (cell s)) (le_antisymm l.invariant.0 c.loop-test.false)
 
-pub sum-energy-spec : {M : Type 1} → statement M
-sum-energy-spec =
+pub sum_energy_spec : {M : Type 1} → statement M
+sum_energy_spec =
     tie.close
     (tie.spec
     invariant-loop2

@@ -20,11 +20,11 @@ use Rattle.scheme_totals.proofs.total_depth.Tie as tie
 abbrev state : tie.Start → State
 state c = let a = c.args in state_of a.p a.h.now a.b.now a.u.now a.v.now a.barriers.now
 
-passed : (c : tie.After-enum-told) → Accepted ≡ answer_of (first_found (total_tests (state c.before.before.before.before)))
-passed c = sym c.enum_told.given.1 ∙ c.before.before.test-state.ensures
+passed : (c : tie.After-enum_told) → Accepted ≡ answer_of (first_found (total_tests (state c.before.before.before.before)))
+passed c = sym c.enum_told.given.1 ∙ c.before.before.test_state.ensures
 
-sum-depths-requires : tie.Need-sum-depths-requires
-sum-depths-requires c κs =
+sum_depths-requires : tie.Need-sum_depths-requires
+sum_depths-requires c κs =
     let s = c.before.before.before.before in
     let h = s.args.h.now in
     let l = total-passed (state s) (passed c) in
@@ -34,7 +34,7 @@ sum-depths-requires c κs =
 returns : tie.Need-returns
 unfolding total_depth
 returns c =
-    let e = total-told (state c.before.before.before.before.before) (passed c.before) (held-is w64 c.sum-depths.type-inv c.sum-depths.ensures) in
+    let e = total-told (state c.before.before.before.before.before) (passed c.before) (held-is w64 c.sum_depths.type_inv c.sum_depths.ensures) in
     record { answers = e; tells = ap told_total e }
 
 returns-2 : tie.Need-returns-2
@@ -42,16 +42,16 @@ returns-2 c =
     let k = c.before in
     let t = k.before.before in
     let s = state t.before.before in
-    let e = total-refused s (total_depth s) (sym k.refusal.given.1 ∙ t.test-state.ensures) in
+    let e = total-refused s (total_depth s) (sym k.refusal.given.1 ∙ t.test_state.ensures) in
     record { answers = e; tells = ap told_total e }
 
-pub total-depth-spec : {M : Type 1} → statement M
-total-depth-spec =
+pub total_depth_spec : {M : Type 1} → statement M
+total_depth_spec =
     tie.close
     (tie.spec
     (λ c κs. search rules)
     (λ c. search rules)
-    sum-depths-requires
+    sum_depths-requires
     (λ c. search rules)
     returns
     returns-2)

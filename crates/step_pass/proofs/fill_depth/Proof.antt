@@ -42,7 +42,7 @@ Turn = tie.In-loop2 invariant-loop2 decreases-loop2 invariant-loop decreases-loo
 abbrev begin : Turn → Start
 begin c = c.before.before.before.before.before
 
-abbrev turn : tie.After-struct-known2 invariant-loop2 decreases-loop2 invariant-loop decreases-loop → Turn
+abbrev turn : tie.After-struct_known2 invariant-loop2 decreases-loop2 invariant-loop decreases-loop → Turn
 turn c = c.before.before.before
 
 abbrev cell : Turn → ℕ
@@ -75,7 +75,7 @@ loop2-again c =
     let inv = i.before.loop2.inv in
     let l = below i in
     let same = ap (λ (f : ℕ → ℕ → ℤ). f i.before.loop2.i i.before.before.before.loop.j) (depths-kept p inv.1 a.inflow.now (ready-row i).long) in (
-      bank-more _ _ _ inv.0 i.loop2-test.taken i.before.before.loop-test.taken (held-is w64 n.new-depth.type-inv (n.new-depth.ensures ∙ same)) (part-set (3 * m) m _ k _ l),
+      bank-more _ _ _ inv.0 i.loop2-test.taken i.before.before.loop-test.taken (held-is w64 n.new_depth.type_inv (n.new_depth.ensures ∙ same)) (part-set (3 * m) m _ k _ l),
       elsewhere-set (3 * m + k) _ inv.1 (omega arith) (omega arith),
     )
 
@@ -105,8 +105,8 @@ returns c =
     let inv = c.before.loop.invariant in
     (bank-filled _ _ _ inv.1 c.loop-test.false (length_part (3 * m) m b.args.work.now (omega (arith, b.requires.long))), inv.2)
 
-pub fill-depth-spec : {M : Type 1} → statement M
-fill-depth-spec =
+pub fill_depth_spec : {M : Type 1} → statement M
+fill_depth_spec =
     tie.close
     (tie.spec
     invariant-loop2

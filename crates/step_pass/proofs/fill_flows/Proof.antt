@@ -52,7 +52,7 @@ Turn = tie.In-loop2 invariant-loop2 decreases-loop2 invariant-loop decreases-loo
 abbrev begin : Turn → Start
 begin c = c.before.before.before.before.before
 
-abbrev turn : tie.After-struct-known2 invariant-loop2 decreases-loop2 invariant-loop decreases-loop → Turn
+abbrev turn : tie.After-struct_known2 invariant-loop2 decreases-loop2 invariant-loop decreases-loop → Turn
 turn c = c.before.before.before.before
 
 -- the cell's index
@@ -74,8 +74,8 @@ places : (c : Turn)
     → let p = (begin c).args.p in let m = p.w * p.n in let l = length c.before.loop2.work in (4 * m + cell c < l) × (5 * m + cell c < l)
 places c = (omega (arith, below c, long c), omega (arith, below c, long c))
 
-flows-at-requires : tie.Need-flows-at-requires invariant-loop2 decreases-loop2 invariant-loop decreases-loop
-flows-at-requires c κs = ((begin c).requires.0, c.loop2-test.true, c.before.before.loop-test.true)
+flows_at-requires : tie.Need-flows_at-requires invariant-loop2 decreases-loop2 invariant-loop decreases-loop
+flows_at-requires c κs = ((begin c).requires.0, c.loop2-test.true, c.before.before.loop-test.true)
 
 loop2-again : tie.Need-loop2-preserved invariant-loop2 decreases-loop2 invariant-loop decreases-loop
 loop2-again c =
@@ -91,10 +91,10 @@ loop2-again c =
     let q = i.loop2-test.true in
     let r = i.before.before.loop-test.true in
     let l = below i in (
-      bank-more _ _ _ inv.0 q r (held-is w64 t.struct-told2.given.0.1 e.flows-at.ensures.0)
+      bank-more _ _ _ inv.0 q r (held-is w64 t.struct_told2.given.0.1 e.flows_at.ensures.0)
           (part-set-behind (4 * m) m _ (5 * m + k) _ (omega arith) ∙ part-set (4 * m) m d k _ l),
-      bank-more _ _ _ inv.1 q r (held-is w64 t.struct-told2.given.1.0.1 e.flows-at.ensures.1)
-          (part-set (5 * m) m _ k _ l ∙ ap (λ f. set f k (held w64 e.flows-at.result.y)) (part-set-before (5 * m) m d (4 * m + k) _ (omega arith))),
+      bank-more _ _ _ inv.1 q r (held-is w64 t.struct_told2.given.1.0.1 e.flows_at.ensures.1)
+          (part-set (5 * m) m _ k _ l ∙ ap (λ f. set f k (held w64 e.flows_at.result.y)) (part-set-before (5 * m) m d (4 * m + k) _ (omega arith))),
       elsewhere-set (5 * m + k) _ (elsewhere-set (4 * m + k) _ inv.2 (omega arith) (omega arith)) (omega arith) (omega arith),
     )
 
@@ -131,8 +131,8 @@ returns c =
       inv.3,
     )
 
-pub fill-flows-spec : {M : Type 1} → statement M
-fill-flows-spec =
+pub fill_flows_spec : {M : Type 1} → statement M
+fill_flows_spec =
     tie.close
     (tie.spec
     invariant-loop2
@@ -142,7 +142,7 @@ fill-flows-spec =
     (λ c. omega (arith, few c.before))
     (λ c. (zero-le, rows_none _ _ _, rows_none _ _ _, elsewhere-none))
     (λ c. let j = c.before.loop.j in (row-none _ _ _ j, row-none _ _ _ j, elsewhere-none))
-    flows-at-requires
+    flows_at-requires
     (λ c. omega (arith, below (turn c), few (begin (turn c))))
     (λ c. omega (arith, below (turn c), few (begin (turn c))))
     (λ c. omega (arith, few (begin (turn c))))

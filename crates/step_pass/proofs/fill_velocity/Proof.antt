@@ -44,11 +44,11 @@ cells c = c.args.p.w * c.args.p.n
 few : (c : Start) → cells c ≤ 4096
 few c = let s = c.requires.given.state in cells-most s.columns s.rows
 
-hand-north-requires : tie.Need-hand-north-requires invariant-loop decreases-loop
-hand-north-requires c κs = let s = c.before in (s.requires.given, s.requires.given.state.columns.most)
+hand_north-requires : tie.Need-hand_north-requires invariant-loop decreases-loop
+hand_north-requires c κs = let s = c.before in (s.requires.given, s.requires.given.state.columns.most)
 
 loop-holds : tie.Need-loop-init invariant-loop decreases-loop
-loop-holds c = let k = c.before in (zero-le, rows_none _ _ _, rows_none _ _ _, k.hand-north.ensures, c.handed2.given, elsewhere-none)
+loop-holds c = let k = c.before in (zero-le, rows_none _ _ _, rows_none _ _ _, k.hand_north.ensures, c.handed2.given, elsewhere-none)
 
 -- ---- a row
 
@@ -58,8 +58,8 @@ Turn = tie.In-loop invariant-loop decreases-loop
 abbrev begin : Turn → Start
 begin c = c.before.before.before.before.before
 
-velocity-row-requires : tie.Need-velocity-row-requires invariant-loop decreases-loop
-velocity-row-requires c κs =
+velocity_row-requires : tie.Need-velocity_row-requires invariant-loop decreases-loop
+velocity_row-requires c κs =
     let i = c.before.before in
     let s = begin i in
     let inv = i.before.loop.invariant in (velocity-ready-kept (state s) inv.5 s.pre, i.loop-test.true, inv.3)
@@ -79,8 +79,8 @@ loop-again c =
     let inv = i.before.loop.invariant in
     let j = i.before.loop.j in
     let d = i.before.loop.work in
-    let e = f.velocity-row.ensures in
-    let after = f.velocity-row.new.1.1.1.1.1.1.1 in
+    let e = f.velocity_row.ensures in
+    let after = f.velocity_row.new.1.1.1.1.1.1.1 in
     let d' = after.1.0 in
     let room : (a : ℕ) → a + m ≤ 8 * m → 0 + p.w * p.n ≤ length (part a m s.args.work.now) = λ a h. omega (arith, length_part a m s.args.work.now (omega (arith, s.pre.long))) in (
       omega arith,
@@ -100,17 +100,17 @@ returns c =
     let room : (a : ℕ) → a + m ≤ 8 * m → length (part a m s.args.work.now) ≡ m = λ a h. length_part a m s.args.work.now (omega (arith, s.requires.long)) in
     (bank-filled _ _ _ inv.1 all (room (4 * m) (omega arith)), bank-filled _ _ _ inv.2 all (room (5 * m) (omega arith)), inv.5)
 
-pub fill-velocity-spec : {M : Type 1} → statement M
-fill-velocity-spec =
+pub fill_velocity_spec : {M : Type 1} → statement M
+fill_velocity_spec =
     tie.close
     (tie.spec
     invariant-loop
     decreases-loop
     (λ c. refl)
-    hand-north-requires
+    hand_north-requires
     loop-holds
     (λ c. sym c.before.before.loop.invariant.4)
-    velocity-row-requires
+    velocity_row-requires
     (λ c. let i = c.before.before.before.before.before in omega (arith, i.loop-test.true, (begin i).requires.given.state.rows.most))
     (λ c. omega (arith, c.before.before.before.before.before.loop-test.true))
     loop-again

@@ -17,94 +17,94 @@ abbrev state : tie.Start → State
 state c = let a = c.args in state_of a.p a.h.now a.b.now a.u.now a.v.now a.barriers.now
 
 -- the functions that have returned before, from the last one on
-abbrev begin : tie.After-fill-vorticity → tie.Start
+abbrev begin : tie.After-fill_vorticity → tie.Start
 begin c = c.before.before.before
 
-abbrev corners : tie.After-fill-flows → tie.After-fill-vorticity
+abbrev corners : tie.After-fill_flows → tie.After-fill_vorticity
 corners c = c.before.before.before
 
-abbrev flows : tie.After-fill-depth → tie.After-fill-flows
+abbrev flows : tie.After-fill_depth → tie.After-fill_flows
 flows c = c.before.before.before
 
-abbrev depths : tie.After-part-of → tie.After-fill-depth
+abbrev depths : tie.After-part_of → tie.After-fill_depth
 depths c = c.before.before.before.before
 
-abbrev lent : tie.After-fill-velocity → tie.After-part-of
+abbrev lent : tie.After-fill_velocity → tie.After-part_of
 lent c = c.before.before
 
-abbrev velocities : tie.After-clear-barred → tie.After-fill-velocity
+abbrev velocities : tie.After-clear_barred → tie.After-fill_velocity
 velocities c = c.before.before.before.before
 
-abbrev start : tie.After-part-of → tie.Start
+abbrev start : tie.After-part_of → tie.Start
 start c = begin (corners (flows (depths c)))
 
 few : (c : tie.Start) → cells (state c) ≤ 4096
 few c = let l = c.requires.given in cells-most l.columns l.rows
 
 -- what the potential vorticity loop has left in its slice
-abbrev left : tie.After-fill-vorticity → List ℤ
-left c = c.fill-vorticity.new.1.1.1.1.0
+abbrev left : tie.After-fill_vorticity → List ℤ
+left c = c.fill_vorticity.new.1.1.1.1.0
 
 -- what is lent on is the state's own potential vorticity
-abbrev q : tie.After-part-of → List ℤ
+abbrev q : tie.After-part_of → List ℤ
 q c = c.part_of.result.now
 
-q-is : (c : tie.After-part-of) → q c ≡ vorticity (state (start c))
+q-is : (c : tie.After-part_of) → q c ≡ vorticity (state (start c))
 q-is c =
     let v = corners (flows (depths c)) in
     let s = begin v in
-    vorticity-is (state s) s.args.q.now v.fill-vorticity.ensures (c.part_of.ensures ∙ ap (λ (m : ℕ). part 0 m (left v)) c.before.before.corner-count.ensures.0)
+    vorticity-is (state s) s.args.q.now v.fill_vorticity.ensures (c.part_of.ensures ∙ ap (λ (m : ℕ). part 0 m (left v)) c.before.before.corner_count.ensures.0)
 
-fill-vorticity-requires : tie.Need-fill-vorticity-requires
-fill-vorticity-requires c κs =
+fill_vorticity-requires : tie.Need-fill_vorticity-requires
+fill_vorticity-requires c κs =
     let s = c.before.before in
     let l = s.requires.given in
     (record { columns = l.columns; rows = l.rows; coriolis = l.coriolis; depths = l.depths; us = l.us; vs = l.vs }, s.requires.fits)
 
-fill-flows-requires : tie.Need-fill-flows-requires
-fill-flows-requires c κs =
+fill_flows-requires : tie.Need-fill_flows-requires
+fill_flows-requires c κs =
     let s = begin c.before.before in
     let l = s.pre.given in
     (record { columns = l.columns; rows = l.rows; ratio = l.ratio; depths = l.depths; us = l.us; vs = l.vs }, s.pre.long)
 
-fill-depth-requires : tie.Need-fill-depth-requires
-fill-depth-requires c κs =
+fill_depth-requires : tie.Need-fill_depth-requires
+fill_depth-requires c κs =
     let f = c.before.before in
     let s = begin (corners f) in
-    depth-ready (state s) s.args.inflow.now _ s.args.work.now s.pre f.fill-flows.ensures
+    depth-ready (state s) s.args.inflow.now _ s.args.work.now s.pre f.fill_flows.ensures
 
-corner-count-requires : tie.Need-corner-count-requires
-corner-count-requires c κs = let l = (begin (corners (flows c.before))).requires.given in (l.columns, l.rows)
+corner_count-requires : tie.Need-corner_count-requires
+corner_count-requires c κs = let l = (begin (corners (flows c.before))).requires.given in (l.columns, l.rows)
 
-part-of-requires : tie.Need-part-of-requires
-part-of-requires c κs =
+part_of-requires : tie.Need-part_of-requires
+part_of-requires c κs =
     let k = c.before in
     let after = (flows k.before.before).before.before in
-    omega (arith, (begin after.before).requires.fits, k.corner-count.ensures.0, after.q.given)
+    omega (arith, (begin after.before).requires.fits, k.corner_count.ensures.0, after.q.given)
 
-fill-velocity-requires : tie.Need-fill-velocity-requires
-fill-velocity-requires c κs =
+fill_velocity-requires : tie.Need-fill_velocity-requires
+fill_velocity-requires c κs =
     let p = c.before in
     let d = depths p in
     let s = start p in
-    velocity-ready (state s) s.args.inflow.now _ s.args.work.now s.pre (flows d).fill-flows.ensures d.fill-depth.ensures (q-is p)
+    velocity-ready (state s) s.args.inflow.now _ s.args.work.now s.pre (flows d).fill_flows.ensures d.fill_depth.ensures (q-is p)
 
-clear-barred-requires : tie.Need-clear-barred-requires
-clear-barred-requires c κs =
+clear_barred-requires : tie.Need-clear_barred-requires
+clear_barred-requires c κs =
     let v = c.before.before.before in
     let p = lent v in
     let d = depths p in
     let s = start p in
-    west-room (state s) s.args.inflow.now _ s.args.work.now s.pre (flows d).fill-flows.ensures d.fill-depth.ensures (q p) v.fill-velocity.ensures
+    west-room (state s) s.args.inflow.now _ s.args.work.now s.pre (flows d).fill_flows.ensures d.fill_depth.ensures (q p) v.fill_velocity.ensures
 
-clear-barred-requires-2 : tie.Need-clear-barred-requires-2
-clear-barred-requires-2 c κs =
+clear_barred-requires-2 : tie.Need-clear_barred-requires-2
+clear_barred-requires-2 c κs =
     let x = c.before.before in
     let v = velocities x in
     let p = lent v in
     let d = depths p in
     let s = start p in
-    south-room (state s) s.args.inflow.now _ s.args.work.now s.pre (flows d).fill-flows.ensures d.fill-depth.ensures (q p) v.fill-velocity.ensures x.clear-barred.ensures
+    south-room (state s) s.args.inflow.now _ s.args.work.now s.pre (flows d).fill_flows.ensures d.fill_depth.ensures (q p) v.fill_velocity.ensures x.clear_barred.ensures
 
 returns : tie.Need-returns
 returns c =
@@ -114,24 +114,24 @@ returns c =
     let p = lent v in
     let d = depths p in
     let s = start p in
-    passed (state s) s.args.inflow.now _ s.args.work.now s.pre (flows d).fill-flows.ensures d.fill-depth.ensures (q-is p) v.fill-velocity.ensures x.clear-barred.ensures
-    y.clear-barred2.ensures
+    passed (state s) s.args.inflow.now _ s.args.work.now s.pre (flows d).fill_flows.ensures d.fill_depth.ensures (q-is p) v.fill_velocity.ensures x.clear_barred.ensures
+    y.clear_barred2.ensures
 
 pub pass_spec : {M : Type 1} → statement M
 pass_spec =
     tie.close
     (tie.spec
-    fill-vorticity-requires
-    fill-flows-requires
-    fill-depth-requires
-    corner-count-requires
-    part-of-requires
-    fill-velocity-requires
+    fill_vorticity-requires
+    fill_flows-requires
+    fill_depth-requires
+    corner_count-requires
+    part_of-requires
+    fill_velocity-requires
     (λ c. omega (arith, few (start (lent c.before.before))))
     (λ c. omega (arith, few (start (lent c.before.before.before))))
-    clear-barred-requires
+    clear_barred-requires
     (λ c. omega (arith, few (start (lent (velocities c.before.before)))))
-    clear-barred-requires-2
+    clear_barred-requires-2
     (λ c. (flows (depths (lent (velocities c.before.before.before.before)))).before.before.q.given)
     (λ c. (returns c).1.long)
     returns)

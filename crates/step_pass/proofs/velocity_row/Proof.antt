@@ -65,15 +65,15 @@ few c = let s = c.requires.0.given.state in cells-most s.columns s.rows
 
 -- ---- the row begins
 
-from-west-requires : tie.Need-from-west-requires invariant-loop decreases-loop
-from-west-requires c κs = let s = c.before in (ready s, (ready s).state.columns.some, s.requires.1)
+from_west-requires : tie.Need-from_west-requires invariant-loop decreases-loop
+from_west-requires c κs = let s = c.before in (ready s, (ready s).state.columns.some, s.requires.1)
 
 loop-holds : tie.Need-loop-init invariant-loop decreases-loop
 loop-holds c =
     let s = c.before.before in
     let j = s.args.j in
-    let x = c.from-west in
-    (row-none _ _ _ j, row-none _ _ _ j, handing-none s.requires.2, subst (FromWest (state s) (vorticity s) 0 j) (sym (held-is w64 x.type-inv refl)) x.ensures, elsewhere-none)
+    let x = c.from_west in
+    (row-none _ _ _ j, row-none _ _ _ j, handing-none s.requires.2, subst (FromWest (state s) (vorticity s) 0 j) (sym (held-is w64 x.type_inv refl)) x.ensures, elsewhere-none)
 
 -- ---- a turn
 
@@ -98,14 +98,14 @@ places : (c : Turn)
     → let m = cells (begin c) in let k = cell c in let l = length c.before.loop.work in (1 * m + k < l) × (2 * m + k < l) × (4 * m + k < l) × (5 * m + k < l)
 places c = let l = (kept c).long in (omega (arith, below c), omega (arith, below c), omega (arith, below c), omega (arith, below c))
 
-tendencies-at-requires : tie.Need-tendencies-at-requires invariant-loop decreases-loop
-tendencies-at-requires c κs =
+tendencies_at-requires : tie.Need-tendencies_at-requires invariant-loop decreases-loop
+tendencies_at-requires c κs =
     let t = c.before in
     let s = begin t in
     let inv = t.before.loop.invariant in
     (ready s, t.loop-test.true, s.pre.1, inv.3, handing-south inv.2 (ready s) t.loop-test.true s.pre.1)
 
-abbrev turn : tie.After-tendencies-at invariant-loop decreases-loop → Turn
+abbrev turn : tie.After-tendencies_at invariant-loop decreases-loop → Turn
 turn c = c.before.before
 
 -- the base's velocities, the tendencies and R, as the machine holds them
@@ -126,16 +126,16 @@ old-v c =
     let e = sym (get_d_part (2 * m) m d (cell c) (below c)) ∙ ap (λ l. get_or l (cell c) (pos 0)) (kept-before c.before.loop.invariant.4 (2 * m) m (omega arith) (omega arith)) in
     exact w64 (var 0) (abs-as e (velocity-size ((begin c).requires.0.vs.each (cell c) (below c))) ◂ ∎) tt ∙ e
 
-u-is : (c : tie.After-tendencies-at invariant-loop decreases-loop) → let s = begin (turn c) in held w64 c.tendencies-at.result.u ≡ tendency_u (state s) (vorticity s) (turn c).before.loop.i s.args.j
+u-is : (c : tie.After-tendencies_at invariant-loop decreases-loop) → let s = begin (turn c) in held w64 c.tendencies_at.result.u ≡ tendency_u (state s) (vorticity s) (turn c).before.loop.i s.args.j
 u-is c =
     let s = begin (turn c) in
-    let e = c.tendencies-at.ensures.u in
+    let e = c.tendencies_at.ensures.u in
     exact w64 (var 0) (abs-as e (tendency_u-size (ready s) (turn c).loop-test.true s.pre.1) ◂ ∎) tt ∙ e
 
-v-is : (c : tie.After-tendencies-at invariant-loop decreases-loop) → let s = begin (turn c) in held w64 c.tendencies-at.result.v ≡ tendency_v (state s) (vorticity s) (turn c).before.loop.i s.args.j
+v-is : (c : tie.After-tendencies_at invariant-loop decreases-loop) → let s = begin (turn c) in held w64 c.tendencies_at.result.v ≡ tendency_v (state s) (vorticity s) (turn c).before.loop.i s.args.j
 v-is c =
     let s = begin (turn c) in
-    let e = c.tendencies-at.ensures.v in
+    let e = c.tendencies_at.ensures.v in
     exact w64 (var 0) (abs-as e (tendency_v-size (ready s) (turn c).loop-test.true s.pre.1) ◂ ∎) tt ∙ e
 
 ratio-is : (c : Start) → held w64 c.args.p.r ≡ c.args.p.r
@@ -144,8 +144,8 @@ ratio-is c = exact w64 (var 0) (ratio-size c.requires.0.ratio ◂ ∎) tt
 ratio-within : (c : Start) → Within ratio_limits (held w64 c.args.p.r)
 ratio-within c = subst (Within ratio_limits) (sym (ratio-is c)) c.requires.0.ratio
 
-moved-velocity-requires : tie.Need-moved-velocity-requires invariant-loop decreases-loop
-moved-velocity-requires c κs =
+moved_velocity-requires : tie.Need-moved_velocity-requires invariant-loop decreases-loop
+moved_velocity-requires c κs =
     let t = c.before.before.before.before.before.before in
     let i = turn t in
     let s = begin i in (
@@ -154,8 +154,8 @@ moved-velocity-requires c κs =
       ratio-within s,
     )
 
-moved-velocity-requires-2 : tie.Need-moved-velocity-requires-2 invariant-loop decreases-loop
-moved-velocity-requires-2 c κs =
+moved_velocity-requires-2 : tie.Need-moved_velocity-requires-2 invariant-loop decreases-loop
+moved_velocity-requires-2 c κs =
     let t = c.before.before.before.before.before.before.before.before.before.before in
     let i = turn t in
     let s = begin i in (
@@ -167,26 +167,26 @@ moved-velocity-requires-2 c κs =
 moved_by : {x y t t' r r' : ℤ} → x ≡ y → t ≡ t' → r ≡ r' → x +ℤ rnd t (pos 3145728 *ℤ r) ≡ y +ℤ rnd t' (pos 3145728 *ℤ r')
 moved_by e f g = ap₂ ◌+ℤ◌ e (ap₂ (λ t r. rnd t (pos 3145728 *ℤ r)) f g)
 
-abbrev first : tie.After-moved-velocity2 invariant-loop decreases-loop → tie.After-moved-velocity invariant-loop decreases-loop
+abbrev first : tie.After-moved_velocity2 invariant-loop decreases-loop → tie.After-moved_velocity invariant-loop decreases-loop
 first c = c.before.before.before.before
 
-abbrev worked : tie.After-moved-velocity2 invariant-loop decreases-loop → tie.After-tendencies-at invariant-loop decreases-loop
+abbrev worked : tie.After-moved_velocity2 invariant-loop decreases-loop → tie.After-tendencies_at invariant-loop decreases-loop
 worked c = (first c).before.before.before.before.before.before.before
 
-new-u-is : (c : tie.After-moved-velocity2 invariant-loop decreases-loop)
-    → let s = begin (turn (worked c)) in held w64 (first c).moved-velocity.result ≡ new_u (state s) (base_in s.args.p s.args.b.now [] s.args.work.now) (vorticity s) (turn (worked c)).before.loop.i s.args.j
+new-u-is : (c : tie.After-moved_velocity2 invariant-loop decreases-loop)
+    → let s = begin (turn (worked c)) in held w64 (first c).moved_velocity.result ≡ new_u (state s) (base_in s.args.p s.args.b.now [] s.args.work.now) (vorticity s) (turn (worked c)).before.loop.i s.args.j
 unfolding new_u
 new-u-is c =
     let m = first c in
     let t = worked c in
-    held-is w64 m.moved-velocity.ok (m.moved-velocity.ensures ∙ moved_by (old-u (turn t)) (u-is t) (ratio-is (begin (turn t))))
+    held-is w64 m.moved_velocity.ok (m.moved_velocity.ensures ∙ moved_by (old-u (turn t)) (u-is t) (ratio-is (begin (turn t))))
 
-new-v-is : (c : tie.After-moved-velocity2 invariant-loop decreases-loop)
-    → let s = begin (turn (worked c)) in held w64 c.moved-velocity2.result ≡ new_v (state s) (base_in s.args.p s.args.b.now [] s.args.work.now) (vorticity s) (turn (worked c)).before.loop.i s.args.j
+new-v-is : (c : tie.After-moved_velocity2 invariant-loop decreases-loop)
+    → let s = begin (turn (worked c)) in held w64 c.moved_velocity2.result ≡ new_v (state s) (base_in s.args.p s.args.b.now [] s.args.work.now) (vorticity s) (turn (worked c)).before.loop.i s.args.j
 unfolding new_v
 new-v-is c =
     let t = worked c in
-    held-is w64 c.moved-velocity2.type-inv (c.moved-velocity2.ensures ∙ moved_by (old-v (turn t)) (v-is t) (ratio-is (begin (turn t))))
+    held-is w64 c.moved_velocity2.type_inv (c.moved_velocity2.ensures ∙ moved_by (old-v (turn t)) (v-is t) (ratio-is (begin (turn t))))
 
 loop-again : tie.Need-loop-preserved invariant-loop decreases-loop
 loop-again c =
@@ -202,10 +202,10 @@ loop-again c =
     let r = s.pre.1 in
     let l = below i in
     let fit = fit-in (ready s) p r in
-    let e = t.tendencies-at.ensures in (
+    let e = t.tendencies_at.ensures in (
       bank-more _ _ _ inv.0 p r (new-u-is c) (part-set-behind (4 * m) m _ (5 * m + k) _ (omega arith) ∙ part-set (4 * m) m d k _ l),
       bank-more _ _ _ inv.1 p r (new-v-is c)
-          (part-set (5 * m) m _ k _ l ∙ ap (λ f. set f k (held w64 c.moved-velocity2.result)) (part-set-before (5 * m) m d (4 * m + k) _ (omega arith))),
+          (part-set (5 * m) m _ k _ l ∙ ap (λ f. set f k (held w64 c.moved_velocity2.result)) (part-set-before (5 * m) m d (4 * m + k) _ (omega arith))),
       handing-more inv.2 (in-handed i) r (share-held (abs-as e.north (north-size fit)) ∙ e.north),
       to-east p (share-held (abs-as e.east (east-size fit)) ∙ e.east),
       elsewhere-set (5 * m + k) _ (elsewhere-set (4 * m + k) _ inv.4 (omega arith) (omega arith)) (omega arith) (omega arith),
@@ -224,30 +224,30 @@ returns c =
       inv.4,
     )
 
-pub velocity-row-spec : {M : Type 1} → statement M
-velocity-row-spec =
+pub velocity_row_spec : {M : Type 1} → statement M
+velocity_row_spec =
     tie.close
     (tie.spec
     invariant-loop
     decreases-loop
     (λ c. omega (arith, few c.before))
-    from-west-requires
+    from_west-requires
     loop-holds
     (λ c. omega (arith, below c, few (begin c)))
     in-handed
-    tendencies-at-requires
+    tendencies_at-requires
     (λ c. omega (arith, below (turn c.before.before.before), few (begin (turn c.before.before.before))))
     (λ c. omega (arith, below (turn c.before.before.before), few (begin (turn c.before.before.before))))
     (λ c. omega (arith, below (turn c.before.before.before), few (begin (turn c.before.before.before))))
     (λ c. omega (arith, below (turn c.before.before.before), few (begin (turn c.before.before.before))))
     (λ c. omega (arith, below (turn c.before.before.before), few (begin (turn c.before.before.before))))
     (λ c. (places (turn c.before.before.before)).0)
-    moved-velocity-requires
+    moved_velocity-requires
     (λ c. omega (arith, few (begin (turn c.before.before.before.before.before.before.before))))
     (λ c. omega (arith, below (turn c.before.before.before.before.before.before.before), few (begin (turn c.before.before.before.before.before.before.before))))
     (λ c. omega (arith, below (turn c.before.before.before.before.before.before.before), few (begin (turn c.before.before.before.before.before.before.before))))
     (λ c. (places (turn c.before.before.before.before.before.before.before)).1)
-    moved-velocity-requires-2
+    moved_velocity-requires-2
     (λ c. omega (arith, few (begin (turn (worked c)))))
     (λ c. omega (arith, below (turn (worked c)), few (begin (turn (worked c)))))
     (λ c. omega (arith, below (turn (worked c)), few (begin (turn (worked c)))))

@@ -5,8 +5,8 @@ use Rattle.step_run.specs.AsStep.{as_step}
 use Rattle.step_run.proofs.as_step.Statement.{statement}
 use Rattle.step_run.proofs.as_step.Tie as tie
 
-pub as-step-spec : {M : Type 1} → statement M
-as-step-spec =
+pub as_step_spec : {M : Type 1} → statement M
+as_step_spec =
     tie.close
     (tie.spec
     (λ c. search rules)

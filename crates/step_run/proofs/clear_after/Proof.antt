@@ -17,7 +17,7 @@ returns c h b u v barriers =
     let k = c.before in
     let t = k.before.before in
     let a = t.before.before.args in
-    k.clear-used.ensures ∙ sym (ap (λ x. cond x a.work.now (cleared (state_of a.p h b u v barriers) a.work.now)) (clears t))
+    k.clear_used.ensures ∙ sym (ap (λ x. cond x a.work.now (cleared (state_of a.p h b u v barriers) a.work.now)) (clears t))
 
 returns-2 : tie.Need-returns-2
 unfolding work_left
@@ -25,8 +25,8 @@ returns-2 c h b u v barriers =
     let a = c.before.before.args in
     sym (ap (λ x. cond x a.work.now (cleared (state_of a.p h b u v barriers) a.work.now)) (sym c.before.Leaves-all.ensures ∙ not-false _ c.if1.false))
 
-pub clear-after-spec : {M : Type 1} → statement M
-clear-after-spec =
+pub clear_after_spec : {M : Type 1} → statement M
+clear_after_spec =
     tie.close
     (tie.spec
     (λ c κs. search rules)

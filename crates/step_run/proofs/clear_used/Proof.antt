@@ -12,8 +12,8 @@ few c = cells-most c.requires.0 c.requires.1
 returns : tie.Need-returns
 returns c = c.before.clear.ensures
 
-pub clear-used-spec : {M : Type 1} → statement M
-clear-used-spec =
+pub clear_used_spec : {M : Type 1} → statement M
+clear_used_spec =
     tie.close
     (tie.spec
     (λ c. omega (arith, few c.before.before))

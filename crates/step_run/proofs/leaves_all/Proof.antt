@@ -24,8 +24,8 @@ others Destination k = absurd (miss (2 ∷ 3 ∷ 4 ∷ 7 ∷ 8 ∷ []) 6 tt k)
 others Milliseconds k = refl
 others NoSuchCell k = refl
 
-pub leaves-all-spec : {M : Type 1} → statement M
-leaves-all-spec =
+pub leaves_all_spec : {M : Type 1} → statement M
+leaves_all_spec =
     tie.close
     (tie.spec
     (λ c. search rules)
@@ -33,7 +33,7 @@ leaves-all-spec =
     (λ c. search rules)
     (λ c. search rules)
     (λ c. sym (ap leaves_all c.enum_told.given.1))
-    (λ c. sym (ap leaves_all c.enum-told2.given.1))
-    (λ c. sym (ap leaves_all c.enum-told3.given.1))
-    (λ c. sym (ap leaves_all c.enum-told4.given.1))
+    (λ c. sym (ap leaves_all c.enum_told2.given.1))
+    (λ c. sym (ap leaves_all c.enum_told3.given.1))
+    (λ c. sym (ap leaves_all c.enum_told4.given.1))
     (λ c. others c.before.args.refusal c.match.keys5))

@@ -11,13 +11,13 @@ abbrev state : tie.Start → State
 state c = let a = c.args in state_of a.p a.h.now a.b.now a.u.now a.v.now a.barriers.now
 
 -- what the steps ask, of an array of m numbers
-ready : (c : tie.After-corner-count) {m : ℕ} → c.corner-count.result ≤ m → let s = c.before.before in StepReady (state s) s.args.inflow.now m s.args.work.now
+ready : (c : tie.After-corner_count) {m : ℕ} → c.corner_count.result ≤ m → let s = c.before.before in StepReady (state s) s.args.inflow.now m s.args.work.now
 ready c {m} l =
     let t = c.before.before.requires in
-    record { state = t.0; entering = t.1; fits = subst (λ (k : ℕ). k ≤ m) c.corner-count.ensures.0 l; long = t.2 }
+    record { state = t.0; entering = t.1; fits = subst (λ (k : ℕ). k ≤ m) c.corner_count.ensures.0 l; long = t.2 }
 
-pub run-in-room-spec : {M : Type 1} → statement M
-run-in-room-spec =
+pub run_in_room_spec : {M : Type 1} → statement M
+run_in_room_spec =
     tie.close
     (tie.spec
     (λ c κs. let t = c.before.requires.0 in (t.columns, t.rows))
@@ -36,7 +36,7 @@ run-in-room-spec =
     (λ c. search rules)
     (λ c. search rules)
     (λ c. search rules)
-    (λ c κs. let k = c.before.before.before.before.before.before.before in ready k k.corner-count.ensures.1)
+    (λ c κs. let k = c.before.before.before.before.before.before.before in ready k k.corner_count.ensures.1)
     (λ c. search rules)
     (λ c. search rules)
     (λ c. search rules)

@@ -30,37 +30,37 @@ begin c = c.before.before.before
 abbrev state : Turn → State
 state c = let a = (begin c).args in let l = c.before.loop in state_of a.p l.h a.b.now l.u l.v a.barriers.now
 
-abbrev turn : tie.After-two-pass invariant-loop decreases-loop → Turn
+abbrev turn : tie.After-two_pass invariant-loop decreases-loop → Turn
 turn c = c.before.before.before.before.before.before
 
 -- the state after it
-abbrev after : tie.After-two-pass invariant-loop decreases-loop → State
+abbrev after : tie.After-two_pass invariant-loop decreases-loop → State
 after c =
     let a = (begin (turn c)).args in
-    let l = c.two-pass.new.1 in
+    let l = c.two_pass.new.1 in
     state_of a.p l.0 a.b.now l.1.1.0 l.1.1.1.0 a.barriers.now
 
 -- a field at hand is as long as the one that was lent
-module _ (c : tie.After-two-pass invariant-loop decreases-loop) where
-  h-long : let a = (begin (turn c)).args in length c.two-pass.new.1.0 ≡ length a.h.now
-  h-long = c.two-pass.auto.1.0 ∙ (turn c).before.loop.invariant.0.state.depths.long ∙ sym (begin (turn c)).pre.state.depths.long
+module _ (c : tie.After-two_pass invariant-loop decreases-loop) where
+  h-long : let a = (begin (turn c)).args in length c.two_pass.new.1.0 ≡ length a.h.now
+  h-long = c.two_pass.auto.1.0 ∙ (turn c).before.loop.invariant.0.state.depths.long ∙ sym (begin (turn c)).pre.state.depths.long
 
-  u-long : let a = (begin (turn c)).args in length c.two-pass.new.1.1.1.0 ≡ length a.u.now
-  u-long = c.two-pass.auto.1.1.1.0 ∙ (turn c).before.loop.invariant.0.state.us.long ∙ sym (begin (turn c)).pre.state.us.long
+  u-long : let a = (begin (turn c)).args in length c.two_pass.new.1.1.1.0 ≡ length a.u.now
+  u-long = c.two_pass.auto.1.1.1.0 ∙ (turn c).before.loop.invariant.0.state.us.long ∙ sym (begin (turn c)).pre.state.us.long
 
-  v-long : let a = (begin (turn c)).args in length c.two-pass.new.1.1.1.1.0 ≡ length a.v.now
-  v-long = c.two-pass.auto.1.1.1.1.0 ∙ (turn c).before.loop.invariant.0.state.vs.long ∙ sym (begin (turn c)).pre.state.vs.long
+  v-long : let a = (begin (turn c)).args in length c.two_pass.new.1.1.1.1.0 ≡ length a.v.now
+  v-long = c.two_pass.auto.1.1.1.1.0 ∙ (turn c).before.loop.invariant.0.state.vs.long ∙ sym (begin (turn c)).pre.state.vs.long
 
-  q-long : let a = (begin (turn c)).args in length c.two-pass.new.1.1.1.1.1.1.1.0 ≡ length a.q.now
-  q-long = c.two-pass.auto.1.1.1.1.1.1.1.0 ∙ (turn c).before.loop.invariant.3
+  q-long : let a = (begin (turn c)).args in length c.two_pass.new.1.1.1.1.1.1.1.0 ≡ length a.q.now
+  q-long = c.two_pass.auto.1.1.1.1.1.1.1.0 ∙ (turn c).before.loop.invariant.3
 
-  work-long : let a = (begin (turn c)).args in length c.two-pass.new.1.1.1.1.1.1.1.1.0 ≡ length a.work.now
-  work-long = c.two-pass.ensures.1.long ∙ (turn c).before.loop.invariant.2.long
+  work-long : let a = (begin (turn c)).args in length c.two_pass.new.1.1.1.1.1.1.1.1.0 ≡ length a.work.now
+  work-long = c.two_pass.ensures.1.long ∙ (turn c).before.loop.invariant.2.long
 
-  rest : let a = (begin (turn c)).args in Rest (a.p.w * a.p.n) a.work.now c.two-pass.new.1.1.1.1.1.1.1.1.0
-  rest = rest_then (turn c).before.loop.invariant.2 c.two-pass.ensures.1
+  rest : let a = (begin (turn c)).args in Rest (a.p.w * a.p.n) a.work.now c.two_pass.new.1.1.1.1.1.1.1.1.0
+  rest = rest_then (turn c).before.loop.invariant.2 c.two_pass.ensures.1
 
-abbrev stopped : tie.After-known-told invariant-loop decreases-loop → tie.After-two-pass invariant-loop decreases-loop
+abbrev stopped : tie.After-known_told invariant-loop decreases-loop → tie.After-two_pass invariant-loop decreases-loop
 stopped c = c.before.before.before.before.before.before.before.before
 
 returns : tie.Need-returns invariant-loop decreases-loop
@@ -69,11 +69,11 @@ returns c =
     let i = turn t in
     let inflow = (begin i).args.inflow.now in
     let o = two_pass (state i) inflow in
-    let z = came-stuck o _ _ _ (subst (λ a. Stepped (state i) o a (after t)) c.before.pass.given.1 t.two-pass.ensures.0) in
+    let z = came-stuck o _ _ _ (subst (λ a. Stepped (state i) o a (after t)) c.before.pass.given.1 t.two_pass.ensures.0) in
     let ran = running-stuck i.before.loop.inv.1 i.loop-test.taken z.0 in
     (sym (ap (λ (r : Ran). r.answer) ran), z.1 ∙ sym (ap (λ (r : Ran). r.state) ran), rest t)
 
-abbrev moves : tie.After-enum-told invariant-loop decreases-loop → tie.After-two-pass invariant-loop decreases-loop
+abbrev moves : tie.After-enum_told invariant-loop decreases-loop → tie.After-two_pass invariant-loop decreases-loop
 moves c = c.before.before.before.before.before.before.before
 
 loop-again : tie.Need-loop-preserved invariant-loop decreases-loop
@@ -83,8 +83,8 @@ loop-again c =
     let inflow = (begin i).args.inflow.now in
     let o = two_pass (state i) inflow in
     let inv = i.before.loop.inv in
-    let e = came-moved o (subst (λ a. Stepped (state i) o a (after t)) c.enum_told.given.1 t.two-pass.ensures.0) in
-    (ready-next inv.0 e t.two-pass.kept.1.1.1.1.1.1.1.0 t.two-pass.ensures.1.long, running_more inv.1 i.loop-test.taken e, rest t, q-long t)
+    let e = came-moved o (subst (λ a. Stepped (state i) o a (after t)) c.enum_told.given.1 t.two_pass.ensures.0) in
+    (ready-next inv.0 e t.two_pass.kept.1.1.1.1.1.1.1.0 t.two_pass.ensures.1.long, running_more inv.1 i.loop-test.taken e, rest t, q-long t)
 
 returns-2 : tie.Need-returns-2 invariant-loop decreases-loop
 returns-2 c =
@@ -92,8 +92,8 @@ returns-2 c =
     let ran = running-done inv.1 c.loop-test.false in
     (sym (ap (λ (r : Ran). r.answer) ran), sym (ap (λ (r : Ran). r.state) ran), inv.2)
 
-pub run-steps-spec : {M : Type 1} → statement M
-run-steps-spec =
+pub run_steps_spec : {M : Type 1} → statement M
+run_steps_spec =
     tie.close
     (tie.spec
     invariant-loop

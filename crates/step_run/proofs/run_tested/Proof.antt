@@ -17,23 +17,23 @@ state c = let a = c.args in state_of a.p a.h.now a.b.now a.u.now a.v.now a.barri
 
 -- ---- the tests have passed
 
-passed : (c : tie.After-enum-told) → let s = c.before.before.before in Accepted ≡ answer_of (run_test (state s) s.args.inflow.now s.args.steps (length s.args.work.now))
+passed : (c : tie.After-enum_told) → let s = c.before.before.before in Accepted ≡ answer_of (run_test (state s) s.args.inflow.now s.args.steps (length s.args.work.now))
 passed c = sym c.enum_told.given.1 ∙ c.before.before.before.requires
 
-ready : (c : tie.After-enum-told) → let s = c.before.before.before in StepTaken (state s) s.args.inflow.now (length s.args.work.now)
+ready : (c : tie.After-enum_told) → let s = c.before.before.before in StepTaken (state s) s.args.inflow.now (length s.args.work.now)
 ready c = let s = c.before.before.before in run-passed (state s) s.args.inflow.now s.args.steps s.args.work.now (passed c)
 
-abbrev accepted : tie.After-run-in-room → tie.After-enum-told
+abbrev accepted : tie.After-run_in_room → tie.After-enum_told
 accepted c = c.before.before.before.before.before
 
-abbrev ran : tie.After-clear-used-arg → tie.After-run-in-room
+abbrev ran : tie.After-clear_used-arg → tie.After-run_in_room
 ran c = c.before.before.before.before.before
 
-clear-used-requires : tie.Need-clear-used-requires
-clear-used-requires c κs =
+clear_used-requires : tie.Need-clear_used-requires
+clear_used-requires c κs =
     let t = ran c in
     let r = ready (accepted t) in
-    (r.0.columns, r.0.rows, omega (arith, r.2, t.run-in-room.ensures.2.long))
+    (r.0.columns, r.0.rows, omega (arith, r.2, t.run_in_room.ensures.2.long))
 
 returns : tie.Need-returns
 returns c =
@@ -42,13 +42,13 @@ returns c =
     let e = accepted t in
     let s = e.before.before.before in
     let a = s.args in
-    let r = t.run-in-room.ensures in
-    run-done (state s) a.inflow.now a.steps a.work.now (passed e) r.0 r.1 r.2 k.clear-used.ensures
+    let r = t.run_in_room.ensures in
+    run-done (state s) a.inflow.now a.steps a.work.now (passed e) r.0 r.1 r.2 k.clear_used.ensures
 
 -- ---- a test refuses
 
-clear-after-requires : tie.Need-clear-after-requires
-clear-after-requires c κs =
+clear_after-requires : tie.Need-clear_after-requires
+clear_after-requires c κs =
     let r = c.before.before in
     let s = r.before.before.before in
     run_room (state s) s.args.inflow.now s.args.steps s.args.work.now (sym r.tested.given.1 ∙ s.requires)
@@ -59,17 +59,17 @@ returns-2 c =
     let r = k.before.before.before in
     let s = r.before.before.before in
     let a = s.args in
-    run-refused (state s) a.inflow.now a.steps a.work.now (sym r.tested.given.1 ∙ s.requires) (k.clear-after.ensures a.h.now a.b.now a.u.now a.v.now a.barriers.now)
+    run-refused (state s) a.inflow.now a.steps a.work.now (sym r.tested.given.1 ∙ s.requires) (k.clear_after.ensures a.h.now a.b.now a.u.now a.v.now a.barriers.now)
 
-pub run-tested-spec : {M : Type 1} → statement M
-run-tested-spec =
+pub run_tested_spec : {M : Type 1} → statement M
+run_tested_spec =
     tie.close
     (tie.spec
     (λ c. search rules)
     (λ c κs. ready c.before.before.before.before)
-    clear-used-requires
+    clear_used-requires
     (λ c. search rules)
-    clear-after-requires
+    clear_after-requires
     (λ c. search rules)
     (λ c. search rules)
     (λ c. search rules)

@@ -12,24 +12,24 @@ use Rattle.step_run.proofs.step_within.Tie as tie
 abbrev state : tie.Start → State
 state c = let a = c.args in state_of a.p a.h.now a.b.now a.u.now a.v.now a.barriers.now
 
-run-tested-requires : tie.Need-run-tested-requires
-run-tested-requires c κs =
+run_tested-requires : tie.Need-run_tested-requires
+run_tested-requires c κs =
     let t = c.before.before.before.before in
     let s = t.before.before in
-    t.test-beside.ensures ∙ sym (ap answer_of (beside-only (state s) s.args.inflow.now (length s.args.work.now) s.requires))
+    t.test_beside.ensures ∙ sym (ap answer_of (beside-only (state s) s.args.inflow.now (length s.args.work.now) s.requires))
 
 returns : tie.Need-returns
 returns c =
     let r = c.before.before.before.before.before in
     let s = r.before.before.before.before.before.before.before in
-    as_one (state s) s.args.inflow.now r.run-tested.ensures c.as_step.ensures
+    as_one (state s) s.args.inflow.now r.run_tested.ensures c.as_step.ensures
 
-pub step-within-spec : {M : Type 1} → statement M
-step-within-spec =
+pub step_within_spec : {M : Type 1} → statement M
+step_within_spec =
     tie.close
     (tie.spec
     (λ c κs. (c.before.requires.columns, c.before.requires.rows))
-    run-tested-requires
+    run_tested-requires
     (λ c κs. search rules)
     (λ c. search rules)
     (λ c. search rules)

@@ -19,22 +19,22 @@ few : (c : tie.Start) → c.args.p.w * c.args.p.n ≤ 4096
 few c = cells-most c.requires.0 c.requires.1
 
 -- the chain so far
-sized : (c : tie.After-then-work)
+sized : (c : tie.After-then_work)
     → let a = c.before.before.before.args in
     let m = a.p.w * a.p.n in
-    Chain Accepted c.then-work.result (length_test m (length a.inflow.now) ∷ work_test m a.room ∷ [])
+    Chain Accepted c.then_work.result (length_test m (length a.inflow.now) ∷ work_test m a.room ∷ [])
 sized c =
     let l = c.before in
     let a = l.before.before.args in
     let m = a.p.w * a.p.n in
-    more (work_test m a.room ∷ []) (start Accepted (length_test m (length a.inflow.now) ∷ []) l.then-length.ensures) c.then-work.ensures
+    more (work_test m a.room ∷ []) (start Accepted (length_test m (length a.inflow.now) ∷ []) l.then_length.ensures) c.then_work.ensures
 
-pub test-beside-spec : {M : Type 1} → statement M
-test-beside-spec =
+pub test_beside_spec : {M : Type 1} → statement M
+test_beside_spec =
     tie.close
     (tie.spec
     (λ c. omega (arith, few c.before))
     (λ c κs. search rules)
     (λ c κs. few c.before.before)
     (λ c κs h. let a = c.before.before.before.args in eqb→eq (length a.inflow.now) (a.p.w * a.p.n) (passed (sized c) h).0)
-    (λ c. let a = c.before.before.before.before.args in (more (value_test Value (taken (bare a.p) Inflow a.inflow.now) ∷ []) (sized c.before) c.then-field.ensures).is))
+    (λ c. let a = c.before.before.before.before.args in (more (value_test Value (taken (bare a.p) Inflow a.inflow.now) ∷ []) (sized c.before) c.then_field.ensures).is))

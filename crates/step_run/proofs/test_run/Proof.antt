@@ -25,7 +25,7 @@ sizes c =
     grid_test c.args.p ∷ run_length_test c.args.steps ∷ (length_tests (fields_of s) ++ (length_test (cells s) (length c.args.inflow.now) ∷ work_test (cells s) c.args.room ∷ []))
 
 -- the chain so far
-sized : (c : tie.After-then-work) → Chain Accepted c.then-work.result (sizes c.before.before.before.before.before.before.before)
+sized : (c : tie.After-then_work) → Chain Accepted c.then_work.result (sizes c.before.before.before.before.before.before.before)
 sized c =
     let i = c.before in
     let own = i.before in
@@ -34,29 +34,29 @@ sized c =
     let m = g.before in
     let a = m.before.before.args in
     let known = m.cells_of.ensures.0 in
-    let one = more (run_length_test a.steps ∷ []) (start Accepted (grid_test a.p ∷ []) g.then-grid.ensures) r.then-run-length.ensures in
-    let two = counted (own_lengths a.h.now a.b.now a.u.now a.v.now a.barriers.now) one (λ h. known (passed one h).0) own.then-lengths.ensures in
-    let all = counted (λ k. length_test k (length a.inflow.now) ∷ []) two (λ h. known (passed two h).0) i.then-length.ensures in
-    counted (λ k. work_test k a.room ∷ []) all (λ h. known (passed all h).0) c.then-work.ensures
+    let one = more (run_length_test a.steps ∷ []) (start Accepted (grid_test a.p ∷ []) g.then-grid.ensures) r.then_run_length.ensures in
+    let two = counted (own_lengths a.h.now a.b.now a.u.now a.v.now a.barriers.now) one (λ h. known (passed one h).0) own.then_lengths.ensures in
+    let all = counted (λ k. length_test k (length a.inflow.now) ∷ []) two (λ h. known (passed two h).0) i.then_length.ensures in
+    counted (λ k. work_test k a.room ∷ []) all (λ h. known (passed all h).0) c.then_work.ensures
 
-constants : (c : tie.After-then-constants) → let b = c.before.before.before.before.before.before.before.before in Chain Accepted c.then-constants.result (sizes b ++ (constants_test b.args.p ∷ []))
-constants c = more (constants_test c.before.before.before.before.before.before.before.before.args.p ∷ []) (sized c.before) c.then-constants.ensures
+constants : (c : tie.After-then_constants) → let b = c.before.before.before.before.before.before.before.before in Chain Accepted c.then_constants.result (sizes b ++ (constants_test b.args.p ∷ []))
+constants c = more (constants_test c.before.before.before.before.before.before.before.before.args.p ∷ []) (sized c.before) c.then_constants.ensures
 
-fields : (c : tie.After-then-fields)
+fields : (c : tie.After-then_fields)
     → let b = c.before.before.before.before.before.before.before.before.before in
-    Chain Accepted c.then-fields.result (sizes b ++ (constants_test b.args.p ∷ value_tests Value (fields_of (state b))))
-fields c = more (value_tests Value (fields_of (state c.before.before.before.before.before.before.before.before.before))) (constants c.before) c.then-fields.ensures
+    Chain Accepted c.then_fields.result (sizes b ++ (constants_test b.args.p ∷ value_tests Value (fields_of (state b))))
+fields c = more (value_tests Value (fields_of (state c.before.before.before.before.before.before.before.before.before))) (constants c.before) c.then_fields.ensures
 
-values : (c : tie.After-then-field)
+values : (c : tie.After-then_field)
     → let b = c.before.before.before.before.before.before.before.before.before.before in
     let s = state b in
-    Chain Accepted c.then-field.result (sizes b ++ (constants_test b.args.p ∷ value_tests Value (fields_of s ++ (taken s Inflow b.args.inflow.now ∷ []))))
+    Chain Accepted c.then_field.result (sizes b ++ (constants_test b.args.p ∷ value_tests Value (fields_of s ++ (taken s Inflow b.args.inflow.now ∷ []))))
 values c =
     let b = c.before.before.before.before.before.before.before.before.before.before in
-    more (value_tests Value (taken (state b) Inflow b.args.inflow.now ∷ [])) (fields c.before) c.then-field.ensures
+    more (value_tests Value (taken (state b) Inflow b.args.inflow.now ∷ [])) (fields c.before) c.then_field.ensures
 
-then-field-requires : tie.Need-then-field-requires
-then-field-requires c κs h =
+then_field-requires : tie.Need-then_field-requires
+then_field-requires c κs h =
     let b = c.before.before.before.before.before.before.before.before.before in
     eqb→eq (length b.args.inflow.now) (cells (state b)) (passed (fields c) h).1.1.1.1.1.1.1.0
 
@@ -64,10 +64,10 @@ returns : tie.Need-returns
 unfolding run_test
 returns c =
     let s = state c.before.before.before.before.before.before.before.before.before.before.before in
-    (more (edge_tests s) (values c.before) (c.then-edges.ensures s.h s.b)).is
+    (more (edge_tests s) (values c.before) (c.then_edges.ensures s.h s.b)).is
 
-pub test-run-spec : {M : Type 1} → statement M
-test-run-spec =
+pub test_run_spec : {M : Type 1} → statement M
+test_run_spec =
     tie.close
     (tie.spec
     (λ c κs. search rules)
@@ -78,6 +78,6 @@ test-run-spec =
     (λ c κs. c.before.before.before.before.cells_of.ensures.1)
     (λ c κs. search rules)
     (λ c κs h. fields-long-after-two (state c.before.before.before.before.before.before.before.before) (constants c) h)
-    then-field-requires
+    then_field-requires
     (λ c κs h. let l = fields-long-after-two (state c.before.before.before.before.before.before.before.before.before.before) (values c) h in (l.u, l.v, l.barriers))
     returns)

@@ -24,25 +24,25 @@ cells c = c.args.p.w * c.args.p.n
 few : (c : tie.Start) → cells c ≤ 4096
 few c = let g = c.requires.given in cells-most g.columns g.rows
 
-abbrev passed : tie.After-first-outside → tie.After-pass
+abbrev passed : tie.After-first_outside → tie.After-pass
 passed c = c.before.before.before.before
 
 abbrev begin : tie.After-pass → tie.Start
 begin c = c.before.before.before.before.before.before.before.before
 
 -- what the scan tells, of the model's pass
-scanned : (c : tie.After-first-outside) → let s = begin (passed c) in c.first-outside.result ≡ bounds_by (leaves (pass (base s) (given s) s.args.inflow.now))
-scanned c = let k = passed c in let a = (begin k).args in c.first-outside.ensures a.b.now a.barriers.now ∙ ap (λ r. bounds_by (leaves r)) k.pass.ensures.0
+scanned : (c : tie.After-first_outside) → let s = begin (passed c) in c.first_outside.result ≡ bounds_by (leaves (pass (base s) (given s) s.args.inflow.now))
+scanned c = let k = passed c in let a = (begin k).args in c.first_outside.ensures a.b.now a.barriers.now ∙ ap (λ r. bounds_by (leaves r)) k.pass.ensures.0
 
-take-state-requires : tie.Need-take-state-requires
-take-state-requires c κs =
+take_state-requires : tie.Need-take_state-requires
+take_state-requires c κs =
     let k = passed c.before.before.before.before.before.before in
     let s = begin k in
     let g = s.pre.given in
     (g.depths.long, g.us.long, g.vs.long, few s, omega arith, omega (arith, s.pre.long, k.pass.ensures.1.long))
 
-take-state-requires-2 : tie.Need-take-state-requires-2
-take-state-requires-2 c κs =
+take_state-requires-2 : tie.Need-take_state-requires-2
+take_state-requires-2 c κs =
     let k = passed c.before.before.before.before.before.before.before in
     let s = begin k in
     let g = s.pre.given in
@@ -56,7 +56,7 @@ returns c =
     let k = passed l in
     let s = begin k in
     let a = s.args in
-    let state = taken-result a.p a.b.now a.barriers.now _ _ _ _ t.take-state.ensures ∙ k.pass.ensures.0 in
+    let state = taken-result a.p a.b.now a.barriers.now _ _ _ _ t.take_state.ensures ∙ k.pass.ensures.0 in
     (second-moved (base s) (given s) a.inflow.now (sym e.enum_told.given.1 ∙ scanned l) state, rest_of (cells s) k.pass.ensures.1 (omega arith))
 
 returns-2 : tie.Need-returns-2
@@ -67,11 +67,11 @@ returns-2 c =
     let k = passed l in
     let s = begin k in
     let a = s.args in
-    let state = taken-base a.p a.b.now a.barriers.now _ _ _ _ t.take-state2.ensures ∙ base-after a.p a.b.now a.barriers.now k.pass.ensures.1 s.pre.long in
+    let state = taken-base a.p a.b.now a.barriers.now _ _ _ _ t.take_state2.ensures ∙ base-after a.p a.b.now a.barriers.now k.pass.ensures.1 s.pre.long in
     (second_stuck (base s) (given s) a.inflow.now _ _ (sym e.field.given.1 ∙ scanned l) state, rest_of (cells s) k.pass.ensures.1 (omega arith))
 
-pub second-pass-spec : {M : Type 1} → statement M
-second-pass-spec =
+pub second_pass_spec : {M : Type 1} → statement M
+second_pass_spec =
     tie.close
     (tie.spec
     (λ c. omega (arith, few c.before.before))
@@ -79,9 +79,9 @@ second-pass-spec =
     (λ c κs. let k = c.before.before.before in let s = begin k in let g = s.pre.given in (g.columns, g.rows, omega (arith, s.pre.long, k.pass.ensures.1.long)))
     (λ c. search rules)
     (λ c. omega (arith, few (begin (passed c.before.before.before))))
-    take-state-requires
+    take_state-requires
     (λ c. search rules)
-    take-state-requires-2
+    take_state-requires-2
     (λ c. search rules)
     (λ c. search rules)
     (λ c. search rules)

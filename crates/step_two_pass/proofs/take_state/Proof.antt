@@ -8,10 +8,10 @@ returns c =
     let z = c.before in
     let y = z.before.before.before in
     let x = y.before.before.before in
-    (x.copy-out.ensures, y.copy-out2.ensures, z.copy-out3.ensures)
+    (x.copy_out.ensures, y.copy_out2.ensures, z.copy_out3.ensures)
 
-pub take-state-spec : {M : Type 1} → statement M
-take-state-spec =
+pub take_state_spec : {M : Type 1} → statement M
+take_state_spec =
     tie.close
     (tie.spec
     (λ c κs. search rules)

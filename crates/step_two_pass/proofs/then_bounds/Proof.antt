@@ -13,7 +13,7 @@ returns-2 c =
     let l = f.before in
     let e = l.before in
     let a = e.before.before.args in
-    field-outside a.field (length a.f.now) a.f.now l.limits.result l.limits.ensures e.enum_told.given.1 _ (sym k.cell.given.1 ∙ f.first-outside.ensures)
+    field-outside a.field (length a.f.now) a.f.now l.limits.result l.limits.ensures e.enum_told.given.1 _ (sym k.cell.given.1 ∙ f.first_outside.ensures)
 
 returns-3 : tie.Need-returns-3
 returns-3 c =
@@ -21,10 +21,10 @@ returns-3 c =
     let l = f.before in
     let e = l.before in
     let a = e.before.before.args in
-    field-kept a.field (length a.f.now) a.f.now l.limits.result l.limits.ensures e.enum_told.given.1 (sym c.enum-told3.given.1 ∙ f.first-outside.ensures)
+    field-kept a.field (length a.f.now) a.f.now l.limits.result l.limits.ensures e.enum_told.given.1 (sym c.enum_told3.given.1 ∙ f.first_outside.ensures)
 
-pub then-bounds-spec : {M : Type 1} → statement M
-then-bounds-spec =
+pub then_bounds_spec : {M : Type 1} → statement M
+then_bounds_spec =
     tie.close
     (tie.spec
     (λ c. search rules)

@@ -25,29 +25,29 @@ cells c = c.args.p.w * c.args.p.n
 few : (c : tie.Start) → cells c ≤ 4096
 few c = let s = c.requires.state in cells-most s.columns s.rows
 
-keep-base-requires : tie.Need-keep-base-requires
-keep-base-requires c κs =
+keep_base-requires : tie.Need-keep_base-requires
+keep_base-requires c κs =
     let s = c.before.before.before.before.before.before in
     let l = s.requires.state in
     (l.depths.long, l.us.long, l.vs.long, few s, s.requires.long)
 
 -- ---- the base is in the work space
 
-abbrev begin : tie.After-keep-base → tie.Start
+abbrev begin : tie.After-keep_base → tie.Start
 begin c = c.before.before.before.before.before.before.before
 
-base-is : (c : tie.After-keep-base) → let a = (begin c).args in base_in a.p a.b.now a.barriers.now c.keep-base.new.1.1.1.1.0 ≡ state (begin c)
-base-is c = let a = (begin c).args in let e = c.keep-base.ensures in kept-base a.p a.b.now a.barriers.now _ _ _ _ e.0 e.1 e.2
+base-is : (c : tie.After-keep_base) → let a = (begin c).args in base_in a.p a.b.now a.barriers.now c.keep_base.new.1.1.1.1.0 ≡ state (begin c)
+base-is c = let a = (begin c).args in let e = c.keep_base.ensures in kept-base a.p a.b.now a.barriers.now _ _ _ _ e.0 e.1 e.2
 
-ready : (c : tie.After-keep-base) → let a = (begin c).args in StepReady (state (begin c)) a.inflow.now (length a.q.now) c.keep-base.new.1.1.1.1.0
-ready c = ready-after (begin c).requires refl c.keep-base.ensures.3.long
+ready : (c : tie.After-keep_base) → let a = (begin c).args in StepReady (state (begin c)) a.inflow.now (length a.q.now) c.keep_base.new.1.1.1.1.0
+ready c = ready-after (begin c).requires refl c.keep_base.ensures.3.long
 
 pass-requires : tie.Need-pass-requires
 pass-requires c κs = let k = c.before.before.before.before.before.before in first-ready (state (begin k)) (begin k).args.inflow.now (ready k) (base-is k)
 
 -- ---- pass 1 is there
 
-abbrev kept : tie.After-pass → tie.After-keep-base
+abbrev kept : tie.After-pass → tie.After-keep_base
 kept c = c.before.before.before.before.before.before.before
 
 abbrev first : tie.Start → State
@@ -68,22 +68,22 @@ ready-again : (c : tie.After-q) → let k = c.before in let s = begin (kept k) i
 ready-again c = let k = c.before in ready-after (ready (kept k)) c.q.given k.pass.ensures.1.long
 
 rest : (c : tie.After-pass) → let s = begin (kept c) in Rest (cells s) s.args.work.now (space c)
-rest c = let k = kept c in let m = cells (begin k) in rest_then (rest_of m k.keep-base.ensures.3 (omega arith)) (rest_of m c.pass.ensures.1 (omega arith))
+rest c = let k = kept c in let m = cells (begin k) in rest_then (rest_of m k.keep_base.ensures.3 (omega arith)) (rest_of m c.pass.ensures.1 (omega arith))
 
-abbrev returned : tie.After-first-outside → tie.After-q
+abbrev returned : tie.After-first_outside → tie.After-q
 returned c = c.before.before.before
 
-abbrev passed : tie.After-first-outside → tie.After-pass
+abbrev passed : tie.After-first_outside → tie.After-pass
 passed c = (returned c).before
 
-scanned : (c : tie.After-first-outside) → let s = begin (kept (passed c)) in c.first-outside.result ≡ bounds_by (leaves (first s))
+scanned : (c : tie.After-first_outside) → let s = begin (kept (passed c)) in c.first_outside.result ≡ bounds_by (leaves (first s))
 scanned c =
     let k = passed c in
     let s = begin (kept k) in
-    c.first-outside.ensures s.args.b.now s.args.barriers.now ∙ ap (λ r. bounds_by (leaves r)) (k.pass.ensures.0 ∙ ap (λ x. pass x (state s) s.args.inflow.now) (base-is (kept k)))
+    c.first_outside.ensures s.args.b.now s.args.barriers.now ∙ ap (λ r. bounds_by (leaves r)) (k.pass.ensures.0 ∙ ap (λ x. pass x (state s) s.args.inflow.now) (base-is (kept k)))
 
-take-state-requires : tie.Need-take-state-requires
-take-state-requires c κs =
+take_state-requires : tie.Need-take_state-requires
+take_state-requires c κs =
     let k = returned c.before.before.before.before.before.before in
     let s = begin (kept k.before) in
     let l = s.pre.state in
@@ -91,28 +91,28 @@ take-state-requires c κs =
 
 -- ---- pass 1's result is lent
 
-abbrev chosen : tie.After-take-state → tie.After-enum-told
+abbrev chosen : tie.After-take_state → tie.After-enum_told
 chosen c = c.before.before.before.before.before
 
-abbrev again : tie.After-take-state → tie.After-q
+abbrev again : tie.After-take_state → tie.After-q
 again c = returned (chosen c).before.before
 
-abbrev done : tie.After-take-state → tie.After-pass
+abbrev done : tie.After-take_state → tie.After-pass
 done c = (again c).before
 
-clean : (c : tie.After-take-state) → Kept ≡ bounds_by (leaves (first (begin (kept (done c)))))
+clean : (c : tie.After-take_state) → Kept ≡ bounds_by (leaves (first (begin (kept (done c)))))
 clean c = let e = chosen c in sym e.enum_told.given.1 ∙ scanned e.before.before
 
-lent_is : (c : tie.After-take-state)
-    → let s = begin (kept (done c)) in let l = c.take-state.new.1.1.1 in state_of s.args.p l.0 s.args.b.now l.1.0 l.1.1.0 s.args.barriers.now ≡ first s
+lent_is : (c : tie.After-take_state)
+    → let s = begin (kept (done c)) in let l = c.take_state.new.1.1.1 in state_of s.args.p l.0 s.args.b.now l.1.0 l.1.1.0 s.args.barriers.now ≡ first s
 lent_is c =
     let k = done c in
     let s = begin (kept k) in
     let a = s.args in
-    taken-result a.p a.b.now a.barriers.now _ _ _ _ c.take-state.ensures ∙ k.pass.ensures.0 ∙ ap (λ x. pass x (state s) a.inflow.now) (base-is (kept k))
+    taken-result a.p a.b.now a.barriers.now _ _ _ _ c.take_state.ensures ∙ k.pass.ensures.0 ∙ ap (λ x. pass x (state s) a.inflow.now) (base-is (kept k))
 
-second-pass-requires : tie.Need-second-pass-requires
-second-pass-requires c κs =
+second_pass-requires : tie.Need-second_pass-requires
+second_pass-requires c κs =
     let t = c.before.before.before.before.before.before.before.before in
     let k = done t in
     let s = begin (kept k) in
@@ -125,7 +125,7 @@ returns c =
     let k = done t in
     let s = begin (kept k) in
     let inflow = s.args.inflow.now in
-    let e = n.second-pass.ensures in
+    let e = n.second_pass.ensures in
     (both (state s) inflow (clean t) (second-as inflow (base-still k) (lent_is t) e.0), rest_then (rest k) e.1)
 
 returns-2 : tie.Need-returns-2
@@ -136,18 +136,18 @@ returns-2 c =
     let s = begin (kept k) in
     (first-stuck (state s) s.args.inflow.now _ _ (sym f.field.given.1 ∙ scanned l), rest k)
 
-pub two-pass-spec : {M : Type 1} → statement M
-two-pass-spec =
+pub two_pass_spec : {M : Type 1} → statement M
+two_pass_spec =
     tie.close
     (tie.spec
     (λ c. omega (arith, few c.before.before))
-    keep-base-requires
+    keep_base-requires
     pass-requires
     (λ c κs. let k = c.before.before in let l = (begin (kept k.before)).requires.state in (l.columns, l.rows, (ready-again k).long))
     (λ c. search rules)
     (λ c. omega (arith, few (begin (kept (passed c.before.before.before)))))
-    take-state-requires
-    second-pass-requires
+    take_state-requires
+    second_pass-requires
     (λ c. search rules)
     (λ c. search rules)
     (λ c. search rules)

@@ -10,13 +10,13 @@ use Rattle.tests.proofs.cells_of.Statement.{statement}
 use Rattle.tests.proofs.cells_of.Tie as tie
 
 few : (c : tie.Then1) → let p = c.before.before.args.p in p.w * p.n ≤ 4096
-few c = let k = (known-iff c.before.before.args.p).0 (true-T (sym c.before.grid-known.ensures ∙ c.if1.true)) in cells-most k.columns k.rows
+few c = let k = (known-iff c.before.before.args.p).0 (true-T (sym c.before.grid_known.ensures ∙ c.if1.true)) in cells-most k.columns k.rows
 
-pub cells-of-spec : {M : Type 1} → statement M
-cells-of-spec =
+pub cells_of_spec : {M : Type 1} → statement M
+cells_of_spec =
     tie.close
     (tie.spec
     (λ c κs. search rules)
     (λ c. omega (arith, few c.before))
     (λ c. (λ t. refl, few c.before))
-    (λ c. (λ t. absurd (rw (sym c.before.grid-known.ensures ∙ c.if1.false) at t), zero-le)))
+    (λ c. (λ t. absurd (rw (sym c.before.grid_known.ensures ∙ c.if1.false) at t), zero-le)))

@@ -16,11 +16,11 @@ gravity c = c.within.ensures ∙ ap (within gravity_limits) (to_z-of_z {w = w64}
 
 coriolis : (c : tie.After-within2) → c.within2.result ≡ within coriolis_limits c.before.before.before.before.before.args.p.c
 unfolding coriolis_limits
-coriolis c = c.within2.ensures ∙ ap (within coriolis_limits) (to_z-of_z {w = w64} (record { sfits = c.before.struct-told2.given.1.1.1.1.0.1 }))
+coriolis c = c.within2.ensures ∙ ap (within coriolis_limits) (to_z-of_z {w = w64} (record { sfits = c.before.struct_told2.given.1.1.1.1.0.1 }))
 
 ratio : (c : tie.After-within3) → c.within3.result ≡ within ratio_limits c.before.before.before.before.before.before.before.before.args.p.r
 unfolding ratio_limits
-ratio c = c.within3.ensures ∙ ap (within ratio_limits) (to_z-of_z {w = w64} (record { sfits = c.before.struct-told3.given.1.1.1.1.1.0.1 }))
+ratio c = c.within3.ensures ∙ ap (within ratio_limits) (to_z-of_z {w = w64} (record { sfits = c.before.struct_told3.given.1.1.1.1.1.0.1 }))
 
 returns : tie.Need-returns
 unfolding constants_within
@@ -39,7 +39,7 @@ returns-3 c =
     let e = d.before.before.before in
     ratio c ∙ rw (sym (gravity e.before) ∙ not-false _ e.if1.false, sym (coriolis d.before) ∙ not-false _ d.if2.false)
 
-pub constants-within-spec : {M : Type 1} → statement M
-constants-within-spec =
+pub constants_within_spec : {M : Type 1} → statement M
+constants_within_spec =
     tie.close
     (tie.spec (λ c κs. search rules) returns (λ c κs. search rules) returns-2 (λ c κs. search rules) returns-3)

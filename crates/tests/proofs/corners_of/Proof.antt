@@ -7,15 +7,15 @@ use Rattle.theorems.specs.Limits.{known-iff}
 use Rattle.tests.proofs.corners_of.Statement.{statement}
 use Rattle.tests.proofs.corners_of.Tie as tie
 
-corner-count-requires : tie.Need-corner-count-requires
-corner-count-requires c κs =
-    let k = (known-iff c.before.before.args.p).0 (true-T (sym c.before.grid-known.ensures ∙ c.if1.true)) in (k.columns, k.rows)
+corner_count-requires : tie.Need-corner_count-requires
+corner_count-requires c κs =
+    let k = (known-iff c.before.before.args.p).0 (true-T (sym c.before.grid_known.ensures ∙ c.if1.true)) in (k.columns, k.rows)
 
-pub corners-of-spec : {M : Type 1} → statement M
-corners-of-spec =
+pub corners_of_spec : {M : Type 1} → statement M
+corners_of_spec =
     tie.close
     (tie.spec
     (λ c κs. search rules)
-    corner-count-requires
-    (λ c. (λ t. c.corner-count.ensures.0, c.corner-count.ensures.1))
-    (λ c. (λ t. absurd (rw (sym c.before.grid-known.ensures ∙ c.if1.false) at t), zero-le)))
+    corner_count-requires
+    (λ c. (λ t. c.corner_count.ensures.0, c.corner_count.ensures.1))
+    (λ c. (λ t. absurd (rw (sym c.before.grid_known.ensures ∙ c.if1.false) at t), zero-le)))

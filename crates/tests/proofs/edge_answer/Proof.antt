@@ -6,8 +6,8 @@ use Rattle.tests.specs.Sought.{answer_by}
 use Rattle.tests.proofs.edge_answer.Statement.{statement}
 use Rattle.tests.proofs.edge_answer.Tie as tie
 
-pub edge-answer-spec : {M : Type 1} → statement M
-edge-answer-spec =
+pub edge_answer_spec : {M : Type 1} → statement M
+edge_answer_spec =
     tie.close
     (tie.spec
     (λ c. search rules)

@@ -28,8 +28,8 @@ loop-holds : tie.Need-loop-init invariant-loop decreases-loop
 loop-holds c = scanned-none
 
 -- a byte is no negative number
-cast-x : tie.Need-overflow-cast-x invariant-loop decreases-loop
-cast-x c = record { sfits = lt_trans (c.shared-slice-known2.given c.before.before.loop.k).fits (lit< tt) }
+cast-x : tie.Need-overflow_cast-x invariant-loop decreases-loop
+cast-x c = record { sfits = lt_trans (c.shared_slice_known2.given c.before.before.loop.k).fits (lit< tt) }
 
 -- what the call of `within` tells
 told : (c : tie.After-within invariant-loop decreases-loop)
@@ -54,8 +54,8 @@ loop-again c =
     let i = w.before.before in
     scanned-more i.before.loop.invariant i.loop-test.true (ap not (sym (told w)) ∙ c.if1.false)
 
-pub first-byte-outside-spec : {M : Type 1} → statement M
-first-byte-outside-spec =
+pub first_byte_outside_spec : {M : Type 1} → statement M
+first_byte_outside_spec =
     tie.close
     (tie.spec
     invariant-loop

@@ -43,12 +43,12 @@ in-barriers : (c : tie.In-loop invariant-loop decreases-loop invariant-scan decr
 in-barriers c = rw (start c).requires.1 (below c)
 
 -- what the call of `is_moving` tells
-told : (c : tie.After-is-moving invariant-loop decreases-loop invariant-scan decreases-scan)
+told : (c : tie.After-is_moving invariant-loop decreases-loop invariant-scan decreases-scan)
     → let i = c.before.before.before.before in
     let l = i.before in
     let s = l.before.before in
     let a = (start i).args in
-    c.is-moving.result ≡ bad_in (moving_at (edges_of a.p a.barriers.now) a.edge) a.p.w a.f.now (s.scan.j * a.p.w + l.loop.i)
+    c.is_moving.result ≡ bad_in (moving_at (edges_of a.p a.barriers.now) a.edge) a.p.w a.f.now (s.scan.j * a.p.w + l.loop.i)
 told c =
     let i = c.before.before.before.before in
     let l = i.before in
@@ -56,8 +56,8 @@ told c =
     let a = (start i).args in
     let t = edges_of a.p a.barriers.now in
     let x = get_or a.f.now (s.scan.j * a.p.w + l.loop.i) (pos 0) in
-    let e : held w64 x ≡ x = held-is w64 c.before.is-moving-arg.given refl in
-    c.is-moving.ensures t refl refl
+    let e : held w64 x ≡ x = held-is w64 c.before.is_moving-arg.given refl in
+    c.is_moving.ensures t refl refl
     ∙ ap (λ (z : ℤ). moving_at t a.edge z l.loop.i s.scan.j) e
     ∙ sym (by_index (moving_at t a.edge x) s.scan.j i.loop-test.true)
 
@@ -86,8 +86,8 @@ returns-2 c =
     let i = c.before.before.before.before.before in
     sym (ap found_by (scanned-bad i.before.loop.invariant.2 (below i) (sym (told c.before) ∙ c.if1.true)))
 
-pub first-moving-spec : {M : Type 1} → statement M
-first-moving-spec =
+pub first_moving_spec : {M : Type 1} → statement M
+first_moving_spec =
     tie.close
     (tie.spec
     invariant-loop

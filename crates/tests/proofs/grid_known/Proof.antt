@@ -9,24 +9,24 @@ use Rattle.tests.proofs.grid_known.Tie as tie
 
 returns : tie.Need-returns
 unfolding grid_known
-returns c = rw (sym c.before.is-side.ensures ∙ not-true _ c.if1.true)
+returns c = rw (sym c.before.is_side.ensures ∙ not-true _ c.if1.true)
 
 returns-2 : tie.Need-returns-2
 unfolding grid_known
 returns-2 c =
     let e = c.before.before in
-    rw (sym e.before.is-side.ensures ∙ not-false _ e.if1.false, sym c.before.is-side2.ensures ∙ not-true _ c.if2.true)
+    rw (sym e.before.is_side.ensures ∙ not-false _ e.if1.false, sym c.before.is_side2.ensures ∙ not-true _ c.if2.true)
 
 returns-3 : tie.Need-returns-3
 unfolding grid_known
 returns-3 c =
     let d = c.before.before in
     let e = d.before.before in
-    c.known.ensures ∙ ap known c.before.boundary-of.ensures
-    ∙ rw (sym e.before.is-side.ensures ∙ not-false _ e.if1.false, sym d.before.is-side2.ensures ∙ not-false _ d.if2.false)
+    c.known.ensures ∙ ap known c.before.boundary_of.ensures
+    ∙ rw (sym e.before.is_side.ensures ∙ not-false _ e.if1.false, sym d.before.is_side2.ensures ∙ not-false _ d.if2.false)
 
-pub grid-known-spec : {M : Type 1} → statement M
-grid-known-spec =
+pub grid_known_spec : {M : Type 1} → statement M
+grid_known_spec =
     tie.close
     (tie.spec
     (λ c κs. search rules)

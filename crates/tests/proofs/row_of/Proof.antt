@@ -15,9 +15,9 @@ told : {r : FieldRow} {k : ℕ} {a b c d : ℤ} → (r.number ≡ k) × (r.limit
     → (r.number ≡ k) × (between r.limits ≡ a to b) × (between r.narrow ≡ c to d)
 told e = (e.0, ap₂ ◌to◌ e.1 e.2, ap₂ ◌to◌ e.3 e.4)
 
-pub row-of-spec : {M : Type 1} → statement M
+pub row_of_spec : {M : Type 1} → statement M
 unfolding depth_limits bottom_limits velocity_limits vorticity_limits inflow_limits barrier_limits narrow_depth_limits narrow_bottom_limits narrow_velocity_limits narrow_vorticity_limits
-row-of-spec =
+row_of_spec =
     tie.close
     (tie.spec
     (λ c. search rules)
@@ -35,9 +35,9 @@ row-of-spec =
     (λ c. search rules)
     (λ c κs. search rules)
     (λ c. rw c.before.enum_told.given.1 (told c.row.ensures))
-    (λ c. rw c.before.enum-told2.given.1 (told c.row2.ensures))
-    (λ c. rw c.before.enum-told3.given.1 (told c.row3.ensures))
-    (λ c. rw c.before.enum-told4.given.1 (told c.row4.ensures))
-    (λ c. rw c.before.enum-told5.given.1 (told c.row5.ensures))
-    (λ c. rw c.before.enum-told6.given.1 (told c.row6.ensures))
-    (λ c. rw c.before.enum-told7.given.1 (told c.row7.ensures)))
+    (λ c. rw c.before.enum_told2.given.1 (told c.row2.ensures))
+    (λ c. rw c.before.enum_told3.given.1 (told c.row3.ensures))
+    (λ c. rw c.before.enum_told4.given.1 (told c.row4.ensures))
+    (λ c. rw c.before.enum_told5.given.1 (told c.row5.ensures))
+    (λ c. rw c.before.enum_told6.given.1 (told c.row6.ensures))
+    (λ c. rw c.before.enum_told7.given.1 (told c.row7.ensures)))

@@ -8,23 +8,23 @@ use Rattle.tests.specs.Links.{Chain, start, more, counted, passed, own_lengths}
 use Rattle.tests.proofs.test_outline.Statement.{statement}
 use Rattle.tests.proofs.test_outline.Tie as tie
 
-abbrev state : tie.After-shared-slice-known → State
+abbrev state : tie.After-shared_slice_known → State
 state c = let a = c.before.args in state_of a.p a.h.now a.b.now a.u.now a.v.now a.barriers.now
 
 -- the chain so far
-lengths : (c : tie.After-then-lengths) → let b = c.before.before.before in Chain Accepted c.then-lengths.result (grid_test b.before.args.p ∷ length_tests (fields_of (state b)))
+lengths : (c : tie.After-then_lengths) → let b = c.before.before.before in Chain Accepted c.then_lengths.result (grid_test b.before.args.p ∷ length_tests (fields_of (state b)))
 lengths c =
     let m = c.before.before in
     let a = m.before.before.args in
-    let g = start Accepted (grid_test a.p ∷ []) c.before.then-grid.ensures in
-    counted (own_lengths a.h.now a.b.now a.u.now a.v.now a.barriers.now) g (λ h. m.cells_of.ensures.0 (passed g h).0) c.then-lengths.ensures
+    let g = start Accepted (grid_test a.p ∷ []) c.before.then_grid.ensures in
+    counted (own_lengths a.h.now a.b.now a.u.now a.v.now a.barriers.now) g (λ h. m.cells_of.ensures.0 (passed g h).0) c.then_lengths.ensures
 
-pub test-outline-spec : {M : Type 1} → statement M
-test-outline-spec =
+pub test_outline_spec : {M : Type 1} → statement M
+test_outline_spec =
     tie.close
     (tie.spec
     (λ c κs. search rules)
     (λ c κs. search rules)
     (λ c κs. search rules)
     (λ c κs. search rules)
-    (λ c. (more (constants_test c.before.before.before.before.before.args.p ∷ []) (lengths c.before) c.then-constants.ensures).is))
+    (λ c. (more (constants_test c.before.before.before.before.before.args.p ∷ []) (lengths c.before) c.then_constants.ensures).is))

@@ -9,21 +9,21 @@ use Rattle.tests.specs.Links.{Chain, start, more, outline_tests, fields-long-aft
 use Rattle.tests.proofs.test_state.Statement.{statement}
 use Rattle.tests.proofs.test_state.Tie as tie
 
-abbrev state : tie.After-shared-slice-known → State
+abbrev state : tie.After-shared_slice_known → State
 state c = let a = c.before.args in state_of a.p a.h.now a.b.now a.u.now a.v.now a.barriers.now
 
 -- the chain so far
-outline : (c : tie.After-test-outline) → Chain Accepted c.test-outline.result (outline_tests (state c.before))
-outline c = start Accepted (outline_tests (state c.before)) c.test-outline.ensures
+outline : (c : tie.After-test_outline) → Chain Accepted c.test_outline.result (outline_tests (state c.before))
+outline c = start Accepted (outline_tests (state c.before)) c.test_outline.ensures
 
-values : (c : tie.After-then-fields) → let s = state c.before.before in Chain Accepted c.then-fields.result (outline_tests s ++ value_tests Value (fields_of s))
-values c = more (value_tests Value (fields_of (state c.before.before))) (outline c.before) c.then-fields.ensures
+values : (c : tie.After-then_fields) → let s = state c.before.before in Chain Accepted c.then_fields.result (outline_tests s ++ value_tests Value (fields_of s))
+values c = more (value_tests Value (fields_of (state c.before.before))) (outline c.before) c.then_fields.ensures
 
-pub test-state-spec : {M : Type 1} → statement M
-test-state-spec =
+pub test_state_spec : {M : Type 1} → statement M
+test_state_spec =
     tie.close
     (tie.spec
     (λ c κs. search rules)
     (λ c κs h. fields-long-after (state c.before) (outline c) h)
     (λ c κs h. let l = fields-long-after (state c.before.before) (values c) h in (l.u, l.v, l.barriers))
-    (λ c. let s = state c.before.before.before in (more (edge_tests s) (values c.before) (c.then-edges.ensures s.h s.b)).is))
+    (λ c. let s = state c.before.before.before in (more (edge_tests s) (values c.before) (c.then_edges.ensures s.h s.b)).is))

@@ -22,39 +22,39 @@ abbrev all_lengths : tie.Start → List (Test Refusal)
 all_lengths c = grid_test c.args.p ∷ length_tests (fields_of (state c)) ++ (length_test (corners (state c)) (length c.args.q.now) ∷ [])
 
 -- the chain so far
-lengths : (c : tie.After-then-length) → let b = c.before.before.before.before.before.before in Chain Accepted c.then-length.result (all_lengths b)
+lengths : (c : tie.After-then_length) → let b = c.before.before.before.before.before.before in Chain Accepted c.then_length.result (all_lengths b)
 lengths c =
     let k = c.before in
     let own = k.before in
     let m = own.before.before in
     let a = m.before.before.args in
-    let g = start Accepted (grid_test a.p ∷ []) own.before.then-grid.ensures in
-    let l = counted (own_lengths a.h.now a.b.now a.u.now a.v.now a.barriers.now) g (λ h. m.cells_of.ensures.0 (passed g h).0) own.then-lengths.ensures in
-    counted (λ m. length_test m (length a.q.now) ∷ []) l (λ h. k.corners-of.ensures.0 (passed l h).0) c.then-length.ensures
+    let g = start Accepted (grid_test a.p ∷ []) own.before.then_grid.ensures in
+    let l = counted (own_lengths a.h.now a.b.now a.u.now a.v.now a.barriers.now) g (λ h. m.cells_of.ensures.0 (passed g h).0) own.then_lengths.ensures in
+    counted (λ m. length_test m (length a.q.now) ∷ []) l (λ h. k.corners_of.ensures.0 (passed l h).0) c.then_length.ensures
 
-constants : (c : tie.After-then-constants) → let b = c.before.before.before.before.before.before.before in Chain Accepted c.then-constants.result (all_lengths b ++ (constants_test b.args.p ∷ []))
-constants c = more (constants_test c.before.before.before.before.before.before.before.args.p ∷ []) (lengths c.before) c.then-constants.ensures
+constants : (c : tie.After-then_constants) → let b = c.before.before.before.before.before.before.before in Chain Accepted c.then_constants.result (all_lengths b ++ (constants_test b.args.p ∷ []))
+constants c = more (constants_test c.before.before.before.before.before.before.before.args.p ∷ []) (lengths c.before) c.then_constants.ensures
 
-fields : (c : tie.After-then-fields)
+fields : (c : tie.After-then_fields)
     → let b = c.before.before.before.before.before.before.before.before in
-    Chain Accepted c.then-fields.result (all_lengths b ++ (constants_test b.args.p ∷ value_tests Value (fields_of (state b))))
-fields c = more (value_tests Value (fields_of (state c.before.before.before.before.before.before.before.before))) (constants c.before) c.then-fields.ensures
+    Chain Accepted c.then_fields.result (all_lengths b ++ (constants_test b.args.p ∷ value_tests Value (fields_of (state b))))
+fields c = more (value_tests Value (fields_of (state c.before.before.before.before.before.before.before.before))) (constants c.before) c.then_fields.ensures
 
-values : (c : tie.After-then-field)
+values : (c : tie.After-then_field)
     → let b = c.before.before.before.before.before.before.before.before.before in
     let s = state b in
-    Chain Accepted c.then-field.result (all_lengths b ++ (constants_test b.args.p ∷ value_tests Value (fields_of s ++ (taken s Vorticity b.args.q.now ∷ []))))
+    Chain Accepted c.then_field.result (all_lengths b ++ (constants_test b.args.p ∷ value_tests Value (fields_of s ++ (taken s Vorticity b.args.q.now ∷ []))))
 values c =
     let b = c.before.before.before.before.before.before.before.before.before in
-    more (value_tests Value (taken (state b) Vorticity b.args.q.now ∷ [])) (fields c.before) c.then-field.ensures
+    more (value_tests Value (taken (state b) Vorticity b.args.q.now ∷ [])) (fields c.before) c.then_field.ensures
 
-then-field-requires : tie.Need-then-field-requires
-then-field-requires c κs h =
+then_field-requires : tie.Need-then_field-requires
+then_field-requires c κs h =
     let b = c.before.before.before.before.before.before.before.before in
     eqb→eq (length b.args.q.now) (corners (state b)) (passed (fields c) h).1.1.1.1.1.1.0
 
-pub test-vorticity-spec : {M : Type 1} → statement M
-test-vorticity-spec =
+pub test_vorticity_spec : {M : Type 1} → statement M
+test_vorticity_spec =
     tie.close
     (tie.spec
     (λ c κs. search rules)
@@ -64,8 +64,8 @@ test-vorticity-spec =
     (λ c κs. search rules)
     (λ c κs. search rules)
     (λ c κs h. fields-long-after (state c.before.before.before.before.before.before.before) (constants c) h)
-    then-field-requires
+    then_field-requires
     (λ c κs h. let l = fields-long-after (state c.before.before.before.before.before.before.before.before.before) (values c) h in (l.u, l.v, l.barriers))
     (λ c.
     let s = state c.before.before.before.before.before.before.before.before.before.before in
-    (more (edge_tests s) (values c.before) (c.then-edges.ensures s.h s.b)).is))
+    (more (edge_tests s) (values c.before) (c.then_edges.ensures s.h s.b)).is))

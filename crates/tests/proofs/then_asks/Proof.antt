@@ -3,8 +3,8 @@ use borrow.Author.Rules.{rules}
 use Rattle.tests.proofs.then_asks.Statement.{statement}
 use Rattle.tests.proofs.then_asks.Tie as tie
 
-pub then-asks-spec : {M : Type 1} → statement M
-then-asks-spec =
+pub then_asks_spec : {M : Type 1} → statement M
+then_asks_spec =
     tie.close
     (tie.spec
     (λ c. search rules)

@@ -25,7 +25,7 @@ small c =
     let e = h.before in
     let a = e.before.before.before.args in
     let o = a.barriers.now in
-    c.value-answer.ensures
+    c.value_answer.ensures
     ∙ sym (small-inside o (length o) (λ k. le_trans (h.highest.ensures.0 k) i.if1.true))
     ∙ ap (λ x. after x (barriers_test o (length o) ∷ [])) (sym e.enum_told.given.1)
 
@@ -36,11 +36,11 @@ scanned c =
     let e = l.before.before.before in
     let a = e.before.before.before.args in
     let o = map pos a.barriers.now in
-    sought (outside_in l.limits.result o) (length a.barriers.now) (Value Barriers) e.enum_told.given.1 f.first-byte-outside.ensures c.value-answer2.ensures
+    sought (outside_in l.limits.result o) (length a.barriers.now) (Value Barriers) e.enum_told.given.1 f.first_byte_outside.ensures c.value_answer2.ensures
     ∙ ap (λ (x : Limits). after a.earlier (seeks (λ k. not (within x (get_or o k (pos 0)))) (length a.barriers.now) (Value Barriers) ∷ [])) l.limits.ensures
 
-pub then-barriers-spec : {M : Type 1} → statement M
-then-barriers-spec =
+pub then_barriers_spec : {M : Type 1} → statement M
+then_barriers_spec =
     tie.close
     (tie.spec
     (λ c. search rules)

@@ -9,7 +9,7 @@ use Rattle.tests.proofs.then_constants.Statement.{statement}
 use Rattle.tests.proofs.then_constants.Tie as tie
 
 returns : tie.Need-returns
-returns c = c.then-asks.ensures ∙ ap (λ b. after c.before.before.args.earlier (asks b Constants ∷ [])) c.before.constants-within.ensures
+returns c = c.then_asks.ensures ∙ ap (λ b. after c.before.before.args.earlier (asks b Constants ∷ [])) c.before.constants_within.ensures
 
-pub then-constants-spec : {M : Type 1} → statement M
-then-constants-spec = tie.close (tie.spec (λ c κs. search rules) (λ c κs. search rules) returns)
+pub then_constants_spec : {M : Type 1} → statement M
+then_constants_spec = tie.close (tie.spec (λ c κs. search rules) (λ c κs. search rules) returns)

@@ -7,7 +7,7 @@ use Rattle.tests.proofs.then_field.Tie as tie
 returns : tie.Need-returns
 returns c =
     let l = c.before in
-    let a = l.before.args in of_field a.earlier a.field a.f.now l.before.requires l.limits.ensures c.then-within.ensures
+    let a = l.before.args in of_field a.earlier a.field a.f.now l.before.requires l.limits.ensures c.then_within.ensures
 
-pub then-field-spec : {M : Type 1} → statement M
-then-field-spec = tie.close (tie.spec (λ c κs. search rules) (λ c κs. search rules) returns)
+pub then_field_spec : {M : Type 1} → statement M
+then_field_spec = tie.close (tie.spec (λ c κs. search rules) (λ c κs. search rules) returns)

@@ -10,28 +10,28 @@ use Rattle.tests.specs.Links.{Chain, start, more, counted, begun}
 use Rattle.tests.proofs.then_fields.Statement.{statement}
 use Rattle.tests.proofs.then_fields.Tie as tie
 
-abbrev state : tie.After-shared-slice-known → State
+abbrev state : tie.After-shared_slice_known → State
 state c = let a = c.before.args in state_of a.p a.h.now a.b.now a.u.now a.v.now a.barriers.now
 
 -- the chain so far
-first : (c : tie.After-then-field) → let s = state c.before in Chain c.before.before.args.earlier c.then-field.result (value_tests Value (taken s Depth s.h ∷ []))
-first c = let s = state c.before in start c.before.before.args.earlier (value_tests Value (taken s Depth s.h ∷ [])) c.then-field.ensures
+first : (c : tie.After-then_field) → let s = state c.before in Chain c.before.before.args.earlier c.then_field.result (value_tests Value (taken s Depth s.h ∷ []))
+first c = let s = state c.before in start c.before.before.args.earlier (value_tests Value (taken s Depth s.h ∷ [])) c.then_field.ensures
 
-second : (c : tie.After-then-field2)
+second : (c : tie.After-then_field2)
     → let s = state c.before.before in
-    Chain c.before.before.before.args.earlier c.then-field2.result (value_tests Value (taken s Depth s.h ∷ taken s Bottom s.b ∷ []))
-second c = let s = state c.before.before in more (value_tests Value (taken s Bottom s.b ∷ [])) (first c.before) c.then-field2.ensures
+    Chain c.before.before.before.args.earlier c.then_field2.result (value_tests Value (taken s Depth s.h ∷ taken s Bottom s.b ∷ []))
+second c = let s = state c.before.before in more (value_tests Value (taken s Bottom s.b ∷ [])) (first c.before) c.then_field2.ensures
 
-third : (c : tie.After-then-field3)
+third : (c : tie.After-then_field3)
     → let s = state c.before.before.before in
-    Chain c.before.before.before.before.args.earlier c.then-field3.result (value_tests Value (taken s Depth s.h ∷ taken s Bottom s.b ∷ taken s VelocityU s.u ∷ []))
-third c = let s = state c.before.before.before in more (value_tests Value (taken s VelocityU s.u ∷ [])) (second c.before) c.then-field3.ensures
+    Chain c.before.before.before.before.args.earlier c.then_field3.result (value_tests Value (taken s Depth s.h ∷ taken s Bottom s.b ∷ taken s VelocityU s.u ∷ []))
+third c = let s = state c.before.before.before in more (value_tests Value (taken s VelocityU s.u ∷ [])) (second c.before) c.then_field3.ensures
 
-fourth : (c : tie.After-then-field4)
+fourth : (c : tie.After-then_field4)
     → let s = state c.before.before.before.before in
-    Chain c.before.before.before.before.before.args.earlier c.then-field4.result
+    Chain c.before.before.before.before.before.args.earlier c.then_field4.result
     (value_tests Value (taken s Depth s.h ∷ taken s Bottom s.b ∷ taken s VelocityU s.u ∷ taken s VelocityV s.v ∷ []))
-fourth c = let s = state c.before.before.before.before in more (value_tests Value (taken s VelocityV s.v ∷ [])) (third c.before) c.then-field4.ensures
+fourth c = let s = state c.before.before.before.before in more (value_tests Value (taken s VelocityV s.v ∷ [])) (third c.before) c.then_field4.ensures
 
 -- the bytes are as many as the cells, where this link is not idle
 fifth : tie.Need-returns
@@ -39,10 +39,10 @@ fifth c =
     let v = c.before in
     let b = v.before.before.before.before in
     let l = b.before.args.barriers.now in
-    (counted (λ m. barriers_test l m ∷ []) (fourth v) (λ h. (b.before.requires (begun (fourth v) h)).barriers) c.then-barriers.ensures).is
+    (counted (λ m. barriers_test l m ∷ []) (fourth v) (λ h. (b.before.requires (begun (fourth v) h)).barriers) c.then_barriers.ensures).is
 
-pub then-fields-spec : {M : Type 1} → statement M
-then-fields-spec =
+pub then_fields_spec : {M : Type 1} → statement M
+then_fields_spec =
     tie.close
     (tie.spec
     (λ c κs h. (c.before.requires h).h)

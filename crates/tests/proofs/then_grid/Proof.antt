@@ -9,7 +9,7 @@ use Rattle.tests.proofs.then_grid.Statement.{statement}
 use Rattle.tests.proofs.then_grid.Tie as tie
 
 returns : tie.Need-returns
-returns c = c.then-asks.ensures ∙ ap (λ b. after c.before.before.args.earlier (asks b Grid ∷ [])) c.before.grid-known.ensures
+returns c = c.then_asks.ensures ∙ ap (λ b. after c.before.before.args.earlier (asks b Grid ∷ [])) c.before.grid_known.ensures
 
-pub then-grid-spec : {M : Type 1} → statement M
-then-grid-spec = tie.close (tie.spec (λ c κs. search rules) (λ c κs. search rules) returns)
+pub then_grid_spec : {M : Type 1} → statement M
+then_grid_spec = tie.close (tie.spec (λ c κs. search rules) (λ c κs. search rules) returns)

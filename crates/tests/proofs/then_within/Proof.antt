@@ -12,15 +12,15 @@ returns-2 c =
     let b = c.before in
     let e = b.before in
     let a = e.before.before.args in
-    sought (outside_in a.limits a.f.now) (length a.f.now) (Value a.field) e.enum_told.given.1 b.first-outside.ensures c.value-answer.ensures
+    sought (outside_in a.limits a.f.now) (length a.f.now) (Value a.field) e.enum_told.given.1 b.first_outside.ensures c.value_answer.ensures
 
-pub then-within-spec : {M : Type 1} → statement M
-then-within-spec =
+pub then_within_spec : {M : Type 1} → statement M
+then_within_spec =
     tie.close
     (tie.spec
     (λ c. search rules)
     (λ c. search rules)
-    (λ c. rw c.enum-told2.given.1)
+    (λ c. rw c.enum_told2.given.1)
     (λ c κs. search rules)
     (λ c κs. search rules)
     returns-2)

@@ -6,8 +6,8 @@ use Rattle.tests.specs.Sought.{answer_by}
 use Rattle.tests.proofs.value_answer.Statement.{statement}
 use Rattle.tests.proofs.value_answer.Tie as tie
 
-pub value-answer-spec : {M : Type 1} → statement M
-value-answer-spec =
+pub value_answer_spec : {M : Type 1} → statement M
+value_answer_spec =
     tie.close
     (tie.spec
     (λ c. search rules)

@@ -48,10 +48,10 @@ loop-again c =
     let f = cell_line a.w a.h.now a.u.now a.v.now in
     let start = sink a.at a.out.now in (
       omega arith,
-      p.put-cell.auto.0 ∙ l.loop.invariant.1,
+      p.put_cell.auto.0 ∙ l.loop.invariant.1,
       follows (lines (tabulate k f)) (f k) start l.loop.invariant.2
-          (p.put-cell.ensures ∙ ap (λ text. puts text (sink l.loop.after l.loop.out))
-          (cell_as (get_or a.h.now k (pos 0)) (get_or a.u.now k (pos 0)) (get_or a.v.now k (pos 0)) (to_z_pos w64 (column-small t)) (to_z_pos w64 (row_small t)) (held-is w64 h.put-cell-arg2.given refl) (held-is w64 u.put-cell-arg3.given refl) (held-is w64 v.put-cell-arg4.given refl)))
+          (p.put_cell.ensures ∙ ap (λ text. puts text (sink l.loop.after l.loop.out))
+          (cell_as (get_or a.h.now k (pos 0)) (get_or a.u.now k (pos 0)) (get_or a.v.now k (pos 0)) (to_z_pos w64 (column-small t)) (to_z_pos w64 (row_small t)) (held-is w64 h.put_cell-arg2.given refl) (held-is w64 u.put_cell-arg3.given refl) (held-is w64 v.put_cell-arg4.given refl)))
           ∙ ap (λ text. puts text start) (sym (lines_more k f)),
     )
 
@@ -62,8 +62,8 @@ returns c =
     let f = cell_line a.w a.h.now a.u.now a.v.now in
     l.loop.invariant.2 ∙ ap (λ k. puts (lines (tabulate k f)) (sink a.at a.out.now)) (le_antisymm l.loop.invariant.0 c.loop-test.false)
 
-pub put-cells-spec : {M : Type 1} → statement M
-put-cells-spec =
+pub put_cells_spec : {M : Type 1} → statement M
+put_cells_spec =
     tie.close
     (tie.spec
     invariant-loop

@@ -16,8 +16,8 @@ returns c =
     let s = t.before.before.before.before in
     let name = s.args.name.now in
     let start = sink 0 s.args.out.now in
-    word-then name 32 (decimal s.args.x ++ (10 ∷ [])) start (follows name (32 ∷ []) start t.put-text.ensures p.put.ensures)
+    word-then name 32 (decimal s.args.x ++ (10 ∷ [])) start (follows name (32 ∷ []) start t.put_text.ensures p.put.ensures)
     (word-as 10 (sink p.put.result p.put.new.0) (to_z-of_z s.ranges.x) w.put_word.ensures)
 
-pub put-named-spec : {M : Type 1} → statement M
-put-named-spec = tie.close (tie.spec (λ c κs. search rules) (λ c κs. search rules) (λ c κs. search rules) (λ c. search rules) returns)
+pub put_named_spec : {M : Type 1} → statement M
+put_named_spec = tie.close (tie.spec (λ c κs. search rules) (λ c κs. search rules) (λ c κs. search rules) (λ c. search rules) returns)

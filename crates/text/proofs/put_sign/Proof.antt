@@ -34,5 +34,5 @@ returns-2 c =
     let s = c.before.before in
     ap (λ l. puts l (sink s.args.at s.args.out.now)) (above s.args.x (rw (to_z-of_z s.ranges.x) at c.if1.false))
 
-pub put-sign-spec : {M : Type 1} → statement M
-put-sign-spec = tie.close (tie.spec (λ c κs. search rules) (λ c. search rules) returns returns-2)
+pub put_sign_spec : {M : Type 1} → statement M
+put_sign_spec = tie.close (tie.spec (λ c κs. search rules) (λ c. search rules) returns returns-2)

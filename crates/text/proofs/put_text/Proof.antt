@@ -36,8 +36,8 @@ returns c =
     let a = l.before.before.before.args in
     l.loop.invariant.2 ∙ ap (λ t. puts t (sink a.at a.out.now)) (take_all l.loop.k a.text.now (omega arith))
 
-pub put-text-spec : {M : Type 1} → statement M
-put-text-spec =
+pub put_text_spec : {M : Type 1} → statement M
+put_text_spec =
     tie.close
     (tie.spec
     invariant-loop

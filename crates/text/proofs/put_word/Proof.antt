@@ -20,9 +20,9 @@ returns c =
     let start = sink s.args.at s.args.out.now in
     let size = m.magnitude.ensures ∙ ap nat_abs (to_z-of_z s.ranges.x) in
     let signed = g.put-sign.ensures ∙ ap (λ y. puts (sign y) start) (to_z-of_z s.ranges.x) in
-    let spelled = d.put-digits.ensures ∙ ap (λ n. puts (digits n) (sink g.put-sign.result g.put-sign.new.0)) size in
+    let spelled = d.put_digits.ensures ∙ ap (λ n. puts (digits n) (sink g.put-sign.result g.put-sign.new.0)) size in
     follows (sign x ++ digits (nat_abs x)) (s.args.end ∷ []) start (follows (sign x) (digits (nat_abs x)) start signed spelled) p.put.ensures
     ∙ ap (λ l. puts (l ++ (s.args.end ∷ [])) start) (sym (decimal-is x))
 
-pub put-word-spec : {M : Type 1} → statement M
-put-word-spec = tie.close (tie.spec (λ c κs. search rules) (λ c κs. search rules) (λ c κs. search rules) (λ c κs. search rules) (λ c. search rules) returns)
+pub put_word_spec : {M : Type 1} → statement M
+put_word_spec = tie.close (tie.spec (λ c κs. search rules) (λ c κs. search rules) (λ c κs. search rules) (λ c κs. search rules) (λ c. search rules) returns)
