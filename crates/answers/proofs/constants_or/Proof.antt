@@ -6,11 +6,11 @@ use Rattle.answers.proofs.constants_or.Statement.{statement}
 use Rattle.answers.proofs.constants_or.Tie as tie
 
 -- each number is the one that the struct holds
-returns : tie.Need-returns
+returns : tie.Need-returns-in-Read
 returns c =
-    let x = c.before.before.x.given in
+    let x = c.before.before.x-1.given in
     let p = x.0.0 in
-    let fits = c.struct_told.given.1.1.1 in
+    let fits = c.struct_told-1.given.1.1.1 in
     let g = to_z-of_z {w = w64} {z = p.g} (record { sfits = fits.0.1 }) in
     let k = to_z-of_z {w = w64} {z = p.c} (record { sfits = fits.1.0.1 }) in
     let r = to_z-of_z {w = w64} {z = p.r} (record { sfits = fits.1.1.0.1 }) in

@@ -10,6 +10,6 @@ doubles_or_spec =
     (λ c. search rules)
     (λ c. search rules)
     (λ c. search rules)
-    (λ c. rw c.before.x.given.1)
-    (λ c. rw c.before.x2.given.1)
+    (λ c. rw c.before.x-1.given.1)
+    (λ c. rw c.before.x-in-Near-1.given.1)
     (λ c. search rules))

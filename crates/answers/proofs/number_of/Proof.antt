@@ -14,5 +14,5 @@ number_of_spec =
     (tie.spec
     (λ c κs. search rules)
     (λ c. search rules)
-    (λ c. record { fits = small c.before.args.refusal _ c.refusal_numbers.ensures })
-    (λ c. ap (λ l. get_or l 0 0) c.refusal_numbers.ensures ∙ first_of (refusal_numbers c.before.args.refusal)))
+    (λ c. record { fits = small c.before.args.refusal _ c.refusal_numbers-told.ensures })
+    (λ c. ap (λ l. get_or l 0 0) c.refusal_numbers-told.ensures ∙ first_of (refusal_numbers c.before.args.refusal)))

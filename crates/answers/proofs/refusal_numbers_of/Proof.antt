@@ -13,4 +13,4 @@ refusal_numbers_of_spec =
     (λ c. search rules)
     (λ c. search rules)
     (λ c. search rules)
-    (λ c. of-record c.before.args.which c.before.args.refusal _ c.refusal_numbers.ensures))
+    (λ c. of-record c.before.args.which c.before.args.refusal _ c.refusal_numbers-told.ensures))

@@ -10,5 +10,5 @@ total_numbers_spec =
     (λ c. search rules)
     (λ c. search rules)
     (λ c κs. search rules)
-    (λ c. rw c.enum_told.given.1)
-    (λ c. rw c.before.before.x.given.1 c.refusal_numbers.ensures))
+    (λ c. rw c.enum_told-1.given.1)
+    (λ c. rw c.before.before.x-1.given.1 c.refusal_numbers.ensures))

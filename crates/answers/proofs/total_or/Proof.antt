@@ -11,5 +11,5 @@ total_or_spec =
     (tie.spec
     (λ c. search rules)
     (λ c. search rules)
-    (λ c. let x = c.before.x.given in rw x.1 (to_z-of_z {w = w64} {z = x.0.0} (record { sfits = c.known_told.given.0.1 })))
-    (λ c. rw c.enum_told.given.1 (to_z-of_z c.before.before.ranges.kept)))
+    (λ c. let x = c.before.x-1.given in rw x.1 (to_z-of_z {w = w64} {z = x.0.0} (record { sfits = c.known_told-1.given.0.1 })))
+    (λ c. rw c.enum_told-1.given.1 (to_z-of_z c.before.before.ranges.kept)))

@@ -10,5 +10,5 @@ write_numbers_spec =
     (λ c. search rules)
     (λ c. search rules)
     (λ c κs. search rules)
-    (λ c. rw c.before.write.given.1)
-    (λ c. rw c.before.before.write2.given.1 c.refusal_numbers.ensures))
+    (λ c. rw c.before.write-1.given.1)
+    (λ c. rw c.before.before.write-in-Refused-1.given.1 c.refusal_numbers.ensures))

@@ -8,7 +8,7 @@ returns : tie.Need-returns
 returns c =
     let n = c.before in
     let k = n.before.before in
-    record { answer = k.compare.result; promise = k.compare.ensures; told = told-by n.compare_numbers.ensures c.tell.ensures }
+    record { answer = k.compare-x.result; promise = k.compare-x.ensures; told = told-by n.compare_numbers.ensures c.tell.ensures }
 
 pub basin_compare_spec : {M : Type 1} → statement M
 basin_compare_spec = tie.close (tie.spec (λ c κs. search rules) (λ c κs. search rules) (λ c κs. search rules) returns)

@@ -12,9 +12,9 @@ returns c =
     let k = n.before.before.before in
     let m = k.before.before in
     let given = m.before.before.ranges in
-    let f = made m.parameters.ensures (to_z-of_z given.g) (to_z-of_z given.c) (to_z-of_z given.r) in
+    let f = made m.parameters-p.ensures (to_z-of_z given.g) (to_z-of_z given.c) (to_z-of_z given.r) in
     let a = m.before.before.args in
-    record { answer = k.potential_vorticity.result; promise = vorticity-of f a.h.now a.b.now a.u.now a.v.now a.barriers.now k.potential_vorticity.ensures; told = told-by n.answer_numbers.ensures c.tell.ensures }
+    record { answer = k.potential_vorticity-x.result; promise = vorticity-of f a.h.now a.b.now a.u.now a.v.now a.barriers.now k.potential_vorticity-x.ensures; told = told-by n.answer_numbers.ensures c.tell.ensures }
 
 pub basin_potential_vorticity_spec : {M : Type 1} → statement M
 basin_potential_vorticity_spec =

@@ -13,9 +13,9 @@ returns c =
     let k = o.before.before in
     let m = k.before in
     let given = m.before.before.ranges in
-    let f = made m.parameters.ensures (to_z-of_z given.g) (to_z-of_z given.c) (to_z-of_z given.r) in
+    let f = made m.parameters-p.ensures (to_z-of_z given.g) (to_z-of_z given.c) (to_z-of_z given.r) in
     let a = m.before.before.args in
-    record { answer = k.probe.result; promise = probe-of f a.h.now a.b.now a.u.now a.v.now a.barriers.now a.q.now k.probe.ensures; holds = o.doubles_or.ensures; told = told-by n.probe_numbers.ensures c.tell.ensures }
+    record { answer = k.probe-x.result; promise = probe-of f a.h.now a.b.now a.u.now a.v.now a.barriers.now a.q.now k.probe-x.ensures; holds = o.doubles_or.ensures; told = told-by n.probe_numbers.ensures c.tell.ensures }
 
 pub basin_probe_spec : {M : Type 1} → statement M
 basin_probe_spec =

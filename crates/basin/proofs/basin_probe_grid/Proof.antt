@@ -12,9 +12,9 @@ returns c =
     let k = n.before.before.before.before.before.before.before.before in
     let m = k.before.before.before.before in
     let b = m.before.before.before.before.before in
-    let f = made m.parameters.ensures (to_z-of_z b.ranges.g) (to_z-of_z b.ranges.c) (to_z-of_z b.ranges.r) in
+    let f = made m.parameters-p.ensures (to_z-of_z b.ranges.g) (to_z-of_z b.ranges.c) (to_z-of_z b.ranges.r) in
     let a = b.args in
-    record { answer = k.probe_grid.result; promise = probe-grid-of f a.h.now a.b.now a.u.now a.v.now a.barriers.now a.q.now k.probe_grid.ensures; told = told-by n.probe_grid_numbers.ensures c.tell.ensures }
+    record { answer = k.probe_grid-x.result; promise = probe-grid-of f a.h.now a.b.now a.u.now a.v.now a.barriers.now a.q.now k.probe_grid-x.ensures; told = told-by n.probe_grid_numbers.ensures c.tell.ensures }
 
 pub basin_probe_grid_spec : {M : Type 1} → statement M
 basin_probe_grid_spec =

@@ -9,7 +9,7 @@ returns c =
     let n = c.before in
     let o = n.before.before in
     let k = o.before.before.before.before.before.before.before.before in
-    record { answer = k.read.result; promise = k.read.ensures; holds = o.constants_or.ensures; told = told-by n.read_numbers.ensures c.tell.ensures }
+    record { answer = k.read-x.result; promise = k.read-x.ensures; holds = o.constants_or.ensures; told = told-by n.read_numbers.ensures c.tell.ensures }
 
 pub basin_read_spec : {M : Type 1} → statement M
 basin_read_spec =

@@ -27,13 +27,13 @@ taken a b t =
 answered : (c : tie.After-is_roundable) → c.is_roundable.result ≡ roundable c.before.args.a c.before.args.b
 answered c = c.is_roundable.ensures ∙ rw (to_z-of_z c.before.ranges.a, to_z-of_z c.before.ranges.b)
 
-told : (c : tie.Else1) → roundable c.before.before.args.a c.before.before.args.b ≡ true
-told c = sym (answered c.before) ∙ not-false _ c.if1.false
+told : (c : tie.Else-not-is_roundable) → roundable c.before.before.args.a c.before.before.args.b ≡ true
+told c = sym (answered c.before) ∙ not-false _ c.if-not-is_roundable.false-raw
 
-returns : tie.Need-returns
+returns : tie.Need-returns-then-not-is_roundable
 returns c =
     let a = c.before.before.args in
-    let t = sym (answered c.before) ∙ not-true _ c.if1.true in
+    let t = sym (answered c.before) ∙ not-true _ c.if-not-is_roundable.true-raw in
     record { returns = sym (ap (λ t. cond t 0 4) t); holds = sym (ap (λ t. cond t (rnd a.a a.b) a.rounded.now) t) }
 
 rnd-requires : tie.Need-rnd-requires
@@ -41,7 +41,7 @@ rnd-requires c κs =
     let s = c.before.before in
     rw (to_z-of_z s.ranges.a, to_z-of_z s.ranges.b) (taken s.args.a s.args.b (told c))
 
-returns-2 : tie.Need-returns-2
+returns-2 : tie.Need-returns
 returns-2 c =
     let s = c.before.before.before in
     let a = s.args in

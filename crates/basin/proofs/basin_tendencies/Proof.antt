@@ -12,9 +12,9 @@ returns c =
     let k = n.before.before.before.before.before in
     let m = k.before.before.before.before in
     let given = m.before.before.ranges in
-    let f = made m.parameters.ensures (to_z-of_z given.g) (to_z-of_z given.c) (to_z-of_z given.r) in
+    let f = made m.parameters-p.ensures (to_z-of_z given.g) (to_z-of_z given.c) (to_z-of_z given.r) in
     let a = m.before.before.args in
-    record { answer = k.tendencies.result; promise = tendencies-of f a.h.now a.b.now a.u.now a.v.now a.barriers.now a.q.now k.tendencies.ensures; told = told-by n.answer_numbers.ensures c.tell.ensures }
+    record { answer = k.tendencies-x.result; promise = tendencies-of f a.h.now a.b.now a.u.now a.v.now a.barriers.now a.q.now k.tendencies-x.ensures; told = told-by n.answer_numbers.ensures c.tell.ensures }
 
 pub basin_tendencies_spec : {M : Type 1} → statement M
 basin_tendencies_spec =

@@ -18,13 +18,13 @@ returns c =
     let k = o.before.before in
     let m = k.before in
     let given = m.before.before.ranges in
-    let f = made m.parameters.ensures (to_z-of_z given.g) (to_z-of_z given.c) (to_z-of_z given.r) in
+    let f = made m.parameters-p.ensures (to_z-of_z given.g) (to_z-of_z given.c) (to_z-of_z given.r) in
     let a = m.before.before.args in
-    let x = k.total_energy.result in
+    let x = k.total_energy-x.result in
     record {
       answer = x;
-      promise = energy-of f a.h.now a.b.now a.u.now a.v.now a.barriers.now k.total_energy.ensures;
-      holds = held-is w64 o.total_or.type_inv o.total_or.ensures ∙ ap (λ z. get_or (total_in x) 0 z) (to_z-of_z {w = w64} {z = a.total.now} (record { sfits = o.before.total_or-arg.given }));
+      promise = energy-of f a.h.now a.b.now a.u.now a.v.now a.barriers.now k.total_energy-x.ensures;
+      holds = held-is w64 o.total_or.type_inv o.total_or.ensures ∙ ap (λ z. get_or (total_in x) 0 z) (to_z-of_z {w = w64} {z = a.total.now} (record { sfits = o.before.total_or-arg-1.given }));
       told = told-by n.total_numbers.ensures c.tell.ensures;
     }
 

@@ -13,9 +13,9 @@ returns c =
     let k = n.before.before.before.before in
     let m = k.before.before in
     let given = m.before.before.before.ranges in
-    let f = made m.parameters.ensures (to_z-of_z given.g) (to_z-of_z given.c) (to_z-of_z given.r) in
+    let f = made m.parameters-p.ensures (to_z-of_z given.g) (to_z-of_z given.c) (to_z-of_z given.r) in
     let a = m.before.before.before.args in
-    record { answer = k.write.result; promise = write-of f a.h.now a.b.now a.u.now a.v.now a.barriers.now (timestamp a.seconds a.milliseconds) k.write.ensures; told = told-by n.write_numbers.ensures c.tell.ensures }
+    record { answer = k.write-x.result; promise = write-of f a.h.now a.b.now a.u.now a.v.now a.barriers.now (timestamp a.seconds a.milliseconds) k.write-x.ensures; told = told-by n.write_numbers.ensures c.tell.ensures }
 
 pub basin_write_spec : {M : Type 1} → statement M
 basin_write_spec = tie.close (tie.spec (λ c κs. search rules) (λ c κs. search rules) (λ c κs. search rules) (λ c κs. search rules) (λ c. search rules) returns)

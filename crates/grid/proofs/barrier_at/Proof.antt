@@ -5,8 +5,8 @@ use borrow.Author.Rules.{rules}
 use Rattle.grid.proofs.barrier_at.Statement.{statement}
 use Rattle.grid.proofs.barrier_at.Tie as tie
 
-past : tie.Need-returns-2
-past c = sym (get_or-eq_default c.before.args.barriers.now 0 c.if1.false)
+past : tie.Need-returns
+past c = sym (get_or-eq_default c.before.args.barriers.now 0 c.if-k-barriers.false)
 
 pub barrier_at_spec : {M : Type 1} → statement M
 barrier_at_spec = tie.close (tie.spec (λ c. search rules) (λ c. search rules) past)

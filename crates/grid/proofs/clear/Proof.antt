@@ -8,33 +8,33 @@ use Rattle.grid.specs.WritingLoops.{Writing, writing-none, filling-more, filling
 use Rattle.grid.proofs.clear.Statement.{statement}
 use Rattle.grid.proofs.clear.Tie as tie
 
-abbrev invariant-loop : tie.invariant-loop
-invariant-loop work₀ m k₀ work k = Writing 0 (replicate m (pos 0)) work₀ k work
+abbrev invariant-loop-k : tie.invariant-loop-k
+invariant-loop-k work₀ m k₀ work k = Writing 0 (replicate m (pos 0)) work₀ k work
 
-abbrev decreases-loop : tie.decreases-loop
-decreases-loop work₀ m k₀ work k = m - k
+abbrev decreases-loop-k : tie.decreases-loop-k
+decreases-loop-k work₀ m k₀ work k = m - k
 
-loop-again : tie.Need-loop-preserved invariant-loop decreases-loop
+loop-again : tie.Need-loop-k-preserved invariant-loop-k decreases-loop-k
 loop-again c =
     let l = c.before in
     let m = l.before.args.m in
     let e = length-replicate m (pos 0) in
-    filling-more (pos 0) l.loop.invariant (omega arith) (omega arith) (sym (get_or-replicate m l.loop.k (pos 0) (pos 0) c.loop-test.true))
+    filling-more (pos 0) l.loop-k.invariant (omega arith) (omega arith) (sym (get_or-replicate m l.loop-k.k (pos 0) (pos 0) c.loop-k-test.true))
 
-returns : tie.Need-returns invariant-loop decreases-loop
-returns c = filling-done c.before.loop.invariant (length-replicate _ _) c.loop-test.false
+returns : tie.Need-returns invariant-loop-k decreases-loop-k
+returns c = filling-done c.before.loop-k.invariant (length-replicate _ _) c.loop-k-test.false
 
 pub clear_spec : {M : Type 1} → statement M
 clear_spec =
     tie.close
     (tie.spec
-    invariant-loop
-    decreases-loop
+    invariant-loop-k
+    decreases-loop-k
     (λ c. writing-none)
     (λ c. omega arith)
     (λ c. omega arith)
     (λ c. omega arith)
     (λ c. omega arith)
     loop-again
-    (λ c. c.before.loop.invariant.long)
+    (λ c. c.before.loop-k.invariant.long)
     returns)

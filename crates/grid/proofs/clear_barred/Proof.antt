@@ -9,45 +9,45 @@ use Rattle.grid.specs.Barred.{cleared-none, Clearing, clearing-none, clearing-op
 use Rattle.grid.proofs.clear_barred.Statement.{statement}
 use Rattle.grid.proofs.clear_barred.Tie as tie
 
-abbrev invariant-loop : tie.invariant-loop
-invariant-loop f₀ at barriers edge k₀ k-end f k = Clearing edge barriers at f₀ k f
+abbrev invariant-loop-k : tie.invariant-loop-k
+invariant-loop-k f₀ at barriers edge k₀ k-end f k = Clearing edge barriers at f₀ k f
 
-abbrev decreases-loop : tie.decreases-loop
-decreases-loop f₀ at barriers edge k₀ k-end f k = length barriers - k
+abbrev decreases-loop-k : tie.decreases-loop-k
+decreases-loop-k f₀ at barriers edge k₀ k-end f k = length barriers - k
 
 -- there is no barrier
-unbarred : tie.Need-returns invariant-loop decreases-loop
-unbarred c = let h = c.before in cleared-none (λ k. subst (λ m. get_or h.before.before.args.barriers.now k 0 ≤ m) c.if1.true (h.highest.ensures.0 k))
+unbarred : tie.Need-returns-then-highest-eq0 invariant-loop-k decreases-loop-k
+unbarred c = let h = c.before in cleared-none (λ k. subst (λ m. get_or h.before.before.args.barriers.now k 0 ≤ m) c.if-highest-eq0.true (h.highest.ensures.0 k))
 
 -- the function's entry, from within the loop
-abbrev start : tie.In-loop invariant-loop decreases-loop → tie.Start invariant-loop decreases-loop
+abbrev start : tie.In-loop-k invariant-loop-k decreases-loop-k → tie.Start invariant-loop-k decreases-loop-k
 start c = c.before.before.before.before.before
 
 -- the cell's place is one of the slice
-inside : (c : tie.In-loop invariant-loop decreases-loop) → (start c).args.at + c.before.loop.k < length c.before.loop.f
-inside c = omega (arith, (start c).requires, c.before.loop.invariant.long, c.loop-test.true)
+inside : (c : tie.In-loop-k invariant-loop-k decreases-loop-k) → (start c).args.at + c.before.loop-k.k < length c.before.loop-k.f
+inside c = omega (arith, (start c).requires, c.before.loop-k.invariant.long, c.loop-k-test.true)
 
-abbrev turn : tie.After-is_barred invariant-loop decreases-loop → tie.In-loop invariant-loop decreases-loop
+abbrev turn : tie.After-is_barred invariant-loop-k decreases-loop-k → tie.In-loop-k invariant-loop-k decreases-loop-k
 turn c = c.before.before
 
-loop-again : tie.Need-loop-preserved invariant-loop decreases-loop
+loop-again : tie.Need-loop-k-preserved invariant-loop-k decreases-loop-k
 loop-again c =
     let k = c.before in
     let t = turn k in
-    let inv = t.before.loop.inv in
+    let inv = t.before.loop-k.inv in
     let s = start t in
-    let Next = Clearing s.args.edge s.args.barriers.now s.args.at s.args.f.now (t.before.loop.k + 1) in
+    let Next = Clearing s.args.edge s.args.barriers.now s.args.at s.args.f.now (t.before.loop-k.k + 1) in
     ⊎_elim
     (λ w. subst Next (sym w.1) (clearing-closed inv (sym k.is_barred.ensures ∙ w.0.taken) (inside t)))
     (λ w. subst Next (sym w.1) (clearing-open inv (sym k.is_barred.ensures ∙ w.0.left)))
-    c.if2.branch
+    c.if-is_barred.branch
 
 pub clear_barred_spec : {M : Type 1} → statement M
 clear_barred_spec =
     tie.close
     (tie.spec
-    invariant-loop
-    decreases-loop
+    invariant-loop-k
+    decreases-loop-k
     (λ c κs. search rules)
     unbarred
     (λ c. clearing-none)
@@ -59,5 +59,5 @@ clear_barred_spec =
     (λ c. omega arith)
     (λ c. omega arith)
     loop-again
-    (λ c. c.before.loop.invariant.long)
-    (λ c. clearing-done c.before.loop.invariant c.loop-test.false))
+    (λ c. c.before.loop-k.invariant.long)
+    (λ c. clearing-done c.before.loop-k.invariant c.loop-k-test.false))

@@ -11,26 +11,26 @@ use Rattle.grid.specs.WritingLoops.{Writing, writing-none, writing_more, writing
 use Rattle.grid.proofs.copy_into.Statement.{statement}
 use Rattle.grid.proofs.copy_into.Tie as tie
 
-abbrev invariant-loop : tie.invariant-loop
-invariant-loop work₀ a src k₀ k-end work k = Writing a src work₀ k work
+abbrev invariant-loop-k : tie.invariant-loop-k
+invariant-loop-k work₀ a src k₀ k-end work k = Writing a src work₀ k work
 
-abbrev decreases-loop : tie.decreases-loop
-decreases-loop work₀ a src k₀ k-end work k = length src - k
+abbrev decreases-loop-k : tie.decreases-loop-k
+decreases-loop-k work₀ a src k₀ k-end work k = length src - k
 
-loop-again : tie.Need-loop-preserved invariant-loop decreases-loop
+loop-again : tie.Need-loop-k-preserved invariant-loop-k decreases-loop-k
 loop-again c =
     let l = c.before.before in
-    writing_more (pos 0) l.loop.invariant c.before.loop-test.true l.before.requires (held-is w64 c.work.given refl)
+    writing_more (pos 0) l.loop-k.invariant c.before.loop-k-test.true l.before.requires (held-is w64 c.work-1.given refl)
 
-returns : tie.Need-returns invariant-loop decreases-loop
-returns c = writing-done c.before.loop.invariant c.loop-test.false
+returns : tie.Need-returns invariant-loop-k decreases-loop-k
+returns c = writing-done c.before.loop-k.invariant c.loop-k-test.false
 
 pub copy_into_spec : {M : Type 1} → statement M
 copy_into_spec =
     tie.close
     (tie.spec
-    invariant-loop
-    decreases-loop
+    invariant-loop-k
+    decreases-loop-k
     (λ c. writing-none)
     (λ c. omega arith)
     (λ c. omega arith)
@@ -40,5 +40,5 @@ copy_into_spec =
     (λ c. omega arith)
     (λ c. omega arith)
     loop-again
-    (λ c. c.before.loop.invariant.long)
+    (λ c. c.before.loop-k.invariant.long)
     returns)

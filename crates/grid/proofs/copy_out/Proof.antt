@@ -15,45 +15,45 @@ use Rattle.grid.specs.WritingLoops.{Writing, writing-none, filling-more, filling
 use Rattle.grid.proofs.copy_out.Statement.{statement}
 use Rattle.grid.proofs.copy_out.Tie as tie
 
-abbrev invariant-loop : tie.invariant-loop
-invariant-loop work a m d₀ k₀ d k = Writing 0 (part a m work) d₀ k d
+abbrev invariant-loop-k : tie.invariant-loop-k
+invariant-loop-k work a m d₀ k₀ d k = Writing 0 (part a m work) d₀ k d
 
-abbrev decreases-loop : tie.decreases-loop
-decreases-loop work a m d₀ k₀ d k = m - k
+abbrev decreases-loop-k : tie.decreases-loop-k
+decreases-loop-k work a m d₀ k₀ d k = m - k
 
-many : (c : tie.Start invariant-loop decreases-loop) → let a = c.args in length (part a.a a.m a.work.now) ≡ a.m
+many : (c : tie.Start invariant-loop-k decreases-loop-k) → let a = c.args in length (part a.a a.m a.work.now) ≡ a.m
 many c = let a = c.args in length_part a.a a.m a.work.now c.requires.0
 
-loop-again : tie.Need-loop-preserved invariant-loop decreases-loop
+loop-again : tie.Need-loop-k-preserved invariant-loop-k decreases-loop-k
 loop-again c =
     let l = c.before.before in
     let s = l.before in
     let a = s.args in
-    let h = c.before.loop-test.true in
-    filling-more (pos 0) l.loop.invariant (omega (arith, h, many s)) (omega (arith, many s, s.requires.1)) (held-is w64 c.d.given (sym (get_d_part a.a a.m a.work.now l.loop.k h)))
+    let h = c.before.loop-k-test.true in
+    filling-more (pos 0) l.loop-k.invariant (omega (arith, h, many s)) (omega (arith, many s, s.requires.1)) (held-is w64 c.d-1.given (sym (get_d_part a.a a.m a.work.now l.loop-k.k h)))
 
-returns : tie.Need-returns invariant-loop decreases-loop
+returns : tie.Need-returns invariant-loop-k decreases-loop-k
 returns c =
     let s = c.before.before in
     let a = s.args in
     let l = part a.a a.m a.work.now in
-    filling-done c.before.loop.invariant (many s) c.loop-test.false
-    ∙ ap (λ k. l ++ drop k a.d.now) (sym s.requires.1) ∙ ap (λ x. l ++ x) (drop-length a.d.now) ∙ append-nil l
+    filling-done c.before.loop-k.invariant (many s) c.loop-k-test.false
+    ∙ ap (λ k. l ++ drop k a.d-1.now) (sym s.requires.1) ∙ ap (λ x. l ++ x) (drop-length a.d-1.now) ∙ append-nil l
 
 pub copy_out_spec : {M : Type 1} → statement M
 copy_out_spec =
     tie.close
     (tie.spec
-    invariant-loop
-    decreases-loop
+    invariant-loop-k
+    decreases-loop-k
     (λ c. writing-none)
-    (λ c. omega (arith, c.loop-test.true, c.before.before.requires.0))
-    (λ c. omega (arith, c.loop-test.true, c.before.before.requires.0))
-    (λ c. omega (arith, c.loop-test.true, c.before.before.requires.0))
-    (λ c. omega (arith, c.before.loop-test.true, c.before.before.before.requires.0))
-    (λ c. omega (arith, c.before.loop-test.true, c.before.before.loop.invariant.long, c.before.before.before.requires.1))
-    (λ c. omega (arith, c.before.loop-test.true, c.before.before.before.requires.0))
-    (λ c. omega (arith, c.before.loop-test.true))
+    (λ c. omega (arith, c.loop-k-test.true, c.before.before.requires.0))
+    (λ c. omega (arith, c.loop-k-test.true, c.before.before.requires.0))
+    (λ c. omega (arith, c.loop-k-test.true, c.before.before.requires.0))
+    (λ c. omega (arith, c.before.loop-k-test.true, c.before.before.before.requires.0))
+    (λ c. omega (arith, c.before.loop-k-test.true, c.before.before.loop-k.invariant.long, c.before.before.before.requires.1))
+    (λ c. omega (arith, c.before.loop-k-test.true, c.before.before.before.requires.0))
+    (λ c. omega (arith, c.before.loop-k-test.true))
     loop-again
-    (λ c. c.before.loop.invariant.long)
+    (λ c. c.before.loop-k.invariant.long)
     returns)

@@ -3,8 +3,8 @@ use borrow.Author.Rules.{rules}
 use Rattle.grid.proofs.corners_of.Statement.{statement}
 use Rattle.grid.proofs.corners_of.Tie as tie
 
-walled : tie.Need-returns
-walled c = rw c.if1.true
+walled : tie.Need-returns-then-walled
+walled c = rw c.if-walled.true
 
 pub corners_of_spec : {M : Type 1} → statement M
 corners_of_spec = tie.close (tie.spec (λ c. search rules) walled (λ c. search rules))

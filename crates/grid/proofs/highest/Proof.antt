@@ -12,11 +12,11 @@ use borrow.Author.Tests.{eqb-true, eqb-false, leb-true, leb-false}
 use Rattle.grid.proofs.highest.Statement.{statement}
 use Rattle.grid.proofs.highest.Tie as tie
 
-abbrev invariant-loop : tie.invariant-loop
-invariant-loop bytes most₀ k₀ k-end most k = ((x : ℕ) → x < k → get_or bytes x 0 ≤ most) × ((x : ℕ) × (get_or bytes x 0 ≡ most))
+abbrev invariant-loop-k : tie.invariant-loop-k
+invariant-loop-k bytes most₀ k₀ k-end most k = ((x : ℕ) → x < k → get_or bytes x 0 ≤ most) × ((x : ℕ) × (get_or bytes x 0 ≡ most))
 
-abbrev decreases-loop : tie.decreases-loop
-decreases-loop bytes most₀ k₀ k-end most k = length bytes - k
+abbrev decreases-loop-k : tie.decreases-loop-k
+decreases-loop-k bytes most₀ k₀ k-end most k = length bytes - k
 
 -- a bound m of the first k bytes, and one m' that is no lower and bounds the byte at k too
 more : (bytes : List ℕ) (k m m' : ℕ) → ((x : ℕ) → x < k → get_or bytes x 0 ≤ m) → m ≤ m' → get_or bytes k 0 ≤ m' → (x : ℕ) → x < k + 1 → get_or bytes x 0 ≤ m'
@@ -26,41 +26,41 @@ more bytes k m m' h p q x l = by (eqb x k) refl
     by true e = subst (λ x. get_or bytes x 0 ≤ m') (sym (eqb-true x k e)) q
     by false e = let b = h x (omega (arith, eqb-false x k e)) in omega arith
 
-loop-again : tie.Need-loop-preserved invariant-loop decreases-loop
+loop-again : tie.Need-loop-k-preserved invariant-loop-k decreases-loop-k
 loop-again c =
     let i = c.before.before in
     let a = i.before.before.args in
-    let t = i.before.loop in
+    let t = i.before.loop-k in
     ⊎_elim
     (λ w. (
-      more a.bytes.now t.k t.most c.if1.most t.invariant.0 (omega (arith, w.0.taken, w.1)) (omega (arith, w.1)),
+      more a.bytes.now t.k t.most c.if-most-byte.most t.invariant.0 (omega (arith, w.0.taken, w.1)) (omega (arith, w.1)),
       (t.k, sym w.1),
     ))
     (λ w. (
-      more a.bytes.now t.k t.most c.if1.most t.invariant.0 (omega (arith, w.1)) (omega (arith, w.0.left, w.1)),
+      more a.bytes.now t.k t.most c.if-most-byte.most t.invariant.0 (omega (arith, w.1)) (omega (arith, w.0.left, w.1)),
       (t.invariant.1.0, t.invariant.1.1 ∙ sym w.1),
     ))
-    c.if1.branch
+    c.if-most-byte.branch
 
 -- past the end there is 0
-returns : tie.Need-returns invariant-loop decreases-loop
-returns c = ((λ x. by x (leb (length bytes) x) refl), c.before.loop.invariant.1)
+returns : tie.Need-returns invariant-loop-k decreases-loop-k
+returns c = ((λ x. by x (leb (length bytes) x) refl), c.before.loop-k.invariant.1)
   where
     bytes : List ℕ
     bytes = c.before.before.args.bytes.now
 
-    by : (x : ℕ) (past : Bool) → leb (length bytes) x ≡ past → get_or bytes x 0 ≤ c.before.loop.most
-    by x true e = subst (λ y. y ≤ c.before.loop.most) (sym (get_or-eq_default bytes 0 (leb-true (length bytes) x e))) zero-le
-    by x false e = let l = leb-false (length bytes) x e in c.before.loop.invariant.0 x (omega (arith, c.loop-test.false))
+    by : (x : ℕ) (past : Bool) → leb (length bytes) x ≡ past → get_or bytes x 0 ≤ c.before.loop-k.most
+    by x true e = subst (λ y. y ≤ c.before.loop-k.most) (sym (get_or-eq_default bytes 0 (leb-true (length bytes) x e))) zero-le
+    by x false e = let l = leb-false (length bytes) x e in c.before.loop-k.invariant.0 x (omega (arith, c.loop-k-test.false))
 
 pub highest_spec : {M : Type 1} → statement M
 highest_spec =
     tie.close
     (tie.spec
-    invariant-loop
-    decreases-loop
+    invariant-loop-k
+    decreases-loop-k
     (λ c. ((λ x h. absurd (omega arith)), (length c.args.bytes.now, get_or-eq_default c.args.bytes.now 0 (le_refl (length c.args.bytes.now)))))
-    (λ c. c.before.loop-test.true)
+    (λ c. c.before.loop-k-test.true)
     (λ c. omega arith)
     (λ c. omega arith)
     loop-again

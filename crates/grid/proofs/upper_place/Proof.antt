@@ -6,16 +6,16 @@ use Rattle.grid.specs.Corners.{upper-past, upper-last, upper_lt}
 use Rattle.grid.proofs.upper_place.Statement.{statement}
 use Rattle.grid.proofs.upper_place.Tie as tie
 
-last : tie.Need-returns
+last : tie.Need-returns-then-x-w
 last c =
     let s = c.before in
-    let p = s.requires in (sym (upper-last s.args.walled p.0 p.1 c.if1.true), omega (arith, p.0))
+    let p = s.requires in (sym (upper-last s.args.walled p.0 p.1 c.if-x-w.true), omega (arith, p.0))
 
-other : tie.Need-returns-2
+other : tie.Need-returns-else-x-w
 other c =
     let s = c.before in
     let p = s.requires in
-    let e = upper-past s.args.walled p.0 p.1 c.if1.false in
+    let e = upper-past s.args.walled p.0 p.1 c.if-x-w.false in
     (sym e, rw e at (upper_lt s.args.walled p.0 p.1))
 
 pub upper_place_spec : {M : Type 1} → statement M

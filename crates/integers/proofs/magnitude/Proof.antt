@@ -40,22 +40,22 @@ above (negsuc n) e = absurd (subst T e tt)
 a-is : (c : tie.Start) → held w64 c.args.a ≡ c.args.a
 a-is c = to_z-of_z c.ranges.a
 
-negative : (c : tie.Then1) → Negative c.before.args.a
-negative c = below c.before.args.a c.before.ranges.a (rw (a-is c.before) at c.if1.true)
+negative : (c : tie.Then-a-lt0) → Negative c.before.args.a
+negative c = below c.before.args.a c.before.ranges.a (rw (a-is c.before) at c.if-a-lt0.true)
 
-flipped-is : (c : tie.Then1) → negsuc 0 -ℤ held w64 c.before.args.a ≡ pos (negative c).less
+flipped-is : (c : tie.Then-a-lt0) → negsuc 0 -ℤ held w64 c.before.args.a ≡ pos (negative c).less
 flipped-is c = ap (λ z. negsuc 0 -ℤ z) (a-is c.before) ∙ (negative c).flipped
 
 sub-result : tie.Need-overflow_sub-result
 sub-result c = subst (SFits w64) (sym (flipped-is c)) (record { sfits = (negative c).small })
 
-less-is : (c : tie.Then1) → held w64 (negsuc 0 -ℤ held w64 c.before.args.a) ≡ pos (negative c).less
+less-is : (c : tie.Then-a-lt0) → held w64 (negsuc 0 -ℤ held w64 c.before.args.a) ≡ pos (negative c).less
 less-is c = ap (held w64) (flipped-is c) ∙ held-is w64 (negative c).small refl
 
 cast-result : tie.Need-overflow_cast-result
 cast-result c = unsigned (negative c).less (less-is c) (omega (arith, (negative c).small))
 
-size_is : (c : tie.Then1) → nat_abs (held w64 (negsuc 0 -ℤ held w64 c.before.args.a)) + 1 ≡ nat_abs c.before.args.a
+size_is : (c : tie.Then-a-lt0) → nat_abs (held w64 (negsuc 0 -ℤ held w64 c.before.args.a)) + 1 ≡ nat_abs c.before.args.a
 size_is c = ap (λ z. nat_abs z + 1) (less-is c) ∙ (negative c).size
 
 -- which is below 2^64
@@ -66,10 +66,10 @@ fits-unsigned (negsuc n) f = omega (arith, f.sfits)
 add-result : tie.Need-overflow_add-result
 add-result c = subst (Fits w64) (sym (size_is c)) (record { fits = fits-unsigned c.before.args.a c.before.ranges.a })
 
-cast-result-2 : tie.Need-overflow_cast-result-2
+cast-result-2 : tie.Need-overflow_cast-result-else-a-lt0
 cast-result-2 c =
     let s = c.before in
-    unsigned (nat_abs s.args.a) (a-is s ∙ above s.args.a (rw (a-is s) at c.if1.false)) (fits-unsigned s.args.a s.ranges.a)
+    unsigned (nat_abs s.args.a) (a-is s ∙ above s.args.a (rw (a-is s) at c.if-a-lt0.false)) (fits-unsigned s.args.a s.ranges.a)
 
 pub magnitude_spec : {M : Type 1} → statement M
 magnitude_spec = tie.close (tie.spec sub-result cast-result add-result cast-result-2 size_is (λ c. search rules))

@@ -30,7 +30,7 @@ up t d s l =
     less : (d r : ℕ) → r < d → 2 * r - d < 2 * d
     less d r l = omega arith
 
-mul-if1 : tie.Need-overflow_mul-if1
+mul-if1 : tie.Need-overflow_mul-t
 mul-if1 c = omega (arith, mod-lt c.args.t c.requires.1)
 
 add-result : tie.Need-overflow_add-result
@@ -44,5 +44,5 @@ nearest_spec =
     (λ c. search rules)
     mul-if1
     add-result
-    (λ c. down _ _ c.if1.true)
-    (λ c. up _ _ c.before.requires.1 c.if1.false))
+    (λ c. down _ _ c.if-t-d.true)
+    (λ c. up _ _ c.before.requires.1 c.if-t-d.false))

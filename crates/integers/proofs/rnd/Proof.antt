@@ -44,43 +44,43 @@ b-is : (c : tie.Start) → held w64 c.args.b ≡ c.args.b
 b-is c = exact w64 (var 0) {zs = c.args.b ∷ []} (record { abs = c.requires.most } ◂ ∎) tt
 
 -- what was rounded is the size of the result
-size_is : (c : tie.After-nearest) → c.nearest.result ≡ nat_abs (rnd c.before.before.args.a c.before.before.args.b)
+size_is : (c : tie.After-nearest-q) → c.nearest-q.result ≡ nat_abs (rnd c.before.before.args.a c.before.before.args.b)
 size_is c =
     let s = c.before.before in
-    c.nearest.ensures
+    c.nearest-q.ensures
     ∙ ap₂ (λ (t d : ℕ). (2 * t + d) / (2 * d)) (c.before.magnitude.ensures ∙ ap nat_abs (a-is s)) (ap nat_abs (b-is s))
     ∙ sym (rnd-abs s.args.a s.args.b)
 
-small : (c : tie.After-nearest) → c.nearest.result ≤ most_dividend
+small : (c : tie.After-nearest-q) → c.nearest-q.result ≤ most_dividend
 small c =
     let s = c.before.before in
     let one = some s.args.b s.requires.some in
     rw (size_is c) (le_trans (rnd-size (nat_abs s.args.a) s.args.a s.args.b one (omega (arith, mul-le-mul_left (nat_abs s.args.a) one))) s.requires.small)
 
-sizes : (c : tie.After-nearest) → Sizes (pos c.nearest.result ∷ []) (most_dividend ∷ [])
+sizes : (c : tie.After-nearest-q) → Sizes (pos c.nearest-q.result ∷ []) (most_dividend ∷ [])
 sizes c = record { abs = small c } ◂ ∎
 
 abbrev negated : Expr
 negated = con (pos 0) ⊖ var 0
 
-nearest-requires : tie.Need-nearest-requires
+nearest-requires : tie.Need-nearest-q-requires
 nearest-requires c κs =
     let s = c.before in
     rw (c.magnitude.ensures, a-is s, b-is s) (s.requires.small, some s.args.b s.requires.some, s.requires.most)
 
-returns : tie.Need-returns
+returns : tie.Need-returns-then-a-lt0
 returns c =
     let s = c.before.before.before in
     exact w64 negated (sizes c.before) tt
     ∙ ap (λ k. pos 0 -ℤ pos k) (size_is c.before)
-    ∙ below s.args.a s.args.b (rw (a-is s) at c.if1.true)
+    ∙ below s.args.a s.args.b (rw (a-is s) at c.if-a-lt0.true)
 
-returns-2 : tie.Need-returns-2
+returns-2 : tie.Need-returns-else-a-lt0
 returns-2 c =
     let s = c.before.before.before in
     exact w64 (var 0) (sizes c.before) tt
     ∙ ap pos (size_is c.before)
-    ∙ above s.args.a s.args.b (rw (a-is s) at c.if1.false)
+    ∙ above s.args.a s.args.b (rw (a-is s) at c.if-a-lt0.false)
 
 pub rnd_spec : {M : Type 1} → statement M
 rnd_spec =

@@ -17,20 +17,20 @@ low-fails : (l : Limits) (x : ℤ) → le_z l.least x ≡ false → le_z l.least
 unfolding within
 low-fails l x e = rw e
 
-returns : tie.Need-returns
+returns : tie.Need-returns-then-l-x
 returns c =
     let t = c.before.before.before in
     let s = t.before.before in
     let x = to_z-of_z s.ranges.x in
-    rw (x, to_z-of_z (record { sfits = c.struct_told2.given.1.0.1 })) (low-holds _ _ (rw (x, to_z-of_z (record { sfits = t.struct_told.given.0.1 })) at c.before.before.if1.true))
+    rw (x, to_z-of_z (record { sfits = c.struct_told-then-l-x-1.given.1.0.1 })) (low-holds _ _ (rw (x, to_z-of_z (record { sfits = t.struct_told-1.given.0.1 })) at c.before.before.if-l-x.true))
 
-returns-2 : tie.Need-returns-2
+returns-2 : tie.Need-returns-else-l-x
 returns-2 c =
     let t = c.before in
     let s = t.before.before in
     let x = to_z-of_z s.ranges.x in
-    let l = to_z-of_z {w = w64} {z = s.args.l.least} (record { sfits = t.struct_told.given.0.1 }) in
-    rw (x, l) (low-fails _ _ (rw (x, l) at c.if1.false))
+    let l = to_z-of_z {w = w64} {z = s.args.l.least} (record { sfits = t.struct_told-1.given.0.1 }) in
+    rw (x, l) (low-fails _ _ (rw (x, l) at c.if-l-x.false))
 
 pub within_spec : {M : Type 1} → statement M
 within_spec = tie.close (tie.spec returns returns-2)

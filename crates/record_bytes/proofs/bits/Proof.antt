@@ -20,14 +20,14 @@ same s = to_z-of_z {w = w64} s.ranges.x
 short : (s : tie.Start) → of_z (width_of s.args.size) s.args.x < 2 ^ 63
 short s = let z = s.args.size in omega (arith, signed-small z (of_z (width_of z) s.args.x) (bits_small z s.args.x s.requires))
 
-sum_is : (c : tie.Then1) → let s = c.before.before in to_z w64 (of_z w64 s.args.x) +ℤ to_z w64 (2 * c.before.half_of_lem.result) ≡ pos (of_z (width_of s.args.size) s.args.x)
+sum_is : (c : tie.Then-x-lt0) → let s = c.before.before in to_z w64 (of_z w64 s.args.x) +ℤ to_z w64 (2 * c.before.half_of_lem.result) ≡ pos (of_z (width_of s.args.size) s.args.x)
 sum_is c =
     let s = c.before.before in
     ap (λ x. x +ℤ to_z w64 (2 * c.before.half_of_lem.result)) (same s)
-    ∙ bits-negative s.args.size s.args.x c.before.half_of_lem.ensures.0 s.requires (rw (same s) at c.if1.true)
+    ∙ bits-negative s.args.size s.args.x c.before.half_of_lem.ensures.0 s.requires (rw (same s) at c.if-x-lt0.true)
 
-own : (c : tie.Else1) → let s = c.before.before in s.args.x ≡ pos (of_z (width_of s.args.size) s.args.x)
-own c = let s = c.before.before in bits_positive s.args.size s.args.x (rw (same s) at c.if1.false)
+own : (c : tie.Else-x-lt0) → let s = c.before.before in s.args.x ≡ pos (of_z (width_of s.args.size) s.args.x)
+own c = let s = c.before.before in bits_positive s.args.size s.args.x (rw (same s) at c.if-x-lt0.false)
 
 add-result : tie.Need-overflow_add-result
 add-result c = subst (SFits w64) (sym (sum_is c)) (record { sfits = short c.before.before })

@@ -10,7 +10,7 @@ returns c =
     let second = third.before.before in
     let first = second.before.before in
     let s = first.before.before.before in
-    let r = four_is s.args.s.now s.args.k s.requires first.index.ensures second.index2.ensures third.index3.ensures c.index4.ensures in
+    let r = four_is s.args.s.now s.args.k s.requires first.index-a.ensures second.index-b.ensures third.index-c.ensures c.index-d.ensures in
     (r.holds, r.small)
 
 pub four_at_spec : {M : Type 1} → statement M

@@ -13,24 +13,24 @@ use Rattle.record_bytes.proofs.number_at.Statement.{statement}
 use Rattle.record_bytes.proofs.number_at.Tie as tie
 
 unsigned_at-requires : tie.Need-unsigned_at-requires
-unsigned_at-requires c κs = let s = c.before.before.before in (lit≤ tt, subst (λ z. s.args.k + size_of z ≤ length s.args.s.now) c.enum_told.given.1 s.requires)
+unsigned_at-requires c κs = let s = c.before.before.before in (lit≤ tt, subst (λ z. s.args.k + size_of z ≤ length s.args.s.now) c.enum_told-1.given.1 s.requires)
 
 four_at-requires : tie.Need-four_at-requires
-four_at-requires c κs = let s = c.before.before.before in subst (λ z. s.args.k + size_of z ≤ length s.args.s.now) c.enum_told2.given.1 s.requires
+four_at-requires c κs = let s = c.before.before.before in subst (λ z. s.args.k + size_of z ≤ length s.args.s.now) c.enum_told-in-Four-1.given.1 s.requires
 
-returns : tie.Need-returns
+returns : tie.Need-returns-in-Two
 returns c =
     let q = c.before in
     let s = q.before.before.before.before in
     held-is w64 c.signed.type_inv
-    (c.signed.ensures ∙ ap (to_z w16) q.unsigned_at.ensures.0 ∙ sym (ap (λ z. signed_by z (take (size_of z) (drop s.args.k s.args.s.now))) q.before.enum_told.given.1))
+    (c.signed.ensures ∙ ap (to_z w16) q.unsigned_at.ensures.0 ∙ sym (ap (λ z. signed_by z (take (size_of z) (drop s.args.k s.args.s.now))) q.before.enum_told-1.given.1))
 
-returns-2 : tie.Need-returns-2
+returns-2 : tie.Need-returns-in-Four
 returns-2 c =
     let q = c.before in
     let s = q.before.before.before.before in
-    held-is w64 c.signed2.type_inv
-    (c.signed2.ensures ∙ ap (to_z w32) q.four_at.ensures.0 ∙ sym (ap (λ z. signed_by z (take (size_of z) (drop s.args.k s.args.s.now))) q.before.enum_told2.given.1))
+    held-is w64 c.signed-in-Four.type_inv
+    (c.signed-in-Four.ensures ∙ ap (to_z w32) q.four_at.ensures.0 ∙ sym (ap (λ z. signed_by z (take (size_of z) (drop s.args.k s.args.s.now))) q.before.enum_told-in-Four-1.given.1))
 
 pub number_at_spec : {M : Type 1} → statement M
 number_at_spec =

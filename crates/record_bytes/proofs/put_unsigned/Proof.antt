@@ -10,40 +10,40 @@ use Rattle.record_bytes.specs.ByteLoops.{Putting, putting-none, putting-more, pu
 use Rattle.record_bytes.proofs.put_unsigned.Statement.{statement}
 use Rattle.record_bytes.proofs.put_unsigned.Tie as tie
 
-abbrev invariant-loop : tie.invariant-loop
-invariant-loop d₀ k count x remaining₀ rest₀ d remaining rest = Putting d₀ k count x remaining rest d
+abbrev invariant-loop-remaining : tie.invariant-loop-remaining
+invariant-loop-remaining d₀ k count x remaining₀ rest₀ d remaining rest = Putting d₀ k count x remaining rest d
 
-abbrev decreases-loop : tie.decreases-loop
-decreases-loop d₀ k count x remaining₀ rest₀ d remaining rest = remaining
+abbrev decreases-loop-remaining : tie.decreases-loop-remaining
+decreases-loop-remaining d₀ k count x remaining₀ rest₀ d remaining rest = remaining
 
-cast-d : tie.Need-overflow_cast-d invariant-loop decreases-loop
-cast-d c = record { fits = mod-lt c.before.before.loop.rest (lit< tt) }
+cast-d : tie.Need-overflow_cast-d invariant-loop-remaining decreases-loop-remaining
+cast-d c = record { fits = mod-lt c.before.before.loop-remaining.rest (lit< tt) }
 
-loop-again : tie.Need-loop-preserved invariant-loop decreases-loop
+loop-again : tie.Need-loop-remaining-preserved invariant-loop-remaining decreases-loop-remaining
 loop-again c =
     let i = c.before in
     let l = i.before in
     let a = l.before.before.args in
-    subst (λ p. Putting a.d.now a.k a.count a.x (l.loop.remaining - 1) (l.loop.rest / 256) (set l.loop.d p (l.loop.rest % 256))) (sym c.place.ensures)
-    (putting-more l.loop.invariant i.loop-test.true)
+    subst (λ p. Putting a.d.now a.k a.count a.x (l.loop-remaining.remaining - 1) (l.loop-remaining.rest / 256) (set l.loop-remaining.d p (l.loop-remaining.rest % 256))) (sym c.place-at.ensures)
+    (putting-more l.loop-remaining.invariant i.loop-remaining-test.true)
 
-same_length : tie.Need-same_length invariant-loop decreases-loop
-same_length c = c.before.loop.invariant.long
+same_length : tie.Need-shape_of-d invariant-loop-remaining decreases-loop-remaining
+same_length c = c.before.loop-remaining.invariant.long
 
-returns : tie.Need-returns invariant-loop decreases-loop
-returns c = putting-done c.before.loop.invariant c.loop-test.false
+returns : tie.Need-returns invariant-loop-remaining decreases-loop-remaining
+returns c = putting-done c.before.loop-remaining.invariant c.loop-remaining-test.false
 
 pub put_unsigned_spec : {M : Type 1} → statement M
 put_unsigned_spec =
     tie.close
     (tie.spec
-    invariant-loop
-    decreases-loop
+    invariant-loop-remaining
+    decreases-loop-remaining
     (λ c. putting-none)
     (λ c. omega arith)
-    (λ c κs. (omega (arith, c.before.loop.invariant.most), omega arith))
+    (λ c κs. (omega (arith, c.before.loop-remaining.invariant.most), omega arith))
     cast-d
-    (λ c. omega (arith, c.place.ensures, c.before.before.loop.invariant.most, c.before.before.loop.invariant.long))
+    (λ c. omega (arith, c.place-at.ensures, c.before.before.loop-remaining.invariant.most, c.before.before.loop-remaining.invariant.long))
     (λ c. omega arith)
     loop-again
     (λ c. omega (arith, c.before.before.before.requires))

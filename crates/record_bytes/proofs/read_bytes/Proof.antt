@@ -17,36 +17,36 @@ all value m = tabulate m (λ k. get_or value k 0)
 long : (value : List ℕ) (m : ℕ) → length (all value m) ≡ m
 long value m = length-tabulate m (λ k. get_or value k 0)
 
-abbrev invariant-loop : tie.invariant-loop
-invariant-loop value m d₀ i₀ d i = Writing 0 (all value m) d₀ i d
+abbrev invariant-loop-i : tie.invariant-loop-i
+invariant-loop-i value m d₀ i₀ d i = Writing 0 (all value m) d₀ i d
 
-abbrev decreases-loop : tie.decreases-loop
-decreases-loop value m d₀ i₀ d i = m - i
+abbrev decreases-loop-i : tie.decreases-loop-i
+decreases-loop-i value m d₀ i₀ d i = m - i
 
-in-slice : (c : tie.In-loop invariant-loop decreases-loop) → c.before.loop.i < length c.before.loop.d
-in-slice c = let l = c.before in omega (arith, l.loop.invariant.long, l.before.before.before.requires)
+in-slice : (c : tie.In-loop-i invariant-loop-i decreases-loop-i) → c.before.loop-i.i < length c.before.loop-i.d
+in-slice c = let l = c.before in omega (arith, l.loop-i.invariant.long, l.before.before.before.requires)
 
-loop-again : tie.Need-loop-preserved invariant-loop decreases-loop
+loop-again : tie.Need-loop-i-preserved invariant-loop-i decreases-loop-i
 loop-again c =
     let t = c.before in
     let l = t.before in
     let s = l.before.before.before in
     let v = s.args.value.now in
     let m = s.args.m in
-    filling-more 0 l.loop.invariant (subst (λ n. l.loop.i < n) (sym (long v m)) t.loop-test.true) (subst (λ n. n ≤ length s.args.d.now) (sym (long v m)) s.requires)
-    (c.barrier_at.ensures ∙ sym (get_d_tabulate m (λ k. get_or v k 0) l.loop.i 0 t.loop-test.true))
+    filling-more 0 l.loop-i.invariant (subst (λ n. l.loop-i.i < n) (sym (long v m)) t.loop-i-test.true) (subst (λ n. n ≤ length s.args.d.now) (sym (long v m)) s.requires)
+    (c.barrier_at.ensures ∙ sym (get_d_tabulate m (λ k. get_or v k 0) l.loop-i.i 0 t.loop-i-test.true))
 
 pub read_bytes_spec : {M : Type 1} → statement M
 read_bytes_spec =
     tie.close
     (tie.spec
-    invariant-loop
-    decreases-loop
+    invariant-loop-i
+    decreases-loop-i
     (λ c. writing-none)
     (λ c κs. search rules)
     (λ c. in-slice c.before)
     (λ c. omega arith)
     (λ c. omega arith)
     loop-again
-    (λ c. c.before.loop.invariant.long)
-    (λ c. let a = c.before.before.before.before.args in filling-done c.before.loop.invariant (long a.value.now a.m) c.loop-test.false))
+    (λ c. c.before.loop-i.invariant.long)
+    (λ c. let a = c.before.before.before.before.args in filling-done c.before.loop-i.invariant (long a.value.now a.m) c.loop-i-test.false))

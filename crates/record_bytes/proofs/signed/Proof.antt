@@ -15,17 +15,17 @@ use Rattle.record_bytes.proofs.signed.Statement.{statement}
 use Rattle.record_bytes.proofs.signed.Tie as tie
 
 -- what the code forms is the number
-is : (c : tie.After-half_of) → let x = c.before.args.x in let half = c.half_of_lem.result in to_z w64 ((x + half) % (2 * half)) -ℤ to_z w64 half ≡ to_z (width_of c.before.args.size) x
+is : (c : tie.After-half_of-half) → let x = c.before.args.x in let half = c.half_of_lem.result in to_z w64 ((x + half) % (2 * half)) -ℤ to_z w64 half ≡ to_z (width_of c.before.args.size) x
 is c = let s = c.before in signed_shift s.args.size s.args.x c.half_of_lem.ensures.0 s.requires
 
-difference-fits : (c : tie.After-half_of) → let x = c.before.args.x in let half = c.half_of_lem.result in SFits w64 (to_z w64 ((x + half) % (2 * half)) -ℤ to_z w64 half)
+difference-fits : (c : tie.After-half_of-half) → let x = c.before.args.x in let half = c.half_of_lem.result in SFits w64 (to_z w64 ((x + half) % (2 * half)) -ℤ to_z w64 half)
 difference-fits c = let s = c.before in subst (SFits w64) (sym (is c)) (signed-fits s.args.size s.args.x s.requires)
 
-positive : (c : tie.After-half_of) → 1 ≤ c.half_of_lem.result
+positive : (c : tie.After-half_of-half) → 1 ≤ c.half_of_lem.result
 positive c = subst (λ h. 1 ≤ h) (sym c.half_of_lem.ensures.0) (half-least c.before.args.size)
 
 -- the remainder is below 2 ^ 32
-below : (c : tie.After-half_of) → let h = c.half_of_lem.result in (c.before.args.x + h) % (2 * h) < 2 * h
+below : (c : tie.After-half_of-half) → let h = c.half_of_lem.result in (c.before.args.x + h) % (2 * h) < 2 * h
 below c = mod-lt (c.before.args.x + c.half_of_lem.result) (omega (arith, positive c))
 
 pub signed_spec : {M : Type 1} → statement M

@@ -4,4 +4,4 @@ use Rattle.record_compare.proofs.is_newer.Statement.{statement}
 use Rattle.record_compare.proofs.is_newer.Tie as tie
 
 pub is_newer_spec : {M : Type 1} → statement M
-is_newer_spec = tie.close (tie.spec (λ c. newer-level _ _ c.before.before.if1.true) (λ c. newer-apart _ _ c.before.before.if1.false))
+is_newer_spec = tie.close (tie.spec (λ c. newer-level _ _ c.before.before.if-a-b.true) (λ c. newer-apart _ _ c.before.before.if-a-b.false))

@@ -14,34 +14,34 @@ use Rattle.record_compare.specs.SameLaws.{SameTo, same_none, same_more, same_rea
 use Rattle.record_compare.proofs.same_state.Statement.{statement}
 use Rattle.record_compare.proofs.same_state.Tie as tie
 
-abbrev invariant-loop : tie.invariant-loop
-invariant-loop first p second q tag₀ tag = SameTo first second tag
+abbrev invariant-loop-tag : tie.invariant-loop-tag
+invariant-loop-tag first p second q tag₀ tag = SameTo first second tag
 
-abbrev decreases-loop : tie.decreases-loop
-decreases-loop first p second q tag₀ tag = last_required + 1 - tag
+abbrev decreases-loop-tag : tie.decreases-loop-tag
+decreases-loop-tag first p second q tag₀ tag = last_required + 1 - tag
 
-same_value-requires : tie.Need-same_value-requires invariant-loop decreases-loop
+same_value-requires : tie.Need-same_value-requires invariant-loop-tag decreases-loop-tag
 same_value-requires c κs =
     let l = c.before.before in
     let r = l.before.before.before.requires in
-    (r.first_read.placed, r.second-read.placed, l.loop.invariant.some, omega arith)
+    (r.first_read.placed, r.second-read.placed, l.loop-tag.invariant.some, omega arith)
 
-returns : tie.Need-returns invariant-loop decreases-loop
+returns : tie.Need-returns-then-not-same_value invariant-loop-tag decreases-loop-tag
 returns c =
     let v = c.before in
     let l = v.before.before.before in
     let second = l.before in
     let first = second.before in
-    other-read (λ k. (first.shared_slice_known.given k).fits) (λ k. (second.shared_slice_known2.given k).fits) first.before.requires l.loop.tag l.loop.invariant.some (omega arith)
-    v.before.if1.true (sym v.same_value.ensures ∙ not-true v.same_value.result c.if2.true)
+    other-read (λ k. (first.shared_slice_known-1.given k).fits) (λ k. (second.shared_slice_known-2-1.given k).fits) first.before.requires l.loop-tag.tag l.loop-tag.invariant.some (omega arith)
+    v.before.if-tag-ne3.true-raw (sym v.same_value.ensures ∙ not-true v.same_value.result c.if-not-same_value.true-raw)
 
-loop-again : tie.Need-loop-preserved invariant-loop decreases-loop
+loop-again : tie.Need-loop-tag-preserved invariant-loop-tag decreases-loop-tag
 loop-again c =
-    same_more c.before.before.loop.invariant (λ o.
-    ⊎_elim (λ w. sym w.1.ensures ∙ not-false w.1.result w.2.left) (λ w. absurd (o w.left)) c.if1.branch)
+    same_more c.before.before.loop-tag.invariant (λ o.
+    ⊎_elim (λ w. sym w.1.ensures ∙ not-false w.1.result w.2.left) (λ w. absurd (o w.left)) c.if-tag-ne3.branch)
 
 -- the tags that are required have the same values: the barriers decide, over the cells of the first record
-returns-2 : tie.Need-returns-2 invariant-loop decreases-loop
+returns-2 : tie.Need-returns invariant-loop-tag decreases-loop-tag
 returns-2 c =
     let b = c.before in
     let a = b.before in
@@ -50,15 +50,15 @@ returns-2 c =
     let l = e.before.before in
     let s = l.before.before.before in
     let known = subst (λ p. T (grid_known p)) (sym e.parameters_in.ensures) (known-grid s.requires.first_read) in
-    let cells_are = m.cells_of.ensures.0 known ∙ ap (λ (p : Parameters). p.w * p.n) e.parameters_in.ensures in
-    c.same_barriers.ensures ∙ same_read l.loop.invariant e.before.loop-test.false cells_are a.value_of.ensures.is b.value_of2.ensures.is
+    let cells_are = m.cells_of-m.ensures.0 known ∙ ap (λ (p : Parameters). p.w * p.n) e.parameters_in.ensures in
+    c.same_barriers.ensures ∙ same_read l.loop-tag.invariant e.before.loop-tag-test.false-raw cells_are a.value_of-a.ensures.is b.value_of-b.ensures.is
 
 pub same_state_spec : {M : Type 1} → statement M
 same_state_spec =
     tie.close
     (tie.spec
-    invariant-loop
-    decreases-loop
+    invariant-loop-tag
+    decreases-loop-tag
     (λ c. same_none)
     same_value-requires
     returns

@@ -30,7 +30,7 @@ own v z d {m} e p q = q ∙ ap₂ (λ n l. filled n l d) (sym e) (value-numbers 
 
 -- its bytes are the barriers
 own-bytes : {rec value : List ℕ} → IsValue rec 9 value → (d : List ℕ) {m : ℕ} {d' : List ℕ} → cells (state_read rec) ≡ m
-    → d' ≡ filled m (tabulate m (λ k. get_or value k 0)) d → d' ≡ filled (cells (state_read rec)) (state_read rec).barriers d
+    → d' ≡ filled m (tabulate m (λ k. get_or value k 0)) d → d' ≡ filled (cells (state_read rec)) (state_read rec).barriers-1 d
 own-bytes {rec} v d e q = q ∙ ap₂ (λ n l. filled n (tabulate n (λ k. get_or l k 0)) d) (sym e) v.is ∙ ap (λ l. filled (cells (state_read rec)) l d) (sym (barriers-are rec))
 
 returns : tie.Need-returns
@@ -44,23 +44,23 @@ returns c =
     let a = s.args in
     let e = s.requires.1 in
     λ i. record {
-      h = own v1.value_of.ensures Four a.h.now e (h-is a.rec.now) v2.before.before.read_numbers.ensures i;
-      b = own v2.value_of2.ensures Four a.b.now e (b-is a.rec.now) v3.before.before.read_numbers2.ensures i;
-      u = own v3.value_of3.ensures Two a.u.now e (u-is a.rec.now) v4.before.before.read_numbers3.ensures i;
-      v = own v4.value_of4.ensures Two a.v.now e (v-is a.rec.now) v5.before.before.read_numbers4.ensures i;
-      barriers = own-bytes v5.value_of5.ensures a.barriers.now e c.before.before.read_bytes.ensures i;
+      h = own v1.value_of.ensures Four a.h-1.now e (h-is a.rec.now) v2.before.before.read_numbers.ensures i;
+      b = own v2.value_of-2.ensures Four a.b-1.now e (b-is a.rec.now) v3.before.before.read_numbers-2.ensures i;
+      u = own v3.value_of-3.ensures Two a.u-1.now e (u-is a.rec.now) v4.before.before.read_numbers-3.ensures i;
+      v = own v4.value_of-4.ensures Two a.v-1.now e (v-is a.rec.now) v5.before.before.read_numbers-4.ensures i;
+      barriers = own-bytes v5.value_of-5.ensures a.barriers-1.now e c.before.before.read_bytes.ensures i;
     }
 
-abbrev at-4 : tie.After-read_numbers-arg → tie.Start
+abbrev at-4 : tie.After-read_numbers-arg-1 → tie.Start
 at-4 c = c.before.before.before.before
 
-abbrev at_5 : tie.After-read_numbers-arg2 → tie.Start
+abbrev at_5 : tie.After-read_numbers-arg-2-1 → tie.Start
 at_5 c = c.before.before.before.before.before.before.before.before
 
-abbrev at-6 : tie.After-read_numbers-arg3 → tie.Start
+abbrev at-6 : tie.After-read_numbers-arg-3-1 → tie.Start
 at-6 c = c.before.before.before.before.before.before.before.before.before.before.before.before
 
-abbrev at_7 : tie.After-read_numbers-arg4 → tie.Start
+abbrev at_7 : tie.After-read_numbers-arg-4-1 → tie.Start
 at_7 c = c.before.before.before.before.before.before.before.before.before.before.before.before.before.before.before.before
 
 -- the destination of the barriers is lent to no call before
@@ -74,11 +74,11 @@ fill_spec =
     (λ c κs. search rules)
     (λ c κs. let s = at-4 c in (enough c.before.value_of.ensures 4 s.args.m s.pre.2.0, s.pre.3.0))
     (λ c κs. search rules)
-    (λ c κs. let s = at_5 c in (enough c.before.value_of2.ensures 4 s.args.m s.pre.2.1, s.pre.3.1.0))
+    (λ c κs. let s = at_5 c in (enough c.before.value_of-2.ensures 4 s.args.m s.pre.2.1, s.pre.3.1.0))
     (λ c κs. search rules)
-    (λ c κs. let s = at-6 c in (enough c.before.value_of3.ensures 2 s.args.m s.pre.2.2, s.pre.3.1.1.0))
+    (λ c κs. let s = at-6 c in (enough c.before.value_of-3.ensures 2 s.args.m s.pre.2.2, s.pre.3.1.1.0))
     (λ c κs. search rules)
-    (λ c κs. let s = at_7 c in (enough c.before.value_of4.ensures 2 s.args.m s.pre.2.3, s.pre.3.1.1.1.0))
+    (λ c κs. let s = at_7 c in (enough c.before.value_of-4.ensures 2 s.args.m s.pre.2.3, s.pre.3.1.1.1.0))
     (λ c κs. ((at_7 c.before.before).requires.0, lit≤ tt, lit≤ tt))
     room-9
     (λ c. search rules)

@@ -21,26 +21,26 @@ start c = c.before.before.before.before.before.before.before.before
 
 -- the five destinations
 abbrev lent : tie.Start → Fields
-lent s = let a = s.args in record { h = a.h.now; b = a.b.now; u = a.u.now; v = a.v.now; barriers = a.barriers.now }
+lent s = let a = s.args in record { h = a.h-1.now; b = a.b-1.now; u = a.u-1.now; v = a.v-1.now; barriers = a.barriers-1.now }
 
 -- the room that is tested for is that of the shortest destination
-shortest : (c : tie.After-min4) → c.min4.result ≡ least (lent c.before.before.before.before.before.before)
+shortest : (c : tie.After-min-room) → c.min-room.result ≡ least (lent c.before.before.before.before.before.before)
 shortest c =
     let m = c.before in
-    let o = length m.before.before.before.before.before.args.barriers.now in
-    c.min4.ensures ∙ ap (λ n. min n o) (m.min3.ensures ∙ ap₂ min m.before.before.min.ensures m.before.min2.ensures)
+    let o = length m.before.before.before.before.before.args.barriers-1.now in
+    c.min-room.ensures ∙ ap (λ n. min n o) (m.min-numbers.ensures ∙ ap₂ min m.before.before.min.ensures m.before.min-2.ensures)
 
 -- the record has passed every test
-passed : (c : tie.After-enum_told) → let x = c.before.before in Accepted (start x).args.rec.now x.examine.new.1.0 (x.before.before.min4.result ∷ [])
+passed : (c : tie.In-Accepted) → let x = c.before.before in Accepted (start x).args.rec.now x.examine.new.1.0 (x.before.before.min-room.result ∷ [])
 passed c =
     let x = c.before.before in
-    subst (λ r. Examined (start x).args.rec.now (x.before.before.min4.result ∷ []) r x.examine.new.1.0) c.enum_told.given.1 x.examine.ensures
+    subst (λ r. Examined (start x).args.rec.now (x.before.before.min-room.result ∷ []) r x.examine.new.1.0) c.enum_told-1.given.1 x.examine.ensures
 
 -- the parameters read are the state's
-cells_are : (c : tie.After-parameters_in) → let x = c.before.before.before.before in cells (state_read (start x).args.rec.now) ≡ c.parameters_in.result.w * c.parameters_in.result.n
-cells_are c = sym (ap (λ (p : Parameters). p.w * p.n) c.parameters_in.ensures)
+cells_are : (c : tie.After-parameters_in-p) → let x = c.before.before.before.before in cells (state_read (start x).args.rec.now) ≡ c.parameters_in-p.result.w * c.parameters_in-p.result.n
+cells_are c = sym (ap (λ (p : Parameters). p.w * p.n) c.parameters_in-p.ensures)
 
-most : (c : tie.After-parameters_in) → c.parameters_in.result.w * c.parameters_in.result.n ≤ 4096
+most : (c : tie.After-parameters_in-p) → c.parameters_in-p.result.w * c.parameters_in-p.result.n ≤ 4096
 most c = omega (arith, cells_are c, cells-most (passed c.before.before))
 
 fill-requires : tie.Need-fill-requires
@@ -52,22 +52,22 @@ fill-requires c κs =
     let e = cells_are m in
     (a.placed, e, subst (λ m. BytesOf m (parts_in s.args.rec.now)) e (bytes_of a), subst (λ m. EachRoom m (rooms_in (lent s))) e (read-room s.args.rec.now (lent s) (shortest l) a))
 
-returns : tie.Need-returns
+returns : tie.Need-returns-in-Accepted
 returns c =
     let f = c.before.before.before.before.before.before in
     let m = f.before.before.before.before.before.before.before.before.before.before in
     let l = m.before.before.before.before.before.before in
     let s = l.before.before.before.before.before.before in
     let t = f.before.before.before.before.before.before.before.before in
-    read_done s.args.rec.now (lent s) (shortest l) (passed m.before.before) m.parameters_in.ensures t.timestamp_in.ensures f.fill.ensures
+    read_done s.args.rec.now (lent s) (shortest l) (passed m.before.before) m.parameters_in-p.ensures t.timestamp_in-timestamp.ensures f.fill.ensures
 
-returns-2 : tie.Need-returns-2
+returns-2 : tie.Need-returns-in-Refused
 returns-2 c =
     let x = c.before.before.before in
     let l = x.before.before in
     let s = start x in
     read-refused s.args.rec.now (lent s) (shortest l)
-    (subst (λ r. Examined s.args.rec.now (l.min4.result ∷ []) r x.examine.new.1.0) c.before.refusal.given.1 x.examine.ensures)
+    (subst (λ r. Examined s.args.rec.now (l.min-room.result ∷ []) r x.examine.new.1.0) c.before.refusal-1.given.1 x.examine.ensures)
 
 pub read_spec : {M : Type 1} → statement M
 read_spec =

@@ -29,18 +29,18 @@ record Tagged (rec : List ℕ) (k tag : ℕ) : Type 0 where
   low : 1 ≤ tag
   high : tag ≤ last_tag
 
-abbrev record_of : tie.After-index → List ℕ
+abbrev record_of : tie.After-index-tag → List ℕ
 record_of c = c.before.before.before.before.args.rec.now
 
-abbrev offset-of : tie.After-index → ℕ
+abbrev offset-of : tie.After-index-tag → ℕ
 offset-of c = c.before.before.before.before.args.k
 
-tagged : (c : tie.Else3) → Tagged (record_of c.before.before) (offset-of c.before.before) c.before.before.index.result
+tagged : (c : tie.Else-tag-gt-LAST_TAG) → Tagged (record_of c.before.before) (offset-of c.before.before) c.before.before.index-tag.result
 tagged c =
     let i = c.before.before in
-    let l = i.before.before.if1.false in
+    let l = i.before.before.if-remaining-lt3.false-raw in
     let p = i.before.before.before.before.requires in
-    record { bytes = omega arith; is = i.index.ensures.0; low = c.before.if2.false; high = c.if3.false }
+    record { bytes = omega arith; is = i.index-tag.ensures.0; low = c.before.if-tag-lt1.false-raw; high = c.if-tag-gt-LAST_TAG.false-raw }
 
 module _ {rec at : List ℕ} {k tag : ℕ} (t : Tagged rec k tag) (parts : List Part) (s : Seen rec parts at) where
   placed : tag < places
@@ -71,49 +71,49 @@ module _ {rec at : List ℕ} {k tag : ℕ} (t : Tagged rec k tag) (parts : List 
         }
         )
 
-returns : tie.Need-returns
+returns : tie.Need-returns-then-remaining-lt3
 returns c parts s =
     let a = c.before.before in
     let p = a.requires in
-    let l = c.if1.true in
+    let l = c.if-remaining-lt3.true-raw in
     tag-refused a.args.rec.now a.args.k parts (inl (omega arith))
 
-returns-2 : tie.Need-returns-2
+returns-2 : tie.Need-returns-then-tag-lt1
 returns-2 c parts s =
     let i = c.before in
-    tag-refused (record_of i) (offset-of i) parts (inr (inl (inl (subst (λ t. t < 1) i.index.ensures.0 c.if2.true))))
+    tag-refused (record_of i) (offset-of i) parts (inr (inl (inl (subst (λ t. t < 1) i.index-tag.ensures.0 c.if-tag-lt1.true-raw))))
 
-returns-3 : tie.Need-returns-3
+returns-3 : tie.Need-returns-then-tag-gt-LAST_TAG
 returns-3 c parts s =
     let i = c.before.before in
-    tag-refused (record_of i) (offset-of i) parts (inr (inl (inr (subst (λ t. last_tag < t) i.index.ensures.0 c.if3.true))))
+    tag-refused (record_of i) (offset-of i) parts (inr (inl (inr (subst (λ t. last_tag < t) i.index-tag.ensures.0 c.if-tag-gt-LAST_TAG.true-raw))))
 
-returns-4 : tie.Need-returns-4
-returns-4 c parts s = again (tagged c.before.before) parts s c.if4.true
+returns-4 : tie.Need-returns-then-at-tag
+returns-4 c parts s = again (tagged c.before.before) parts s c.if-at-tag.true-raw
 
-returns-5 : tie.Need-returns-5
+returns-5 : tie.Need-returns-then-remaining-size
 returns-5 c parts s =
     let z = c.before in
     let t = tagged z.before.before.before in
     let b = t.bytes in
-    past t parts s z.size_at.result z.size_at.ensures.0 (omega arith)
+    past t parts s z.size_at-size.result z.size_at-size.ensures.0 (omega arith)
 
-returns-6 : tie.Need-returns-6
+returns-6 : tie.Need-returns-then-not-right_size
 returns-6 c parts s =
     let r = c.before in
     let z = r.before.before in
-    wrong (tagged z.before.before.before) parts s z.size_at.result z.size_at.ensures.0
-    (sym r.right_size.ensures ∙ not-true r.right_size.result c.if6.true)
+    wrong (tagged z.before.before.before) parts s z.size_at-size.result z.size_at-size.ensures.0
+    (sym r.right_size.ensures ∙ not-true r.right_size.result c.if-not-right_size.true-raw)
 
-returns-7 : tie.Need-returns-7
+returns-7 : tie.Need-returns
 returns-7 c parts s =
     let r = c.before in
     let f = r.before in
     let z = f.before in
     let t = tagged z.before.before.before in
     let b = t.bytes in
-    sound t parts s z.size_at.result z.size_at.ensures.0 z.before.if4.false (omega arith)
-    (sym r.right_size.ensures ∙ not-false r.right_size.result c.if6.false)
+    sound t parts s z.size_at-size.result z.size_at-size.ensures.0 z.before.if-at-tag.false-raw (omega arith)
+    (sym r.right_size.ensures ∙ not-false r.right_size.result c.if-not-right_size.false-raw)
 
 pub test_tag_spec : {M : Type 1} → statement M
 test_tag_spec =

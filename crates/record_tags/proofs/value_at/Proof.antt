@@ -11,7 +11,7 @@ returns : tie.Need-returns
 returns c =
     let s = c.before.before.before in
     let a = s.args in
-    ap (λ n. take n (drop (a.k + 3) a.rec.now)) (same (a.k + 3) c.before.size_at.result ∙ c.before.size_at.ensures.0)
+    ap (λ n. take n (drop (a.k + 3) a.rec.now)) (same (a.k + 3) c.before.size_at.result-1 ∙ c.before.size_at.ensures.0)
   where
     same : (k n : ℕ) → k + n - k ≡ n
     same k n = omega arith

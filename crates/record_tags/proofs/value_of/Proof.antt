@@ -16,8 +16,8 @@ placed s = let h = s.requires.2 in omega arith
 stands : (s : tie.Start) → let a = s.args in get_or a.at.now a.tag 0 < length a.rec.now → Stands a.rec.now (parts_in a.rec.now) a.tag (get_or a.at.now a.tag 0)
 stands s l = s.requires.0.seen.stands s.args.tag (placed s) l
 
-returns : tie.Need-returns
-returns c = let s = c.before.before.before.before in no_value s.requires.0 s.requires.1 (placed s) c.before.if1.true
+returns : tie.Need-returns-then-rec-k
+returns c = let s = c.before.before.before.before in no_value s.requires.0 s.requires.1 (placed s) c.before.if-rec-k.true
 
 pub value_of_spec : {M : Type 1} → statement M
 value_of_spec =
@@ -29,5 +29,5 @@ value_of_spec =
     (λ c. search rules)
     (λ c. search rules)
     returns
-    (λ c κs. (stands c.before.before.before c.if1.false).inside)
-    (λ c. is-value (stands c.before.before.before.before c.before.if1.false) c.value_at.ensures))
+    (λ c κs. (stands c.before.before.before c.if-rec-k.false).inside)
+    (λ c. is-value (stands c.before.before.before.before c.before.if-rec-k.false) c.value_at.ensures))

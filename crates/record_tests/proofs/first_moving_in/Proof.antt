@@ -26,12 +26,12 @@ use Rattle.record_bytes.specs.ByteLoops.{number-within, number_is, place-least}
 use Rattle.record_tests.proofs.first_moving_in.Statement.{statement}
 use Rattle.record_tests.proofs.first_moving_in.Tie as tie
 
-abbrev invariant-loop : tie.invariant-loop
-invariant-loop p value barriers size edge each found₀ j i₀ j-end i-end found i =
+abbrev invariant-loop-i : tie.invariant-loop-i
+invariant-loop-i p value barriers size edge each found₀ j i₀ j-end i-end found i =
     (i ≤ p.w) × (found ≡ Nowhere) × Scanned (bad_in (moving_at (edges_of p barriers) edge) p.w (numbers_by size (p.w * p.n) value)) (p.w * p.n) (j * p.w + i)
 
-abbrev decreases-loop : tie.decreases-loop
-decreases-loop p value barriers size edge each found₀ j i₀ j-end i-end found i = p.w - i
+abbrev decreases-loop-i : tie.decreases-loop-i
+decreases-loop-i p value barriers size edge each found₀ j i₀ j-end i-end found i = p.w - i
 
 abbrev invariant-scan : tie.invariant-scan
 invariant-scan p value barriers size edge each found₀ j₀ j-end found j =
@@ -41,120 +41,120 @@ abbrev decreases-scan : tie.decreases-scan
 decreases-scan p value barriers size edge each found₀ j₀ j-end found j = p.n - j
 
 -- the function's entry, from within the loops
-abbrev start : tie.In-loop invariant-loop decreases-loop invariant-scan decreases-scan → tie.Start invariant-loop decreases-loop invariant-scan decreases-scan
+abbrev start : tie.In-loop-i invariant-loop-i decreases-loop-i invariant-scan decreases-scan → tie.Start invariant-loop-i decreases-loop-i invariant-scan decreases-scan
 start c = c.before.before.before.before.before.before.before
 
 -- the cell is one of the grid
-below : (c : tie.In-loop invariant-loop decreases-loop invariant-scan decreases-scan) → let a = (start c).args in c.before.before.before.scan.j * a.p.w + c.before.loop.i < a.p.w * a.p.n
-below c = cell-lt c.loop-test.true c.before.before.scan-test.true
+below : (c : tie.In-loop-i invariant-loop-i decreases-loop-i invariant-scan decreases-scan) → let a = (start c).args in c.before.before.before.scan.j * a.p.w + c.before.loop-i.i < a.p.w * a.p.n
+below c = cell-lt c.loop-i-test.true c.before.before.scan-test.true
 
 -- the number stands within the value, so all that leads to it fits
-within : (c : tie.In-loop invariant-loop decreases-loop invariant-scan decreases-scan)
-    → let s = c.before.before.before in let a = (start c).args in (s.scan.j * a.p.w + c.before.loop.i) * s.before.bytes_of.result + size_of a.size ≤ length a.value.now
+within : (c : tie.In-loop-i invariant-loop-i decreases-loop-i invariant-scan decreases-scan)
+    → let s = c.before.before.before in let a = (start c).args in (s.scan.j * a.p.w + c.before.loop-i.i) * s.before.bytes_of-each.result + size_of a.size ≤ length a.value.now
 within c =
     let s = c.before.before.before in
     let a = (start c).args in
-    let k = s.scan.j * a.p.w + c.before.loop.i in
-    subst (λ z. k * z + size_of a.size ≤ length a.value.now) (sym s.before.bytes_of.ensures)
+    let k = s.scan.j * a.p.w + c.before.loop-i.i in
+    subst (λ z. k * z + size_of a.size ≤ length a.value.now) (sym s.before.bytes_of-each.ensures)
     (subst (λ m. k * size_of a.size + size_of a.size ≤ m) (sym (start c).requires) (number-within (size_of a.size) (below c)))
 
-in-slice : (c : tie.In-loop invariant-loop decreases-loop invariant-scan decreases-scan) → let a = (start c).args in c.before.before.before.scan.j * a.p.w + c.before.loop.i ≤ length a.value.now
+in-slice : (c : tie.In-loop-i invariant-loop-i decreases-loop-i invariant-scan decreases-scan) → let a = (start c).args in c.before.before.before.scan.j * a.p.w + c.before.loop-i.i ≤ length a.value.now
 in-slice c =
     let s = c.before.before.before in
     let a = (start c).args in
-    let k = s.scan.j * a.p.w + c.before.loop.i in
-    omega (arith, subst (λ z. k * z + size_of a.size ≤ length a.value.now) s.before.bytes_of.ensures (within c), place-least a.size k)
+    let k = s.scan.j * a.p.w + c.before.loop-i.i in
+    omega (arith, subst (λ z. k * z + size_of a.size ≤ length a.value.now) s.before.bytes_of-each.ensures (within c), place-least a.size k)
 
 -- what the scan seeks at the cell
-abbrev edges : tie.In-loop invariant-loop decreases-loop invariant-scan decreases-scan → State
+abbrev edges : tie.In-loop-i invariant-loop-i decreases-loop-i invariant-scan decreases-scan → State
 edges c = let a = (start c).args in edges_of a.p a.barriers.now
 
-abbrev index : tie.In-loop invariant-loop decreases-loop invariant-scan decreases-scan → ℕ
-index c = c.before.before.before.scan.j * (start c).args.p.w + c.before.loop.i
+abbrev index : tie.In-loop-i invariant-loop-i decreases-loop-i invariant-scan decreases-scan → ℕ
+index c = c.before.before.before.scan.j * (start c).args.p.w + c.before.loop-i.i
 
-abbrev numbers : tie.In-loop invariant-loop decreases-loop invariant-scan decreases-scan → List ℤ
+abbrev numbers : tie.In-loop-i invariant-loop-i decreases-loop-i invariant-scan decreases-scan → List ℤ
 numbers c = let a = (start c).args in numbers_by a.size (a.p.w * a.p.n) a.value.now
 
-abbrev bad : tie.In-loop invariant-loop decreases-loop invariant-scan decreases-scan → Bool
+abbrev bad : tie.In-loop-i invariant-loop-i decreases-loop-i invariant-scan decreases-scan → Bool
 bad c = let a = (start c).args in bad_in (moving_at (edges c) a.edge) a.p.w (numbers c) (index c)
 
-bad-is : (c : tie.In-loop invariant-loop decreases-loop invariant-scan decreases-scan)
-    → bad c ≡ closed_at (edges c) (start c).args.edge c.before.loop.i c.before.before.before.scan.j && not (eqℤ (get_or (numbers c) (index c) (pos 0)) (pos 0))
-bad-is c = by_index (moving_at (edges c) (start c).args.edge (get_or (numbers c) (index c) (pos 0))) c.before.before.before.scan.j c.loop-test.true
+bad-is : (c : tie.In-loop-i invariant-loop-i decreases-loop-i invariant-scan decreases-scan)
+    → bad c ≡ closed_at (edges c) (start c).args.edge c.before.loop-i.i c.before.before.before.scan.j && not (eqℤ (get_or (numbers c) (index c) (pos 0)) (pos 0))
+bad-is c = by_index (moving_at (edges c) (start c).args.edge (get_or (numbers c) (index c) (pos 0))) c.before.before.before.scan.j c.loop-i-test.true
 
 -- what the calls tell of it: whether the edge is closed, and whether the number there is 0
-abbrev turn : tie.After-is_closed invariant-loop decreases-loop invariant-scan decreases-scan → tie.In-loop invariant-loop decreases-loop invariant-scan decreases-scan
+abbrev turn : tie.After-is_closed invariant-loop-i decreases-loop-i invariant-scan decreases-scan → tie.In-loop-i invariant-loop-i decreases-loop-i invariant-scan decreases-scan
 turn c = c.before.before.before
 
-told : (c : tie.After-is_closed invariant-loop decreases-loop invariant-scan decreases-scan)
-    → let i = turn c in c.is_closed.result ≡ closed_at (edges i) (start i).args.edge i.before.loop.i i.before.before.before.scan.j
-told c = c.is_closed.ensures (edges (turn c)) refl (sym c.before.barrier_at.ensures)
+told : (c : tie.After-is_closed invariant-loop-i decreases-loop-i invariant-scan decreases-scan)
+    → let i = turn c in c.is_closed.result ≡ closed_at (edges i) (start i).args.edge i.before.loop-i.i i.before.before.before.scan.j
+told c = c.is_closed.ensures (edges (turn c)) refl (sym c.before.barrier_at-barrier.ensures)
 
-number : (c : tie.After-number_at invariant-loop decreases-loop invariant-scan decreases-scan) → let i = turn c.before.before in c.number_at.result ≡ get_or (numbers i) (index i) (pos 0)
+number : (c : tie.After-number_at invariant-loop-i decreases-loop-i invariant-scan decreases-scan) → let i = turn c.before.before in c.number_at.result ≡ get_or (numbers i) (index i) (pos 0)
 number c =
     let i = turn c.before.before in
     let a = (start i).args in
     c.number_at.ensures
-    ∙ ap (λ n. signed_by a.size (take (size_of a.size) (drop (index i * n) a.value.now))) i.before.before.before.before.bytes_of.ensures
+    ∙ ap (λ n. signed_by a.size (take (size_of a.size) (drop (index i * n) a.value.now))) i.before.before.before.before.bytes_of-each.ensures
     ∙ sym (number_is a.size (a.p.w * a.p.n) a.value.now (index i) (below i))
 
-zero : (c : tie.After-number_at invariant-loop decreases-loop invariant-scan decreases-scan)
+zero : (c : tie.After-number_at invariant-loop-i decreases-loop-i invariant-scan decreases-scan)
     → let i = turn c.before.before in eqb (of_z w64 c.number_at.result) 0 ≡ eqℤ (get_or (numbers i) (index i) (pos 0)) (pos 0)
 zero c = zero_bits c.number_at.result (record { sfits = c.number_at.type_inv }) ∙ ap (λ x. eqℤ x (pos 0)) (number c)
 
 -- an open edge, or a velocity of 0
-still : (c : tie.Joined1 invariant-loop decreases-loop invariant-scan decreases-scan) → bad (turn c.before) ≡ false
+still : (c : tie.Joined-is_closed invariant-loop-i decreases-loop-i invariant-scan decreases-scan) → bad (turn c.before) ≡ false
 still c =
     let k = c.before in
     let i = turn k in
-    let closed = closed_at (edges i) (start i).args.edge i.before.loop.i i.before.before.before.scan.j in
+    let closed = closed_at (edges i) (start i).args.edge i.before.loop-i.i i.before.before.before.scan.j in
     bad-is i
     ∙ ⊎_elim
     (λ w.
-    let n : tie.After-number_at invariant-loop decreases-loop invariant-scan decreases-scan = record { before = record { before = k; if1 = w.0 }; number_at = w.1 } in
+    let n : tie.After-number_at invariant-loop-i decreases-loop-i invariant-scan decreases-scan = record { before = record { before = k; if1 = w.0 }; number_at = w.1 } in
     ap (λ z. closed && not z) (sym (zero n) ∙ ap (λ x. eqb x 0) w.2.left) ∙ and-false closed)
     (λ w. ap (λ t. t && not (eqℤ (get_or (numbers i) (index i) (pos 0)) (pos 0))) (sym (told k) ∙ w.left))
-    c.if1.branch
+    c.if-is_closed.branch
 
 -- a velocity on a closed edge
-moving : (c : tie.Then2 invariant-loop decreases-loop invariant-scan decreases-scan) → bad (turn c.before.before.before) ≡ true
+moving : (c : tie.Then-number_at-ne0 invariant-loop-i decreases-loop-i invariant-scan decreases-scan) → bad (turn c.before.before.before) ≡ true
 moving c =
     let n = c.before in
     let k = n.before.before in
     bad-is (turn k)
-    ∙ ap₂ (λ t z. t && not z) (sym (told k) ∙ n.before.if1.true) (sym (zero n) ∙ ne_eqb (of_z w64 n.number_at.result) 0 c.if2.true)
+    ∙ ap₂ (λ t z. t && not z) (sym (told k) ∙ n.before.if-is_closed.true) (sym (zero n) ∙ ne_eqb (of_z w64 n.number_at.result) 0 c.if-number_at-ne0.true)
 
-loop-again : tie.Need-loop-preserved invariant-loop decreases-loop invariant-scan decreases-scan
+loop-again : tie.Need-loop-i-preserved invariant-loop-i decreases-loop-i invariant-scan decreases-scan
 loop-again c =
     let i = turn c.before in
     let l = i.before in
-    (omega arith, l.loop.inv.1, scanned-at (scanned-more l.loop.inv.2 (below i) (still c)) (omega arith))
+    (omega arith, l.loop-i.inv.1, scanned-at (scanned-more l.loop-i.inv.2 (below i) (still c)) (omega arith))
 
-scan-again : tie.Need-scan-preserved invariant-loop decreases-loop invariant-scan decreases-scan
+scan-again : tie.Need-scan-preserved invariant-loop-i decreases-loop-i invariant-scan decreases-scan
 scan-again c =
     let l = c.before in
     let s = l.before.before in
     let w = s.before.before.before.before.args.p.w in
-    let e : l.loop.i ≡ w = omega arith in
-    (omega arith, l.loop.invariant.1, scanned-at l.loop.invariant.2 (row-end s.scan.j e))
+    let e : l.loop-i.i ≡ w = omega arith in
+    (omega arith, l.loop-i.invariant.1, scanned-at l.loop-i.invariant.2 (row-end s.scan.j e))
 
-returns : tie.Need-returns invariant-loop decreases-loop invariant-scan decreases-scan
+returns : tie.Need-returns-after-scan invariant-loop-i decreases-loop-i invariant-scan decreases-scan
 returns c =
     let s = c.before in
     let p = s.before.before.before.before.args.p in
     s.scan.invariant.1 ∙ sym (ap found_by (rows-scanned p.w p.n s.scan.invariant.0 c.scan-test.false s.scan.invariant.2))
 
-returns-2 : tie.Need-returns-2 invariant-loop decreases-loop invariant-scan decreases-scan
+returns-2 : tie.Need-returns-then-number_at-ne0 invariant-loop-i decreases-loop-i invariant-scan decreases-scan
 returns-2 c =
     let i = turn c.before.before.before in
-    sym (ap found_by (scanned-bad i.before.loop.inv.2 (below i) (moving c)))
+    sym (ap found_by (scanned-bad i.before.loop-i.inv.2 (below i) (moving c)))
 
 pub first_moving_in_spec : {M : Type 1} → statement M
 first_moving_in_spec =
     tie.close
     (tie.spec
-    invariant-loop
-    decreases-loop
+    invariant-loop-i
+    decreases-loop-i
     invariant-scan
     decreases-scan
     (λ c κs. tt)

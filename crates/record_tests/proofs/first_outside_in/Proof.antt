@@ -16,65 +16,65 @@ use Rattle.record_bytes.specs.ByteLoops.{number-within, number_is}
 use Rattle.record_tests.proofs.first_outside_in.Statement.{statement}
 use Rattle.record_tests.proofs.first_outside_in.Tie as tie
 
-abbrev invariant-loop : tie.invariant-loop
-invariant-loop m value size l each k₀ k = Scanned (outside_in l (numbers_by size m value)) m k
+abbrev invariant-loop-k : tie.invariant-loop-k
+invariant-loop-k m value size l each k₀ k = Scanned (outside_in l (numbers_by size m value)) m k
 
-abbrev decreases-loop : tie.decreases-loop
-decreases-loop m value size l each k₀ k = m - k
+abbrev decreases-loop-k : tie.decreases-loop-k
+decreases-loop-k m value size l each k₀ k = m - k
 
 -- the function's entry, from within the loop
-abbrev start : tie.In-loop invariant-loop decreases-loop → tie.Start invariant-loop decreases-loop
+abbrev start : tie.In-loop-k invariant-loop-k decreases-loop-k → tie.Start invariant-loop-k decreases-loop-k
 start c = c.before.before.before.before
 
-below : (c : tie.In-loop invariant-loop decreases-loop) → c.before.loop.k < (start c).args.m
-below c = c.loop-test.true
+below : (c : tie.In-loop-k invariant-loop-k decreases-loop-k) → c.before.loop-k.k < (start c).args.m
+below c = c.loop-k-test.true-raw
 
 -- the number stands within the value, so all that leads to it fits
-inside : (c : tie.In-loop invariant-loop decreases-loop) → let a = (start c).args in c.before.loop.k * c.before.before.bytes_of.result + size_of a.size ≤ length a.value.now
+inside : (c : tie.In-loop-k invariant-loop-k decreases-loop-k) → let a = (start c).args in c.before.loop-k.k * c.before.before.bytes_of-each.result + size_of a.size ≤ length a.value.now
 inside c =
     let a = (start c).args in
-    let k = c.before.loop.k in
-    subst (λ z. k * z + size_of a.size ≤ length a.value.now) (sym c.before.before.bytes_of.ensures)
+    let k = c.before.loop-k.k in
+    subst (λ z. k * z + size_of a.size ≤ length a.value.now) (sym c.before.before.bytes_of-each.ensures)
     (subst (λ m. k * size_of a.size + size_of a.size ≤ m) (sym (start c).requires) (number-within (size_of a.size) (below c)))
 
 -- what the call of `within` tells
-told : (c : tie.After-within invariant-loop decreases-loop)
+told : (c : tie.After-within invariant-loop-k decreases-loop-k)
     → let i = c.before.before in
     let a = (start i).args in
-    c.within.result ≡ within (between a.l) (get_or (numbers_by a.size a.m a.value.now) i.before.loop.k (pos 0))
+    c.within.result ≡ within (between a.l) (get_or (numbers_by a.size a.m a.value.now) i.before.loop-k.k (pos 0))
 told c =
     let x = c.before in
     let i = x.before in
     let a = (start i).args in
-    let k = i.before.loop.k in
+    let k = i.before.loop-k.k in
     c.within.ensures
     ∙ ap (λ (z : ℤ). within (between a.l) z)
-    (held-is w64 x.number_at.type_inv
-    (x.number_at.ensures
-    ∙ ap (λ n. signed_by a.size (take (size_of a.size) (drop (k * n) a.value.now))) i.before.before.bytes_of.ensures
+    (held-is w64 x.number_at-x.type_inv
+    (x.number_at-x.ensures
+    ∙ ap (λ n. signed_by a.size (take (size_of a.size) (drop (k * n) a.value.now))) i.before.before.bytes_of-each.ensures
     ∙ sym (number_is a.size a.m a.value.now k (below i))))
 
-returns : tie.Need-returns invariant-loop decreases-loop
+returns : tie.Need-returns-then-not-within invariant-loop-k decreases-loop-k
 returns c =
     let w = c.before in
     let i = w.before.before in
-    sym (ap found_by (scanned-bad i.before.loop.invariant (below i) (ap not (sym (told w)) ∙ c.if1.true)))
+    sym (ap found_by (scanned-bad i.before.loop-k.invariant (below i) (ap not (sym (told w)) ∙ c.if-not-within.true-raw)))
 
-loop-again : tie.Need-loop-preserved invariant-loop decreases-loop
+loop-again : tie.Need-loop-k-preserved invariant-loop-k decreases-loop-k
 loop-again c =
     let w = c.before in
     let i = w.before.before in
-    scanned-more i.before.loop.invariant (below i) (ap not (sym (told w)) ∙ c.if1.false)
+    scanned-more i.before.loop-k.invariant (below i) (ap not (sym (told w)) ∙ c.if-not-within.false-raw)
 
-returns-2 : tie.Need-returns-2 invariant-loop decreases-loop
-returns-2 c = sym (ap found_by (scanned-all c.before.loop.invariant c.loop-test.false))
+returns-2 : tie.Need-returns invariant-loop-k decreases-loop-k
+returns-2 c = sym (ap found_by (scanned-all c.before.loop-k.invariant c.loop-k-test.false-raw))
 
 pub first_outside_in_spec : {M : Type 1} → statement M
 first_outside_in_spec =
     tie.close
     (tie.spec
-    invariant-loop
-    decreases-loop
+    invariant-loop-k
+    decreases-loop-k
     (λ c κs. tt)
     (λ c. scanned-none)
     (λ c. omega (arith, inside c))

@@ -12,11 +12,11 @@ use Rattle.record_tests.proofs.parameters_in.Statement.{statement}
 use Rattle.record_tests.proofs.parameters_in.Tie as tie
 
 -- the lengths of tags 1 and 2
-grid-is : (c : tie.After-value_of) → length c.value_of.result.now ≡ 3
-grid-is c = grid-long c.value_of.ensures
+grid-is : (c : tie.After-value_of-grid) → length c.value_of-grid.result.now ≡ 3
+grid-is c = grid-long c.value_of-grid.ensures
 
-constants-are : (c : tie.After-value_of2) → length c.value_of2.result.now ≡ 12
-constants-are c = constants-long c.value_of2.ensures
+constants-are : (c : tie.After-value_of-constants) → length c.value_of-constants.result.now ≡ 12
+constants-are c = constants-long c.value_of-constants.ensures
 
 returns : tie.Need-returns
 unfolding state_read state_in
@@ -26,15 +26,15 @@ returns c =
     let i2 = g1.before.before in
     let i1 = i2.before.before in
     let q = i1.before.before in
-    let grid = q.before.value_of.ensures.is in
-    let constants = q.value_of2.ensures.is in
+    let grid = q.before.value_of-grid.ensures.is in
+    let constants = q.value_of-constants.ensures.is in
     λ i. record {
       w = (i1.index.ensures.0 ∙ ap (λ l. get_or l 0 0) grid) i;
-      n = (i2.index2.ensures.0 ∙ ap (λ l. get_or l 1 0) grid) i;
+      n = (i2.index-2.ensures.0 ∙ ap (λ l. get_or l 1 0) grid) i;
       kind = get_or (grid i) 2 0;
       g = held-is w64 g1.number_at.type_inv (g1.number_at.ensures ∙ ap (λ l. signed4 (take 4 l)) constants) i;
-      c = held-is w64 g2.number_at2.type_inv (g2.number_at2.ensures ∙ ap (λ l. signed4 (take 4 (drop 4 l))) constants) i;
-      r = held-is w64 c.number_at3.type_inv (c.number_at3.ensures ∙ ap (λ l. signed4 (take 4 (drop 8 l))) constants) i;
+      c = held-is w64 g2.number_at-2.type_inv (g2.number_at-2.ensures ∙ ap (λ l. signed4 (take 4 (drop 4 l))) constants) i;
+      r = held-is w64 c.number_at-3.type_inv (c.number_at-3.ensures ∙ ap (λ l. signed4 (take 4 (drop 8 l))) constants) i;
     }
 
 pub parameters_in_spec : {M : Type 1} → statement M

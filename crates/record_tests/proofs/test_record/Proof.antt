@@ -22,9 +22,9 @@ use Rattle.record_tests.proofs.test_record.Statement.{statement}
 use Rattle.record_tests.proofs.test_record.Tie as tie
 
 -- what was read: the parameters, the fields and the state that they mean
-module _ (c : tie.After-cells_of) where
+module _ (c : tie.After-cells_of-m) where
   abbrev read : Parameters
-  read = c.before.parameters_in.result
+  read = c.before.parameters_in-p.result
 
   abbrev parts : List Part
   parts = parts_in c.before.before.before.args.rec.now
@@ -33,7 +33,7 @@ module _ (c : tie.After-cells_of) where
   state = state_read c.before.before.before.args.rec.now
 
   meant : Meant c.before.before.before.args.rec.now c.before.before.before.args.at.now read
-  meant = record { placed = c.before.before.before.requires; parameters = c.before.parameters_in.ensures }
+  meant = record { placed = c.before.before.before.requires; parameters = c.before.parameters_in-p.ensures }
 
   -- no tag is missing
   full : Missing parts → ⊥
@@ -46,38 +46,38 @@ module _ (c : tie.After-cells_of) where
       ∷ (bytes_tests (p.w * p.n) parts tag_table ++ (room_tests (p.w * p.n) (c.before.before.before.args.room ∷ []) ++ (constants_test p ∷ time_test t ∷ [])))
 
 -- the chain so far
-grid : (c : tie.After-then_grid) → Chain Accepted c.then_grid.result (grid_test (read c.before) ∷ [])
-grid c = start Accepted _ c.then_grid.ensures
+grid : (c : tie.After-then_grid-grid) → Chain Accepted c.then_grid-grid.result (grid_test (read c.before) ∷ [])
+grid c = start Accepted _ c.then_grid-grid.ensures
 
-bytes : (c : tie.After-then_values) → let p = read c.before.before in Chain Accepted c.then_values.result (grid_test p ∷ bytes_tests (p.w * p.n) (parts c.before.before) tag_table)
+bytes : (c : tie.After-then_values-bytes) → let p = read c.before.before in Chain Accepted c.then_values-bytes.result (grid_test p ∷ bytes_tests (p.w * p.n) (parts c.before.before) tag_table)
 bytes c =
     let g = c.before in
     let m = g.before in
-    counted (λ k. bytes_tests k (parts m) tag_table) (grid g) (λ h. m.cells_of.ensures.0 (passed (grid g) h).0) c.then_values.ensures
+    counted (λ k. bytes_tests k (parts m) tag_table) (grid g) (λ h. m.cells_of-m.ensures.0 (passed (grid g) h).0) c.then_values-bytes.ensures
 
-rooms : (c : tie.After-then_room)
+rooms : (c : tie.After-then_room-rooms)
     → let m = c.before.before.before in
     let p = read m in
-    Chain Accepted c.then_room.result (grid_test p ∷ (bytes_tests (p.w * p.n) (parts m) tag_table ++ room_tests (p.w * p.n) (m.before.before.before.args.room ∷ [])))
+    Chain Accepted c.then_room-rooms.result (grid_test p ∷ (bytes_tests (p.w * p.n) (parts m) tag_table ++ room_tests (p.w * p.n) (m.before.before.before.args.room ∷ [])))
 rooms c =
     let b = c.before in
     let m = b.before.before in
-    counted (λ k. room_tests k (m.before.before.before.args.room ∷ [])) (bytes b) (λ h. m.cells_of.ensures.0 (passed (bytes b) h).0) c.then_room.ensures
+    counted (λ k. room_tests k (m.before.before.before.args.room ∷ [])) (bytes b) (λ h. m.cells_of-m.ensures.0 (passed (bytes b) h).0) c.then_room-rooms.ensures
 
-constants : (c : tie.After-then_constants)
+constants : (c : tie.After-then_constants-constants)
     → let m = c.before.before.before.before in
     let p = read m in
-    Chain Accepted c.then_constants.result (grid_test p ∷ (bytes_tests (p.w * p.n) (parts m) tag_table ++ (room_tests (p.w * p.n) (m.before.before.before.args.room ∷ []) ++ (constants_test p ∷ []))))
-constants c = more (constants_test (read c.before.before.before.before) ∷ []) (rooms c.before) c.then_constants.ensures
+    Chain Accepted c.then_constants-constants.result (grid_test p ∷ (bytes_tests (p.w * p.n) (parts m) tag_table ++ (room_tests (p.w * p.n) (m.before.before.before.args.room ∷ []) ++ (constants_test p ∷ []))))
+constants c = more (constants_test (read c.before.before.before.before) ∷ []) (rooms c.before) c.then_constants-constants.ensures
 
-time : (c : tie.After-then_time)
-    → let x = c.before in let m = x.before.before.before.before.before in Chain Accepted c.then_time.result (so_far m (read m) x.timestamp_in.result)
-time c = let x = c.before in more (time_test x.timestamp_in.result ∷ []) (constants x.before) c.then_time.ensures
+time : (c : tie.After-then_time-time)
+    → let x = c.before in let m = x.before.before.before.before.before in Chain Accepted c.then_time-time.result (so_far m (read m) x.timestamp_in.result)
+time c = let x = c.before in more (time_test x.timestamp_in.result ∷ []) (constants x.before) c.then_time-time.ensures
 
-values : (c : tie.After-then_fields_in)
+values : (c : tie.After-then_fields_in-values)
     → let x = c.before.before in
-    let m = x.before.before.before.before.before in Chain Accepted c.then_fields_in.result (so_far m (read m) x.timestamp_in.result ++ value_tests Value (fields_of (state m)))
-values c = more (value_tests Value (fields_of (state c.before.before.before.before.before.before.before))) (time c.before) c.then_fields_in.ensures
+    let m = x.before.before.before.before.before in Chain Accepted c.then_fields_in-values.result (so_far m (read m) x.timestamp_in.result ++ value_tests Value (fields_of (state m)))
+values c = more (value_tests Value (fields_of (state c.before.before.before.before.before.before.before))) (time c.before) c.then_fields_in-values.ensures
 
 -- the parameters read are the state's, and the timestamp is the record's
 returns : tie.Need-returns

@@ -9,20 +9,20 @@ use Rattle.record_tests.proofs.timestamp_in.Statement.{statement}
 use Rattle.record_tests.proofs.timestamp_in.Tie as tie
 
 unsigned_at-requires : tie.Need-unsigned_at-requires
-unsigned_at-requires c κs = let e = seconds-long c.before.value_of.ensures in (omega arith, omega arith)
+unsigned_at-requires c κs = let e = seconds-long c.before.value_of-seconds.ensures in (omega arith, omega arith)
 
 unsigned_at-requires-2 : tie.Need-unsigned_at-requires-2
-unsigned_at-requires-2 c κs = let e = milliseconds-short c.before.value_of2.ensures in (omega arith, omega arith)
+unsigned_at-requires-2 c κs = let e = milliseconds-short c.before.value_of-milliseconds.ensures in (omega arith, omega arith)
 
 returns : tie.Need-returns
 unfolding timestamp_in
 returns c =
     let b = c.before.before in
-    let v = b.before.value_of in
-    let u = b.value_of2 in
+    let v = b.before.value_of-seconds in
+    let u = b.value_of-milliseconds in
     let e = seconds-long v.ensures in
     let s = c.before.unsigned_at.ensures.0 ∙ ap unsigned (take_all 8 v.result.now (omega arith) ∙ v.ensures.is) in
-    let ms = c.unsigned_at2.ensures.0 ∙ ap unsigned (take-length u.result.now ∙ u.ensures.is) in
+    let ms = c.unsigned_at-2.ensures.0 ∙ ap unsigned (take-length u.result.now ∙ u.ensures.is) in
     λ i. record { seconds = s i; milliseconds = ms i }
 
 pub timestamp_in_spec : {M : Type 1} → statement M

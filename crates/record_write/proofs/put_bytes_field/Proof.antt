@@ -9,7 +9,7 @@ returns : tie.Need-returns
 returns c =
     let p = c.before.before in
     let h = p.before.before.before.before in
-    field_put h.before.before.before.before.args.tag refl h.put_head.ensures p.put_bytes.ensures
+    field_put h.before.before.before.before.args.tag refl h.put_head-from.ensures p.put_bytes.ensures
 
 pub put_bytes_field_spec : {M : Type 1} → statement M
 put_bytes_field_spec = tie.close (tie.spec (λ c κs. search rules) (λ c κs. search rules) (λ c. search rules) returns)

@@ -21,32 +21,32 @@ abbrev from5 : tie.Start → List ℕ
 from5 s = field_of 5 (value_by Four s.args.b.now) ++ from6 s
 
 -- the room that is left for them
-room5 : (c : tie.After-put_field) → c.put_field.result + length (from5 c.before.before.before) ≤ length c.put_field.new.0
-room5 c = let s = c.before.before.before in room-rest (from5 s) c.put_field.ensures s.requires.1
+room5 : (c : tie.After-put_field-after_h) → c.put_field-after_h.result + length (from5 c.before.before.before) ≤ length c.put_field-after_h.new.0
+room5 c = let s = c.before.before.before in room-rest (from5 s) c.put_field-after_h.ensures s.requires.1
 
-room6 : (c : tie.After-put_field2) → c.put_field2.result + length (from6 c.before.before.before.before.before.before.before) ≤ length c.put_field2.new.0
-room6 c = let h = c.before.before.before.before in room-rest (from6 h.before.before.before) c.put_field2.ensures (room5 h)
+room6 : (c : tie.After-put_field-after_b) → c.put_field-after_b.result + length (from6 c.before.before.before.before.before.before.before) ≤ length c.put_field-after_b.new.0
+room6 c = let h = c.before.before.before.before in room-rest (from6 h.before.before.before) c.put_field-after_b.ensures (room5 h)
 
-room7 : (c : tie.After-put_field3)
-    → c.put_field3.result + length (from7 c.before.before.before.before.before.before.before.before.before.before.before) ≤ length c.put_field3.new.0
-room7 c = let b = c.before.before.before.before in let h = b.before.before.before.before in room-rest (from7 h.before.before.before) c.put_field3.ensures (room6 b)
+room7 : (c : tie.After-put_field-after_u)
+    → c.put_field-after_u.result + length (from7 c.before.before.before.before.before.before.before.before.before.before.before) ≤ length c.put_field-after_u.new.0
+room7 c = let b = c.before.before.before.before in let h = b.before.before.before.before in room-rest (from7 h.before.before.before) c.put_field-after_u.ensures (room6 b)
 
-put_field-requires : tie.Need-put_field-requires
+put_field-requires : tie.Need-put_field-after_h-requires
 put_field-requires c κs = let s = c.before.before in (room-first s.args.k (field_of 4 (value_by Four s.args.h.now)) (from5 s) s.requires.1, s.requires.0.depths)
 
-put_field-requires-2 : tie.Need-put_field-requires-2
+put_field-requires-2 : tie.Need-put_field-after_b-requires
 put_field-requires-2 c κs =
     let h = c.before.before.before in
     let s = h.before.before.before in
-    (room-first h.put_field.result (field_of 5 (value_by Four s.args.b.now)) (from6 s) (room5 h), s.requires.0.bottoms)
+    (room-first h.put_field-after_h.result (field_of 5 (value_by Four s.args.b.now)) (from6 s) (room5 h), s.requires.0.bottoms)
 
-put_field-requires-3 : tie.Need-put_field-requires-3
+put_field-requires-3 : tie.Need-put_field-after_u-requires
 put_field-requires-3 c κs =
     let b = c.before.before.before in
     let s = b.before.before.before.before.before.before.before in
-    (room-first b.put_field2.result (field_of 6 (value_by Two s.args.u.now)) (from7 s) (room6 b), s.requires.0.us)
+    (room-first b.put_field-after_b.result (field_of 6 (value_by Two s.args.u.now)) (from7 s) (room6 b), s.requires.0.us)
 
-put_field-requires-4 : tie.Need-put_field-requires-4
+put_field-requires-4 : tie.Need-put_field-requires
 put_field-requires-4 c κs =
     let u = c.before.before.before in
     let s = u.before.before.before.before.before.before.before.before.before.before.before in
@@ -58,7 +58,7 @@ returns c =
     let u = v.before.before.before.before in
     let b = u.before.before.before.before in
     let h = b.before.before.before.before in
-    puts_then h.put_field.ensures (puts_then b.put_field2.ensures (puts_then u.put_field3.ensures v.put_field4.ensures))
+    puts_then h.put_field-after_h.ensures (puts_then b.put_field-after_b.ensures (puts_then u.put_field-after_u.ensures v.put_field.ensures))
 
 pub put_fields_spec : {M : Type 1} → statement M
 put_fields_spec = tie.close (tie.spec put_field-requires put_field-requires-2 put_field-requires-3 put_field-requires-4 (λ c. search rules) returns)

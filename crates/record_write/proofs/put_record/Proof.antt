@@ -10,54 +10,54 @@ use Rattle.record_write.proofs.put_record.Statement.{statement}
 use Rattle.record_write.proofs.put_record.Tie as tie
 
 -- tags 4 to 7; 8; 9; and the last two
-abbrev fields : tie.After-shared_slice_known → List ℕ
+abbrev fields : tie.After-shared_slice_known-1 → List ℕ
 fields s = let a = s.before.args in fields_of a.h.now a.b.now a.u.now a.v.now
 
-abbrev eight : tie.After-shared_slice_known → List ℕ
+abbrev eight : tie.After-shared_slice_known-1 → List ℕ
 eight s = milliseconds_of s.before.args.timestamp.milliseconds
 
-abbrev nine : tie.After-shared_slice_known → List ℕ
+abbrev nine : tie.After-shared_slice_known-1 → List ℕ
 nine s = barriers_of s.before.args.barriers.now
 
-abbrev last : tie.After-shared_slice_known → List ℕ
+abbrev last : tie.After-shared_slice_known-1 → List ℕ
 last s = eight s ++ nine s
 
 -- the room for all fields, and what is left of it
-room : (s : tie.After-shared_slice_known) → let a = s.before.args in 0 + length (joined_fields a.p a.h.now a.b.now a.u.now a.v.now a.barriers.now a.timestamp) ≤ length a.d.now
+room : (s : tie.After-shared_slice_known-1) → let a = s.before.args in 0 + length (joined_fields a.p a.h.now a.b.now a.u.now a.v.now a.barriers.now a.timestamp) ≤ length a.d-1.now
 room s = let a = s.before.args in record-room a.p a.h.now a.b.now a.u.now a.v.now a.barriers.now a.timestamp s.before.requires
 
-room4 : (c : tie.After-put_scalars) → let s = c.before.before.before in c.put_scalars.result + length (fields s ++ last s) ≤ length c.put_scalars.new.0
-room4 c = let s = c.before.before.before in room-rest (fields s ++ last s) c.put_scalars.ensures (room s)
+room4 : (c : tie.After-put_scalars-after_scalars) → let s = c.before.before.before in c.put_scalars-after_scalars.result + length (fields s ++ last s) ≤ length c.put_scalars-after_scalars.new.0
+room4 c = let s = c.before.before.before in room-rest (fields s ++ last s) c.put_scalars-after_scalars.ensures (room s)
 
-room8 : (c : tie.After-put_fields) → let s = c.before.before.before.before.before.before.before in c.put_fields.result + length (last s) ≤ length c.put_fields.new.0
+room8 : (c : tie.After-put_fields-after_fields) → let s = c.before.before.before.before.before.before.before in c.put_fields-after_fields.result + length (last s) ≤ length c.put_fields-after_fields.new.0
 room8 c =
     let q = c.before.before.before.before in
-    room-rest (last q.before.before.before) c.put_fields.ensures (room4 q)
+    room-rest (last q.before.before.before) c.put_fields-after_fields.ensures (room4 q)
 
-put_scalars-requires : tie.Need-put_scalars-requires
+put_scalars-requires : tie.Need-put_scalars-after_scalars-requires
 put_scalars-requires c κs =
     let s = c.before.before in
     let a = s.before.args in
     (scalars-ready a.p a.h.now a.b.now a.u.now a.v.now a.barriers.now s.before.requires, room-first 0 (scalars_of a.p a.timestamp.seconds) (fields s ++ last s) (room s))
 
-put_fields-requires : tie.Need-put_fields-requires
+put_fields-requires : tie.Need-put_fields-after_fields-requires
 put_fields-requires c κs =
     let q = c.before.before.before in
     let s = q.before.before.before in
     let a = s.before.args in
-    (fields-ready a.p a.h.now a.b.now a.u.now a.v.now a.barriers.now s.before.requires, room-first q.put_scalars.result (fields s) (last s) (room4 q))
+    (fields-ready a.p a.h.now a.b.now a.u.now a.v.now a.barriers.now s.before.requires, room-first q.put_scalars-after_scalars.result (fields s) (last s) (room4 q))
 
-put_unsigned_field-requires : tie.Need-put_unsigned_field-requires
+put_unsigned_field-requires : tie.Need-put_unsigned_field-after_time-requires
 put_unsigned_field-requires c κs =
     let f = c.before.before.before in
     let s = f.before.before.before.before.before.before.before in
-    room-first f.put_fields.result (eight s) (nine s) (room8 f)
+    room-first f.put_fields-after_fields.result (eight s) (nine s) (room8 f)
 
 put_bytes_field-requires : tie.Need-put_bytes_field-requires
 put_bytes_field-requires c κs =
     let m = c.before.before.before in
     let f = m.before.before.before.before in
-    room-rest (nine f.before.before.before.before.before.before.before) m.put_unsigned_field.ensures (room8 f)
+    room-rest (nine f.before.before.before.before.before.before.before) m.put_unsigned_field-after_time.ensures (room8 f)
 
 returns : tie.Need-returns
 returns c =
@@ -68,7 +68,7 @@ returns c =
     let s = q.before.before.before.before in
     let a = s.args in
     record-put a.p a.h.now a.b.now a.u.now a.v.now a.barriers.now a.timestamp s.requires
-    (puts_then q.put_scalars.ensures (puts_then f.put_fields.ensures (puts_then m.put_unsigned_field.ensures o.put_bytes_field.ensures)))
+    (puts_then q.put_scalars-after_scalars.ensures (puts_then f.put_fields-after_fields.ensures (puts_then m.put_unsigned_field-after_time.ensures o.put_bytes_field.ensures)))
 
 pub put_record_spec : {M : Type 1} → statement M
 put_record_spec = tie.close (tie.spec put_scalars-requires put_fields-requires put_unsigned_field-requires put_bytes_field-requires (λ c. search rules) returns)

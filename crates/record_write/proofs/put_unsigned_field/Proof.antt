@@ -17,14 +17,14 @@ put_unsigned-requires : tie.Need-put_unsigned-requires
 put_unsigned-requires c κs =
     let h = c.before.before.before in
     let s = h.before.before.before in
-    omega (arith, s.requires, long s, h.put_head.ensures.ends, h.put_head.auto.0)
+    omega (arith, s.requires, long s, h.put_head-from.ensures.ends, h.put_head-from.auto.0)
 
 returns : tie.Need-returns
 returns c =
     let u = c.before.before in
     let h = u.before.before.before.before in
     let s = h.before.before.before in
-    field_put s.args.tag (long s) h.put_head.ensures u.put_unsigned.ensures
+    field_put s.args.tag (long s) h.put_head-from.ensures u.put_unsigned.ensures
 
 pub put_unsigned_field_spec : {M : Type 1} → statement M
 put_unsigned_field_spec = tie.close (tie.spec (λ c κs. search rules) put_unsigned-requires (λ c. search rules) returns)

@@ -11,22 +11,22 @@ use Rattle.tests.specs.Links.{Chain, start, more, counted, passed, outline_tests
 use Rattle.record_write.proofs.test_write.Statement.{statement}
 use Rattle.record_write.proofs.test_write.Tie as tie
 
-abbrev state : tie.After-shared_slice_known → State
+abbrev state : tie.After-shared_slice_known-1 → State
 state c = let a = c.before.args in state_of a.p a.h.now a.b.now a.u.now a.v.now a.barriers.now
 
 -- the chain so far
-time : (c : tie.After-then_time) → let b = c.before.before in Chain Accepted c.then_time.result (outline_tests (state b) ++ (time_test b.before.args.timestamp ∷ []))
+time : (c : tie.After-then_time-time) → let b = c.before.before in Chain Accepted c.then_time-time.result (outline_tests (state b) ++ (time_test b.before.args.timestamp ∷ []))
 time c =
     let o = c.before in
-    more (time_test o.before.before.args.timestamp ∷ []) (start Accepted (outline_tests (state o.before)) o.test_outline.ensures) c.then_time.ensures
+    more (time_test o.before.before.args.timestamp ∷ []) (start Accepted (outline_tests (state o.before)) o.test_outline-outline.ensures) c.then_time-time.ensures
 
-values : (c : tie.After-then_fields)
+values : (c : tie.After-then_fields-values)
     → let b = c.before.before.before in
-    let s = state b in Chain Accepted c.then_fields.result (outline_tests s ++ (time_test b.before.args.timestamp ∷ value_tests Value (fields_of s)))
-values c = more (value_tests Value (fields_of (state c.before.before.before))) (time c.before) c.then_fields.ensures
+    let s = state b in Chain Accepted c.then_fields-values.result (outline_tests s ++ (time_test b.before.args.timestamp ∷ value_tests Value (fields_of s)))
+values c = more (value_tests Value (fields_of (state c.before.before.before))) (time c.before) c.then_fields-values.ensures
 
-edges : (c : tie.After-then_edges) → let b = c.before.before.before.before in Chain Accepted c.then_edges.result (timed_tests (state b) b.before.args.timestamp)
-edges c = let s = state c.before.before.before.before in more (edge_tests s) (values c.before) (c.then_edges.ensures s.h s.b)
+edges : (c : tie.After-then_edges-edges) → let b = c.before.before.before.before in Chain Accepted c.then_edges-edges.result (timed_tests (state b) b.before.args.timestamp)
+edges c = let s = state c.before.before.before.before in more (edge_tests s) (values c.before) (c.then_edges-edges.ensures s.h s.b)
 
 returns : tie.Need-returns
 unfolding write_test

@@ -23,12 +23,12 @@ sizes c =
     let p = c.requires in
     coriolis-size p.0 ◂ velocity-size p.1.value ◂ velocity-size p.2.value ◂ velocity-size p.3.value ◂ velocity-size p.4.value ◂ ∎
 
-walled : tie.Need-returns
-walled c = rw c.if1.true (to_z-of_z c.before.ranges.c)
+walled : tie.Need-returns-then-wall
+walled c = rw c.if-wall.true (to_z-of_z c.before.ranges.c)
 
-other : tie.Need-returns-2
+other : tie.Need-returns
 other c =
-    let o = c.before.before.before.before in rw o.if1.false (exact w64 absolute_vorticity (sizes o.before) tt)
+    let o = c.before.before.before.before in rw o.if-wall.false (exact w64 absolute_vorticity (sizes o.before) tt)
 
 pub absolute_vorticity_spec : {M : Type 1} → statement M
 absolute_vorticity_spec =

@@ -20,16 +20,16 @@ g-is c = to_z-of_z c.ranges.g
 abbrev sum : Expr
 sum = var 0 ⊕ var 1 ⊕ var 2
 
-first : (c : tie.After-squares2) → Abs c.before.squares.result 50000000
+first : (c : tie.After-squares-2) → Abs c.before.squares.result 50000000
 first c = let p = c.before.before.requires.1 in abs-as c.before.squares.ensures (squares-size (reads p.us p.around.here) (reads p.us p.around.east))
 
-second : (c : tie.After-squares2) → Abs c.squares2.result 50000000
-second c = let p = c.before.before.requires.1 in abs-as c.squares2.ensures (squares-size (reads p.vs p.around.here) (reads p.vs p.around.north))
+second : (c : tie.After-squares-2) → Abs c.squares-2.result 50000000
+second c = let p = c.before.before.requires.1 in abs-as c.squares-2.ensures (squares-size (reads p.vs p.around.here) (reads p.vs p.around.north))
 
 third : (c : tie.After-geopotential) → let a = c.before.before.before.args in c.geopotential.result ≡ geopotential_at a.g a.h.now a.b.now a.a.here
 third c = let a = c.before.before.before.args in c.geopotential.ensures ∙ ap (λ (g : ℤ). geopotential_at g a.h.now a.b.now a.a.here) (g-is c.before.before.before)
 
-sizes : (c : tie.After-geopotential) → Sizes (c.before.before.squares.result ∷ c.before.squares2.result ∷ c.geopotential.result ∷ []) (50000000 ∷ 50000000 ∷ 8000000000 ∷ [])
+sizes : (c : tie.After-geopotential) → Sizes (c.before.before.squares.result ∷ c.before.squares-2.result ∷ c.geopotential.result ∷ []) (50000000 ∷ 50000000 ∷ 8000000000 ∷ [])
 sizes c =
     let p = c.before.before.before.requires in
     let a = p.1.around in
@@ -42,7 +42,7 @@ geopotential-requires c κs =
     (subst (Within gravity_limits) (sym (g-is s)) p.0, reads p.1.depths p.1.around.here, reads p.2 p.1.around.here)
 
 returns : tie.Need-returns
-returns c = exact w64 sum (sizes c) tt ∙ rw (c.before.before.squares.ensures, c.before.squares2.ensures, third c)
+returns c = exact w64 sum (sizes c) tt ∙ rw (c.before.before.squares.ensures, c.before.squares-2.ensures, third c)
 
 pub bernoulli_at_spec : {M : Type 1} → statement M
 bernoulli_at_spec =

@@ -11,55 +11,55 @@ use Rattle.grid.specs.WritingLoops.{Writing, field, row_done, rows_none, rows-fi
 use Rattle.scheme.proofs.fill_vorticity.Statement.{statement}
 use Rattle.scheme.proofs.fill_vorticity.Tie as tie
 
-abbrev invariant-loop : tie.invariant-loop
-invariant-loop p h u v d₀ rows y₀ d y =
+abbrev invariant-loop-y : tie.invariant-loop-y
+invariant-loop-y p h u v d₀ rows y₀ d y =
     let s = state_of p h [] u v [] in (y ≤ rows) × Writing 0 (field (corner_columns s) (corner_rows s) (vorticity_at s)) d₀ (y * corner_columns s) d
 
-abbrev decreases-loop : tie.decreases-loop
-decreases-loop p h u v d₀ rows y₀ d y = rows - y
+abbrev decreases-loop-y : tie.decreases-loop-y
+decreases-loop-y p h u v d₀ rows y₀ d y = rows - y
 
-abbrev state : tie.Start invariant-loop decreases-loop → State
+abbrev state : tie.Start invariant-loop-y decreases-loop-y → State
 state c = let a = c.args in state_of a.p a.h.now [] a.u.now a.v.now []
 
-abbrev begin : tie.In-loop invariant-loop decreases-loop → tie.After-corner_rows invariant-loop decreases-loop
+abbrev begin : tie.In-loop-y invariant-loop-y decreases-loop-y → tie.After-corner_rows-rows invariant-loop-y decreases-loop-y
 begin c = c.before.before
 
-tall : (c : tie.After-corner_rows invariant-loop decreases-loop) → c.corner_rows.result ≤ 65
+tall : (c : tie.After-corner_rows-rows invariant-loop-y decreases-loop-y) → c.corner_rows-rows.result ≤ 65
 tall c =
     let s = c.before in
-    subst (λ (m : ℕ). m ≤ 65) (sym c.corner_rows.ensures) (side-most (walled_south (state s)) s.requires.0.rows)
+    subst (λ (m : ℕ). m ≤ 65) (sym c.corner_rows-rows.ensures) (side-most (walled_south (state s)) s.requires.0.rows)
 
-vorticity_row-requires : tie.Need-vorticity_row-requires invariant-loop decreases-loop
+vorticity_row-requires : tie.Need-vorticity_row-requires invariant-loop-y decreases-loop-y
 vorticity_row-requires c κs =
     let t = c.before in
     let k = begin t in
     let s = k.before in
-    (s.pre.0, subst (λ (m : ℕ). t.before.loop.y < m) k.corner_rows.ensures t.loop-test.true, omega (arith, s.pre.1, t.before.loop.invariant.1.long))
+    (s.pre.0, subst (λ (m : ℕ). t.before.loop-y.y < m) k.corner_rows-rows.ensures t.loop-y-test.true, omega (arith, s.pre.1, t.before.loop-y.invariant.1.long))
 
-loop-again : tie.Need-loop-preserved invariant-loop decreases-loop
+loop-again : tie.Need-loop-y-preserved invariant-loop-y decreases-loop-y
 loop-again c =
     let r = c.before in
     let t = r.before.before in
     let s = (begin t).before in
-    (omega (arith, t.loop-test.true), row_done _ _ _ t.before.loop.y r.vorticity_row.ensures (omega arith) (omega (arith, s.pre.1)) t.before.loop.invariant.1)
+    (omega (arith, t.loop-y-test.true), row_done _ _ _ t.before.loop-y.y r.vorticity_row.ensures (omega arith) (omega (arith, s.pre.1)) t.before.loop-y.invariant.1)
 
-returns : tie.Need-returns invariant-loop decreases-loop
+returns : tie.Need-returns invariant-loop-y decreases-loop-y
 unfolding vorticity
 returns c =
     let k = c.before.before in
-    rows-filled _ _ _ c.before.loop.invariant.1 (subst (λ (m : ℕ). m ≤ c.before.loop.y) k.corner_rows.ensures c.loop-test.false)
+    rows-filled _ _ _ c.before.loop-y.invariant.1 (subst (λ (m : ℕ). m ≤ c.before.loop-y.y) k.corner_rows-rows.ensures c.loop-y-test.false)
 
 pub fill_vorticity_spec : {M : Type 1} → statement M
 fill_vorticity_spec =
     tie.close
     (tie.spec
-    invariant-loop
-    decreases-loop
+    invariant-loop-y
+    decreases-loop-y
     (λ c κs. c.requires.0.rows.most)
     (λ c. (zero-le, rows_none _ _ _))
     vorticity_row-requires
-    (λ c. omega (arith, c.before.before.before.loop-test.true, tall (begin c.before.before.before)))
-    (λ c. omega (arith, c.before.before.before.loop-test.true))
+    (λ c. omega (arith, c.before.before.before.loop-y-test.true, tall (begin c.before.before.before)))
+    (λ c. omega (arith, c.before.before.before.loop-y-test.true))
     loop-again
-    (λ c. c.before.loop.invariant.1.long)
+    (λ c. c.before.loop-y.invariant.1.long)
     returns)

@@ -19,10 +19,10 @@ use Rattle.scheme.proofs.flows_at.Tie as tie
 abbrev state : tie.Start → State
 state c = let a = c.args in state_of a.p a.h.now [] a.u.now a.v.now []
 
-below : (c : tie.After-around) → let p = c.before.args.p in Below (p.w * p.n) c.around.result
+below : (c : tie.After-around-a) → let p = c.before.args.p in Below (p.w * p.n) c.around-a.result
 below c =
     let p = c.before.requires in
-    around-below (record { columns = p.0.columns; rows = p.0.rows; column = p.1; row = p.2 }) c.around.ensures
+    around-below (record { columns = p.0.columns; rows = p.0.rows; column = p.1; row = p.2 }) c.around-a.ensures
 
 -- R as the machine holds it
 ratio-is : (c : tie.Start) → held w64 c.args.p.r ≡ c.args.p.r
@@ -32,8 +32,8 @@ by-ratio : (c : tie.Start) (flux : ℤ) → rnd flux (pos 2 *ℤ held w64 c.args
 by-ratio c flux = ap (λ (r : ℤ). rnd flux (pos 2 *ℤ r)) (ratio-is c)
 
 -- both calls ask the same, of the velocities x at the edge and the cell k beyond it
-asked : (c : tie.After-around) {x : List ℤ} {k : ℕ}
-    → let a = c.before.args in let m = a.p.w * a.p.n in let here = c.around.result.here in
+asked : (c : tie.After-around-a) {x : List ℤ} {k : ℕ}
+    → let a = c.before.args in let m = a.p.w * a.p.n in let here = c.around-a.result.here in
     FieldWithin velocity_limits m x → k < m
     → Within ratio_limits (held w64 a.p.r) × ReadsAt velocity_limits x here × ReadsAt depth_limits a.h.now k × ReadsAt depth_limits a.h.now here
 asked c v l =
@@ -47,8 +47,8 @@ returns c =
     let x = c.before.before in
     let a = x.before.before in
     let s = state a.before in (
-      held-is w64 x.flow_at.type_inv (x.flow_at.ensures ∙ by-ratio a.before _ ∙ x-around s a.around.ensures),
-      held-is w64 c.flow_at2.type_inv (c.flow_at2.ensures ∙ by-ratio a.before _ ∙ y-around s a.around.ensures),
+      held-is w64 x.flow_at.type_inv (x.flow_at.ensures ∙ by-ratio a.before _ ∙ x-around s a.around-a.ensures),
+      held-is w64 c.flow_at-2.type_inv (c.flow_at-2.ensures ∙ by-ratio a.before _ ∙ y-around s a.around-a.ensures),
     )
 
 pub flows_at_spec : {M : Type 1} → statement M

@@ -17,20 +17,20 @@ abbrev state : tie.Start → State
 state c = let a = c.args in state_of a.p a.h.now a.b.now a.u.now a.v.now []
 
 -- the share is not used: there is one column, or the edge is closed
-returns : tie.Need-returns
+returns : tie.Need-returns-then-p-eq1
 returns c =
     let s = c.before.before in
-    record { share = λ o l. absurd (⊎_elim (λ w. omega (arith, w.taken, l)) (λ w. true≢false (sym w.2.taken ∙ w.1.ensures ∙ west-walled (state s) s.args.i s.args.j ∙ o)) c.if1.branch) }
+    record { share = λ o l. absurd (⊎_elim (λ w. omega (arith, w.taken, l)) (λ w. true≢false (sym w.2.taken ∙ w.1.ensures ∙ west-walled (state s) s.args.i s.args.j ∙ o)) c.then-p-eq1.branch) }
 
-returns-2 : tie.Need-returns-2
+returns-2 : tie.Need-returns
 returns-2 c =
     let k = c.before in
     let p = k.before in
     let s = p.before.before.before.before.before in
     record {
       share = λ o l.
-          held-is w64 c.struct_told.given.1.1.0.1
-          (k.Shares-at.ensures.east ∙ ap (λ i. east_share_at (state s) s.args.q.now i s.args.j) p.previous.ensures.0);
+          held-is w64 c.struct_told-1.given.1.1.0.1
+          (k.Shares-at.ensures.east ∙ ap (λ i. east_share_at (state s) s.args.q.now i s.args.j) p.previous-west.ensures.0);
     }
 
 pub from_west_spec : {M : Type 1} → statement M

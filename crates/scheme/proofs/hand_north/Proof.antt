@@ -12,38 +12,38 @@ use Rattle.scheme.specs.Handing.{FromSouth, Handed, handed-all}
 use Rattle.scheme.proofs.hand_north.Statement.{statement}
 use Rattle.scheme.proofs.hand_north.Tie as tie
 
-abbrev invariant-loop : tie.invariant-loop
-invariant-loop p h b u v q handed₀ i₀ i-end handed i = Handed (state_of p h b u v []) q 0 0 i handed × (length handed ≡ length handed₀)
+abbrev invariant-loop-i : tie.invariant-loop-i
+invariant-loop-i p h b u v q handed₀ i₀ i-end handed i = Handed (state_of p h b u v []) q 0 0 i handed × (length handed ≡ length handed₀)
 
-abbrev decreases-loop : tie.decreases-loop
-decreases-loop p h b u v q handed₀ i₀ i-end handed i = p.w - i
+abbrev decreases-loop-i : tie.decreases-loop-i
+decreases-loop-i p h b u v q handed₀ i₀ i-end handed i = p.w - i
 
-abbrev state : tie.Start invariant-loop decreases-loop → State
+abbrev state : tie.Start invariant-loop-i decreases-loop-i → State
 state c = let a = c.args in state_of a.p a.h.now a.b.now a.u.now a.v.now []
 
-in-slice : (c : tie.In-loop invariant-loop decreases-loop) → c.before.loop.i < length c.before.loop.handed
-in-slice c = omega (arith, c.loop-test.true, c.before.loop.invariant.1, c.before.before.requires.1)
+in-slice : (c : tie.In-loop-i invariant-loop-i decreases-loop-i) → c.before.loop-i.i < length c.before.loop-i.handed
+in-slice c = omega (arith, c.loop-i-test.true, c.before.loop-i.invariant.1, c.before.before.requires.1)
 
-loop-again : tie.Need-loop-preserved invariant-loop decreases-loop
+loop-again : tie.Need-loop-i-preserved invariant-loop-i decreases-loop-i
 loop-again c =
     let i = c.before in
     let s = i.before.before in
-    let inv = i.before.loop.invariant in
+    let inv = i.before.loop-i.invariant in
     let x = c.from_south in
-    (each_more inv.0 (in-slice i) (subst (FromSouth (state s) s.args.q.now i.before.loop.i 0) (sym (held-is w64 x.type_inv refl)) x.ensures), rw length-set inv.1)
+    (each_more inv.0 (in-slice i) (subst (FromSouth (state s) s.args.q.now i.before.loop-i.i 0) (sym (held-is w64 x.type_inv refl)) x.ensures), rw length-set inv.1)
 
 pub hand_north_spec : {M : Type 1} → statement M
 hand_north_spec =
     tie.close
     (tie.spec
-    invariant-loop
-    decreases-loop
+    invariant-loop-i
+    decreases-loop-i
     (λ c. (each_none, refl))
-    (λ c κs. let s = c.before.before in (s.requires.0, c.loop-test.true, s.requires.0.state.rows.some))
-    (λ c. omega (arith, c.before.loop-test.true, c.before.before.before.requires.0.state.columns.most))
+    (λ c κs. let s = c.before.before in (s.requires.0, c.loop-i-test.true, s.requires.0.state.rows.some))
+    (λ c. omega (arith, c.before.loop-i-test.true, c.before.before.before.requires.0.state.columns.most))
     (λ c. in-slice c.before)
-    (λ c. omega (arith, c.before.loop-test.true, c.before.before.before.requires.0.state.columns.most))
-    (λ c. omega (arith, c.before.loop-test.true))
+    (λ c. omega (arith, c.before.loop-i-test.true, c.before.before.before.requires.0.state.columns.most))
+    (λ c. omega (arith, c.before.loop-i-test.true))
     loop-again
-    (λ c. c.before.loop.invariant.1)
-    (λ c. let inv = c.before.loop.invariant in handed-all inv.0 c.loop-test.false (omega (arith, inv.1, c.before.before.requires.1))))
+    (λ c. c.before.loop-i.invariant.1)
+    (λ c. let inv = c.before.loop-i.invariant in handed-all inv.0 c.loop-i-test.false (omega (arith, inv.1, c.before.before.requires.1))))

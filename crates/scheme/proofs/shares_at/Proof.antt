@@ -23,54 +23,54 @@ use Rattle.scheme.proofs.shares_at.Tie as tie
 abbrev state : tie.Start → State
 state c = let a = c.args in state_of a.p a.h.now a.b.now a.u.now a.v.now []
 
-corners-in : (c : tie.After-cell_corners) → Below4 (corners (state c.before.before)) c.cell_corners.result
+corners-in : (c : tie.After-cell_corners-k) → Below4 (corners (state c.before.before)) c.cell_corners-k.result
 corners-in c =
     let s = c.before.before in
     let p = s.requires in
-    corners-below (corners-more (walled_west (state s)) p.1) (corners-more (walled_south (state s)) p.2) c.cell_corners.ensures
+    corners-below (corners-more (walled_west (state s)) p.1) (corners-more (walled_south (state s)) p.2) c.cell_corners-k.ensures
 
-below : (c : tie.After-around) → let p = c.before.args.p in Below (p.w * p.n) c.around.result
+below : (c : tie.After-around-a) → let p = c.before.args.p in Below (p.w * p.n) c.around-a.result
 below c =
     let p = c.before.requires in
-    around-below (record { columns = p.0.state.columns; rows = p.0.state.rows; column = p.1; row = p.2 }) c.around.ensures
+    around-below (record { columns = p.0.state.columns; rows = p.0.state.rows; column = p.1; row = p.2 }) c.around-a.ensures
 
 -- the fields as the functions that read them ask for them: m is the length of h
-flow : (c : tie.After-around) → let a = c.before.args in Flow (length a.h.now) a.h.now a.u.now a.v.now c.around.result
+flow : (c : tie.After-around-a) → let a = c.before.args in Flow (length a.h.now) a.h.now a.u.now a.v.now c.around-a.result
 flow c =
     let a = c.before.args in
     let s = c.before.requires.0.state in
-    subst (λ m. Flow m a.h.now a.u.now a.v.now c.around.result) (sym s.depths.long) (record { depths = s.depths; us = s.us; vs = s.vs; around = below c })
+    subst (λ m. Flow m a.h.now a.u.now a.v.now c.around-a.result) (sym s.depths.long) (record { depths = s.depths; us = s.us; vs = s.vs; around = below c })
 
 -- g as the machine holds it
-g-is : (c : tie.After-struct_told) → let p = c.before.before.before.before.before.before.args.p in held w64 p.g ≡ p.g
-g-is c = to_z-of_z {w = w64} (record { sfits = c.struct_told.given.1.1.1.0.1 })
+g-is : (c : tie.After-struct_told-1) → let p = c.before.before.before.before.before.before.args.p in held w64 p.g ≡ p.g
+g-is c = to_z-of_z {w = w64} (record { sfits = c.struct_told-1.given.1.1.1.0.1 })
 
 -- what each call tells is the model's
-weights-are : (c : tie.After-weights_of) → let s = c.before.before.before.before in c.weights_of.result ≡ weights_in (state s) s.args.q.now s.args.i s.args.j
+weights-are : (c : tie.After-weights_of-weights) → let s = c.before.before.before.before in c.weights_of-weights.result ≡ weights_in (state s) s.args.q.now s.args.i s.args.j
 weights-are c =
     let k = c.before in
     let a = k.before in
     let s = a.before.before in
-    weights-around (state s) a.cell_corners.ensures s.args.q.now k.corners_at.result c.weights_of.result k.corners_at.ensures c.weights_of.ensures
+    weights-around (state s) a.cell_corners-k.ensures s.args.q.now k.corners_at.result c.weights_of-weights.result k.corners_at.ensures c.weights_of-weights.ensures
 
-fluxes-are : (c : tie.After-fluxes_at) → let s = c.before.before.before.before.before in c.fluxes_at.result ≡ fluxes_in (state s) s.args.i s.args.j
+fluxes-are : (c : tie.After-fluxes_at-fluxes) → let s = c.before.before.before.before.before in c.fluxes_at-fluxes.result ≡ fluxes_in (state s) s.args.i s.args.j
 fluxes-are c =
     let a = c.before.before.before.before in
     let p = a.before.requires in
-    fluxes-around (state a.before) a.around.ensures c.fluxes_at.result p.1 p.2 c.fluxes_at.ensures
+    fluxes-around (state a.before) a.around-a.ensures c.fluxes_at-fluxes.result p.1 p.2 c.fluxes_at-fluxes.ensures
 
-bernoulli-is : (c : tie.After-bernoulli_at) → let s = c.before.before.before.before.before.before.before in held w64 c.bernoulli_at.result ≡ B (state s) s.args.i s.args.j
+bernoulli-is : (c : tie.After-bernoulli_at-bernoulli) → let s = c.before.before.before.before.before.before.before in held w64 c.bernoulli_at-bernoulli.result ≡ B (state s) s.args.i s.args.j
 bernoulli-is c =
     let t = c.before in
     let a = t.before.before.before.before.before in
-    held-is w64 c.bernoulli_at.type_inv (c.bernoulli_at.ensures ∙ rw (g-is t) (bernoulli-around (state a.before) a.around.ensures))
+    held-is w64 c.bernoulli_at-bernoulli.type_inv (c.bernoulli_at-bernoulli.ensures ∙ rw (g-is t) (bernoulli-around (state a.before) a.around-a.ensures))
 
 corners_at-requires : tie.Need-corners_at-requires
 corners_at-requires c κs =
     let b = corners-in c in
     let q = c.before.before.requires.0.vorticity in ((reads q b.ne).inside, (reads q b.nw).inside, (reads q b.sw).inside, (reads q b.se).inside)
 
-weights_of-requires : tie.Need-weights_of-requires
+weights_of-requires : tie.Need-weights_of-weights-requires
 weights_of-requires c κs =
     let a = c.before in
     let b = corners-in a in
@@ -83,7 +83,7 @@ weights_of-requires c κs =
       se = abs-as e.3 (vorticity-size (q _ b.se));
     }
 
-bernoulli_at-requires : tie.Need-bernoulli_at-requires
+bernoulli_at-requires : tie.Need-bernoulli_at-bernoulli-requires
 bernoulli_at-requires c κs =
     let a = c.before.before.before.before.before in
     let s = a.before.requires.0.state in (

@@ -21,49 +21,49 @@ abbrev state : tie.Start → State
 state c = let a = c.args in state_of a.p a.h.now a.b.now a.u.now a.v.now []
 
 -- whether the edges are closed
-west-closed : (c : tie.After-walled_west) → let s = c.before in c.walled_west.result ≡ closed_west (state s) s.args.i s.args.j
-west-closed c = let s = c.before in c.walled_west.ensures ∙ west-walled (state s) s.args.i s.args.j
+west-closed : (c : tie.After-walled_west-wall_west) → let s = c.before in c.walled_west-wall_west.result ≡ closed_west (state s) s.args.i s.args.j
+west-closed c = let s = c.before in c.walled_west-wall_west.ensures ∙ west-walled (state s) s.args.i s.args.j
 
-south-closed : (c : tie.After-walled_south) → let s = c.before.before in c.walled_south.result ≡ closed_south (state s) s.args.i s.args.j
-south-closed c = let s = c.before.before in c.walled_south.ensures ∙ south-walled (state s) s.args.i s.args.j
+south-closed : (c : tie.After-walled_south-wall_south) → let s = c.before.before in c.walled_south-wall_south.result ≡ closed_south (state s) s.args.i s.args.j
+south-closed c = let s = c.before.before in c.walled_south-wall_south.ensures ∙ south-walled (state s) s.args.i s.args.j
 
 -- the cell's own shares
-abbrev start : tie.After-shares_at → tie.Start
+abbrev start : tie.After-shares_at-own → tie.Start
 start c = c.before.before.before
 
-own : (c : tie.After-shares_at) → let s = start c in Fit (weights_in (state s) s.args.q.now s.args.i s.args.j) (fluxes_in (state s) s.args.i s.args.j) (head_in (state s) s.args.i s.args.j)
+own : (c : tie.After-shares_at-own) → let s = start c in Fit (weights_in (state s) s.args.q.now s.args.i s.args.j) (fluxes_in (state s) s.args.i s.args.j) (head_in (state s) s.args.i s.args.j)
 own c = let p = (start c).requires in fit-in p.0 p.1 p.2
 
-own-west : (c : tie.After-shares_at) → Abs c.Shares-at.result.west most_share
+own-west : (c : tie.After-shares_at-own) → Abs c.Shares-at.result.west most_share
 own-west c = abs-as c.Shares-at.ensures.west (west-size (own c))
 
-own-south : (c : tie.After-shares_at) → Abs c.Shares-at.result.south most_share
+own-south : (c : tie.After-shares_at-own) → Abs c.Shares-at.result.south most_share
 own-south c = abs-as c.Shares-at.ensures.south (south-size (own c))
 
-east-is : (c : tie.After-shares_at) → let s = start c in held w64 c.Shares-at.result.east ≡ east_share_at (state s) s.args.q.now s.args.i s.args.j
+east-is : (c : tie.After-shares_at-own) → let s = start c in held w64 c.Shares-at.result.east ≡ east_share_at (state s) s.args.q.now s.args.i s.args.j
 east-is c = let e = c.Shares-at.ensures.east in share-held (abs-as e (east-size (own c))) ∙ e
 
-north-is : (c : tie.After-shares_at) → let s = start c in held w64 c.Shares-at.result.north ≡ north_share_at (state s) s.args.q.now s.args.i s.args.j
+north-is : (c : tie.After-shares_at-own) → let s = start c in held w64 c.Shares-at.result.north ≡ north_share_at (state s) s.args.q.now s.args.i s.args.j
 north-is c = let e = c.Shares-at.ensures.north in share-held (abs-as e (north-size (own c))) ∙ e
 
 -- the shares of the cells beyond the edges, where these are open
-abbrev worked : tie.After-other_share2 → tie.After-shares_at
+abbrev worked : tie.After-other_share-from_south → tie.After-shares_at-own
 worked c = c.before.before.before.before
 
-from-west : (c : tie.After-other_share2) → let s = start (worked c) in closed_west (state s) s.args.i s.args.j ≡ false
-    → held w64 c.before.before.other_share.result ≡ east_share_at (state s) s.args.q.now (to_west (state s) s.args.i) s.args.j
+from-west : (c : tie.After-other_share-from_south) → let s = start (worked c) in closed_west (state s) s.args.i s.args.j ≡ false
+    → held w64 c.before.before.other_share-from_west.result ≡ east_share_at (state s) s.args.q.now (to_west (state s) s.args.i) s.args.j
 from-west c o =
     let k = worked c in
     let s = start k in
-    let x = c.before.before.other_share in
+    let x = c.before.before.other_share-from_west in
     held-is w64 x.type_inv (x.ensures ∙ ap₂ (cond (eqb s.args.p.w 1)) (east-is k) (to_z-of_z s.fits.west) ∙ west-beyond s.pre.3 s.pre.1 o)
 
-from-south : (c : tie.After-other_share2) → let s = start (worked c) in closed_south (state s) s.args.i s.args.j ≡ false
-    → held w64 c.other_share2.result ≡ north_share_at (state s) s.args.q.now s.args.i (to_south (state s) s.args.j)
+from-south : (c : tie.After-other_share-from_south) → let s = start (worked c) in closed_south (state s) s.args.i s.args.j ≡ false
+    → held w64 c.other_share-from_south.result ≡ north_share_at (state s) s.args.q.now s.args.i (to_south (state s) s.args.j)
 from-south c o =
     let k = worked c in
     let s = start k in
-    let x = c.other_share2 in
+    let x = c.other_share-from_south in
     held-is w64 x.type_inv (x.ensures ∙ ap₂ (cond (eqb s.args.p.n 1)) (north-is k) (to_z-of_z s.fits.south) ∙ south-beyond s.pre.4 s.pre.2 o)
 
 -- the tendencies at the edges
@@ -93,13 +93,13 @@ edge_tendency-requires-2 c κs =
       λ o. abs-as (from-south e (sym (south-closed k.before) ∙ o)) (north-size (fit-in p.0 p.1 (previous-lt _ _ p.0.state.rows.some))),
     )
 
-v-is : (c : tie.After-edge_tendency2) → let s = start (worked c.before.before.before.before) in held w64 c.edge_tendency2.result ≡ tendency_v (state s) s.args.q.now s.args.i s.args.j
+v-is : (c : tie.After-edge_tendency-2) → let s = start (worked c.before.before.before.before) in held w64 c.edge_tendency-2.result ≡ tendency_v (state s) s.args.q.now s.args.i s.args.j
 v-is c =
     let e = c.before.before.before.before in
     let k = worked e in
     let s = start k in
-    held-is w64 c.edge_tendency2.type_inv
-    (c.edge_tendency2.ensures
+    held-is w64 c.edge_tendency-2.type_inv
+    (c.edge_tendency-2.ensures
     ∙ v-edge (state s) s.args.q.now s.args.i s.args.j (south-closed k.before) (share-held (own-south k) ∙ k.Shares-at.ensures.south) (from-south e))
 
 returns : tie.Need-returns
@@ -108,7 +108,7 @@ returns c =
     let u = v.before.before in
     let k = worked u.before.before in
     record {
-      depth = held-is w64 c.struct_told5.given.0.1 k.Shares-at.ensures.depth;
+      depth = held-is w64 c.struct_told-5-1.given.0.1 k.Shares-at.ensures.depth;
       u = u-is u;
       v = v-is v;
       east = east-is k;

@@ -21,28 +21,28 @@ use Rattle.scheme.proofs.wall_vorticity_at.Tie as tie
 abbrev state : tie.Start → (u v : List ℤ) → State
 state c u v = let a = c.args in state_of a.p a.h.now [] u v []
 
-below : (c : tie.After-cells_around) → let p = c.before.args.p in Below4 (p.w * p.n) c.cells_around.result
-below c = cells-below c.before.requires.0 c.cells_around.ensures
+below : (c : tie.After-cells_around-a) → let p = c.before.args.p in Below4 (p.w * p.n) c.cells_around-a.result
+below c = cells-below c.before.requires.0 c.cells_around-a.ensures
 
 -- c as the machine holds it, and Z
-c-is : (c : tie.After-struct_told) → let p = c.before.before.before.args.p in held w64 p.c ≡ p.c
-c-is c = to_z-of_z {w = w64} (record { sfits = c.struct_told.given.1.1.1.1.0.1 })
+c-is : (c : tie.After-struct_told-1) → let p = c.before.before.before.args.p in held w64 p.c ≡ p.c
+c-is c = to_z-of_z {w = w64} (record { sfits = c.struct_told-1.given.1.1.1.1.0.1 })
 
 z-is : (c : tie.Start) (u v : List ℤ) → c.args.p.c ≡ Z (state c u v) c.args.x c.args.y
 unfolding Z
 z-is c u v = rw c.requires.1
 
 -- H
-h-is : (c : tie.After-depth_around) (u v : List ℤ) → let s = c.before.before in held w64 c.depth_around.result ≡ H (state s u v) s.args.x s.args.y
+h-is : (c : tie.After-depth_around-depth) (u v : List ℤ) → let s = c.before.before in held w64 c.depth_around-depth.result ≡ H (state s u v) s.args.x s.args.y
 h-is c u v =
     let a = c.before in
     let s = a.before in
-    held-is w64 c.depth_around.type_inv (c.depth_around.ensures ∙ depth-around (state s u v) s.requires.0 a.cells_around.ensures)
+    held-is w64 c.depth_around-depth.type_inv (c.depth_around-depth.ensures ∙ depth-around (state s u v) s.requires.0 a.cells_around-a.ensures)
 
-divisor : (c : tie.After-depth_around) → Abs (held w64 c.depth_around.result) 400000 × (pos 1 ≤ℤ held w64 c.depth_around.result)
-divisor c = let a = c.before in divides a.before.requires.3 (below a) (held-is w64 c.depth_around.type_inv c.depth_around.ensures)
+divisor : (c : tie.After-depth_around-depth) → Abs (held w64 c.depth_around-depth.result) 400000 × (pos 1 ≤ℤ held w64 c.depth_around-depth.result)
+divisor c = let a = c.before in divides a.before.requires.3 (below a) (held-is w64 c.depth_around-depth.type_inv c.depth_around-depth.ensures)
 
-depth_around-requires : tie.Need-depth_around-requires
+depth_around-requires : tie.Need-depth_around-depth-requires
 depth_around-requires c κs =
     let b = below c in
     let h = c.before.requires.3 in (reads h b.ne, reads h b.nw, reads h b.se, reads h b.sw)

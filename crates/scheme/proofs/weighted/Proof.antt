@@ -13,19 +13,19 @@ use Rattle.scheme.proofs.weighted.Statement.{statement}
 use Rattle.scheme.proofs.weighted.Tie as tie
 
 -- the row's weights, and the corners
-abbrev terms : tie.After-weight_at4 → List ℤ
+abbrev terms : tie.After-weight_at-se → List ℤ
 terms c =
     let q = c.before.before.before.before.args.c in
-    c.before.before.before.weight_at.result ∷ c.before.before.weight_at2.result ∷ c.before.weight_at3.result ∷ c.weight_at4.result
+    c.before.before.before.weight_at-ne.result ∷ c.before.before.weight_at-nw.result ∷ c.before.weight_at-sw.result ∷ c.weight_at-se.result
     ∷ q.ne ∷ q.nw ∷ q.sw ∷ q.se ∷ []
 
-sizes : (c : tie.After-weight_at4) → Sizes (terms c) (2 ∷ 2 ∷ 2 ∷ 2 ∷ most_corner ∷ most_corner ∷ most_corner ∷ most_corner ∷ [])
+sizes : (c : tie.After-weight_at-se) → Sizes (terms c) (2 ∷ 2 ∷ 2 ∷ 2 ∷ most_corner ∷ most_corner ∷ most_corner ∷ most_corner ∷ [])
 sizes c =
     let s = c.before.before.before.before in
     let row = s.args.row in
     let q = s.requires.1 in
-    abs-as c.before.before.before.weight_at.ensures (table-size row 0) ◂ abs-as c.before.before.weight_at2.ensures (table-size row 1)
-    ◂ abs-as c.before.weight_at3.ensures (table-size row 2) ◂ abs-as c.weight_at4.ensures (table-size row 3)
+    abs-as c.before.before.before.weight_at-ne.ensures (table-size row 0) ◂ abs-as c.before.before.weight_at-nw.ensures (table-size row 1)
+    ◂ abs-as c.before.weight_at-sw.ensures (table-size row 2) ◂ abs-as c.weight_at-se.ensures (table-size row 3)
     ◂ q.ne ◂ q.nw ◂ q.sw ◂ q.se ◂ ∎
 
 returns : tie.Need-returns
@@ -33,7 +33,7 @@ unfolding weighted
 returns c =
     let l = c.before.before.before.before.before.before.before.before in
     exact w64 weighted_expr (sizes l) tt
-    ∙ rw (l.before.before.before.weight_at.ensures, l.before.before.weight_at2.ensures, l.before.weight_at3.ensures, l.weight_at4.ensures)
+    ∙ rw (l.before.before.before.weight_at-ne.ensures, l.before.before.weight_at-nw.ensures, l.before.weight_at-sw.ensures, l.weight_at-se.ensures)
 
 pub weighted_spec : {M : Type 1} → statement M
 weighted_spec =

@@ -13,10 +13,10 @@ use Rattle.scheme.proofs.weights_of.Tie as tie
 abbrev over : ((ne nw sw se : Expr) → Expr) → Expr
 over e = e (var 0) (var 1) (var 2) (var 3)
 
-abbrev start : tie.After-struct_told4 → tie.Start
+abbrev start : tie.After-struct_told-4-1 → tie.Start
 start c = c.before.before.before.before
 
-sizes : (c : tie.After-struct_told4)
+sizes : (c : tie.After-struct_told-4-1)
     → let q = (start c).args.c in Sizes (q.ne ∷ q.nw ∷ q.sw ∷ q.se ∷ []) (most_corner ∷ most_corner ∷ most_corner ∷ most_corner ∷ [])
 sizes c = let q = (start c).requires in q.ne ◂ q.nw ◂ q.sw ◂ q.se ◂ ∎
 

@@ -11,7 +11,7 @@ use Rattle.scheme_probe.specs.Held.{kept, converts, four}
 use Rattle.scheme_probe.proofs.bernoulli_at.Statement.{statement}
 use Rattle.scheme_probe.proofs.bernoulli_at.Tie as tie
 
-abbrev start : tie.After-row_known → tie.Start
+abbrev start : tie.After-row_known-1 → tie.Start
 start c = c.before.before.before.before.before.before.before
 
 small : (c : tie.Start) → nat_abs c.args.g ≤ 2 ^ 53
@@ -23,7 +23,7 @@ returns c =
     let e = f.before in
     let d = e.before in
     let b = d.before.before in
-    rw (f.double_at6.ensures, e.double_at5.ensures, d.double_at4.ensures, d.before.double_at3.ensures, b.double_at2.ensures, b.before.double_at.ensures, kept (start c).args.g (small (start c)), four)
+    rw (f.double_at-2.ensures, e.double_at.ensures, d.double_at-north.ensures, d.before.double_at-south.ensures, b.double_at-east.ensures, b.before.double_at-west.ensures, kept (start c).args.g (small (start c)), four)
 
 pub bernoulli_at_spec : {M : Type 1} → statement M
 bernoulli_at_spec =

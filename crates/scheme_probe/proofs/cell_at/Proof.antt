@@ -23,16 +23,16 @@ use Rattle.scheme_probe.proofs.cell_at.Tie as tie
 abbrev state : tie.Start → State
 state c = let a = c.args in state_of a.p a.h.now a.b.now a.u.now a.v.now []
 
-below : (c : tie.After-around) → let p = c.before.args.p in Below (p.w * p.n) c.around.result
+below : (c : tie.After-around-a) → let p = c.before.args.p in Below (p.w * p.n) c.around-a.result
 below c =
     let p = c.before.requires in
-    around-below (record { columns = p.0.state.columns; rows = p.0.state.rows; column = p.1; row = p.2 }) c.around.ensures
+    around-below (record { columns = p.0.state.columns; rows = p.0.state.rows; column = p.1; row = p.2 }) c.around-a.ensures
 
-corners-in : (c : tie.After-cell_corners) → Below4 (corners (state c.before.before)) c.cell_corners.result
+corners-in : (c : tie.After-cell_corners-k) → Below4 (corners (state c.before.before)) c.cell_corners-k.result
 corners-in c =
     let s = c.before.before in
     let p = s.requires in
-    corners-below (corners-more (walled_west (state s)) p.1) (corners-more (walled_south (state s)) p.2) c.cell_corners.ensures
+    corners-below (corners-more (walled_west (state s)) p.1) (corners-more (walled_south (state s)) p.2) c.cell_corners-k.ensures
 
 -- a double holds each number of the fields
 record Held (s : State) (q : List ℤ) : Type 0 where
@@ -60,9 +60,9 @@ corners_at-requires : tie.Need-corners_at-requires
 corners_at-requires c κs =
     let s = c.before.before in
     let q = s.args.q.now in
-    subst (λ m. Holds m q × Below4 m c.cell_corners.result) (sym s.requires.0.vorticity.long) ((all s).vorticities, corners-in c)
+    subst (λ m. Holds m q × Below4 m c.cell_corners-k.result) (sym s.requires.0.vorticity.long) ((all s).vorticities, corners-in c)
 
-weights_of-requires : tie.Need-weights_of-requires
+weights_of-requires : tie.Need-weights_of-weights-requires
 weights_of-requires c κs =
     let a = c.before in
     let b = corners-in a in
@@ -76,8 +76,8 @@ weights_of-requires c κs =
     }
 
 -- g as the machine holds it
-g-is : (c : tie.After-struct_told) → let p = c.before.before.before.before.before.before.before.before.before.args.p in held w64 p.g ≡ p.g
-g-is c = to_z-of_z {w = w64} (record { sfits = c.struct_told.given.1.1.1.0.1 })
+g-is : (c : tie.After-struct_told-1) → let p = c.before.before.before.before.before.before.before.before.before.args.p in held w64 p.g ≡ p.g
+g-is c = to_z-of_z {w = w64} (record { sfits = c.struct_told-1.given.1.1.1.0.1 })
 
 bernoulli_at-requires : tie.Need-bernoulli_at-requires
 bernoulli_at-requires c κs =
@@ -107,20 +107,20 @@ returns c =
     let x = a.before in
     let s = state x in
     let q = x.args.q.now in
-    let r = a.around.ensures in
-    let o = four.cell_corners.ensures in
+    let r = a.around-a.ensures in
+    let o = four.cell_corners-k.ensures in
     let told = k.corners_at.result in
     let read = k.corners_at.ensures in
-    let rows = weights.weights_of.ensures in
+    let rows = weights.weights_of-weights.ensures in
     record {
       p = rows.0 ∙ weight-around s o q 0 told read;
       m = rows.1 ∙ weight-around s o q 1 told read;
       e = rows.2 ∙ weight-around s o q 2 told read;
       f = rows.3 ∙ weight-around s o q 3 told read;
       west = west.flux_at.ensures ∙ west-around s r;
-      east = east.flux_at2.ensures ∙ east-around s r x.requires.1;
-      south = south.flux_at3.ensures ∙ south-around s r;
-      north = north.flux_at4.ensures ∙ north-around s r x.requires.2;
+      east = east.flux_at-2.ensures ∙ east-around s r x.requires.1;
+      south = south.flux_at-3.ensures ∙ south-around s r;
+      north = north.flux_at-4.ensures ∙ north-around s r x.requires.2;
       bernoulli = c.bernoulli_at.ensures ∙ rw (g-is t) (bernoulli-around s r);
     }
 

@@ -21,7 +21,7 @@ below c = cell-lt c.requires.1 c.requires.2
 most : (c : tie.Start) → let a = c.args in a.j * a.p.w + a.i < 4096
 most c = let s = c.requires.0.0.state in omega (arith, below c, cells-most s.columns s.rows)
 
-abbrev start : tie.After-struct_known → tie.Start
+abbrev start : tie.After-struct_known-1 → tie.Start
 start c = c.before.before.before.before.before.before.before.before
 
 returns : tie.Need-returns
@@ -39,8 +39,8 @@ returns c =
     c.doubles_of.ensures s q refl refl
     (record {
       here = cell-barred s own.Cell-at.ensures;
-      to-west = cell-barred s (subst (λ i. IsCell (unbarred s) q i b.args.j west.cell_at2.result) pw.previous.ensures.0 west.cell_at2.ensures);
-      to-south = record { given = λ o. given (cell-barred s (subst (λ j. IsCell (unbarred s) q b.args.i j south.cell_at3.result) ps.previous2.ensures.0 south.cell_at3.ensures)) given-south.to_north.ensures };
+      to-west = cell-barred s (subst (λ i. IsCell (unbarred s) q i b.args.j west.cell_at-west.result) pw.previous.ensures.0 west.cell_at-west.ensures);
+      to-south = record { given = λ o. given (cell-barred s (subst (λ j. IsCell (unbarred s) q b.args.i j south.cell_at.result) ps.previous-2.ensures.0 south.cell_at.ensures)) given-south.to_north-south.ensures };
     })
 
 pub doubles_at_spec : {M : Type 1} → statement M

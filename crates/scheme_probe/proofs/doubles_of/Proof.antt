@@ -15,8 +15,8 @@ returns c s q kind barrier cells =
     let west = south.before in
     record {
       h = h.convergence.ensures ∙ convergence-is cells;
-      u = at-west cells (west.is_closed.ensures s kind barrier) u.momentum_u.ensures eu.edge_tendency.ensures;
-      v = at-south cells (south.is_closed2.ensures s kind barrier) v.momentum_v.ensures c.edge_tendency2.ensures;
+      u = at-west cells (west.is_closed-closed_west.ensures s kind barrier) u.momentum_u.ensures eu.edge_tendency.ensures;
+      v = at-south cells (south.is_closed-closed_south.ensures s kind barrier) v.momentum_v.ensures c.edge_tendency-2.ensures;
     }
 
 pub doubles_of_spec : {M : Type 1} → statement M

@@ -4,4 +4,4 @@ use Rattle.scheme_probe.proofs.edge_tendency.Statement.{statement}
 use Rattle.scheme_probe.proofs.edge_tendency.Tie as tie
 
 pub edge_tendency_spec : {M : Type 1} → statement M
-edge_tendency_spec = tie.close (tie.spec (λ c. rw c.if1.true none) (λ c. rw c.if1.false))
+edge_tendency_spec = tie.close (tie.spec (λ c. rw c.if-closed.true none) (λ c. rw c.if-closed.false))

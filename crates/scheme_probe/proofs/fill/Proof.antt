@@ -15,8 +15,8 @@ use Rattle.scheme_probe.specs.Rows.{RowFromSouth, row-barred, Handing, handing-n
 use Rattle.scheme_probe.proofs.fill.Statement.{statement}
 use Rattle.scheme_probe.proofs.fill.Tie as tie
 
-abbrev invariant-loop2 : tie.invariant-loop2
-invariant-loop2 p h b u v barriers q dh₀ du₀ dv₀ below₀ j west₀ i₀ j-end i-end dh du dv below west i =
+abbrev invariant-loop-i : tie.invariant-loop-i
+invariant-loop-i p h b u v barriers q dh₀ du₀ dv₀ below₀ j west₀ i₀ j-end i-end dh du dv below west i =
     let s = state_of p h b u v barriers in
     RowWriting p.w p.n (tendency_h s) 0 j dh₀ i dh
     × RowWriting p.w p.n (tendency_u s q) 0 j du₀ i du
@@ -24,11 +24,11 @@ invariant-loop2 p h b u v barriers q dh₀ du₀ dv₀ below₀ j west₀ i₀ j
     × IsCell s q (previous p.w i) j west
     × Handing s q j i below
 
-abbrev decreases-loop2 : tie.decreases-loop2
-decreases-loop2 p h b u v barriers q dh₀ du₀ dv₀ below₀ j west₀ i₀ j-end i-end dh du dv below west i = p.w - i
+abbrev decreases-loop-i : tie.decreases-loop-i
+decreases-loop-i p h b u v barriers q dh₀ du₀ dv₀ below₀ j west₀ i₀ j-end i-end dh du dv below west i = p.w - i
 
-abbrev invariant-loop : tie.invariant-loop
-invariant-loop p h b u v barriers q dh₀ du₀ dv₀ below₀ j₀ j-end dh du dv below j =
+abbrev invariant-loop-j : tie.invariant-loop-j
+invariant-loop-j p h b u v barriers q dh₀ du₀ dv₀ below₀ j₀ j-end dh du dv below j =
     let s = state_of p h b u v barriers in
     (j ≤ p.n)
     × Writing 0 (field p.w p.n (tendency_h s)) dh₀ (j * p.w) dh
@@ -36,30 +36,30 @@ invariant-loop p h b u v barriers q dh₀ du₀ dv₀ below₀ j₀ j-end dh du 
     × Writing 0 (field p.w p.n (tendency_v s q)) dv₀ (j * p.w) dv
     × RowFromSouth s q j below
 
-abbrev decreases-loop : tie.decreases-loop
-decreases-loop p h b u v barriers q dh₀ du₀ dv₀ below₀ j₀ j-end dh du dv below j = p.n - j
+abbrev decreases-loop-j : tie.decreases-loop-j
+decreases-loop-j p h b u v barriers q dh₀ du₀ dv₀ below₀ j₀ j-end dh du dv below j = p.n - j
 
-abbrev state : tie.Start invariant-loop2 decreases-loop2 invariant-loop decreases-loop → State
+abbrev state : tie.Start invariant-loop-i decreases-loop-i invariant-loop-j decreases-loop-j → State
 state c = let a = c.args in state_of a.p a.h.now a.b.now a.u.now a.v.now a.barriers.now
 
 -- the function's entry, from where the rows begin and from a row
-abbrev entry : tie.After-slice_known3 invariant-loop2 decreases-loop2 invariant-loop decreases-loop → tie.Start invariant-loop2 decreases-loop2 invariant-loop decreases-loop
+abbrev entry : tie.After-slice_known-3-1 invariant-loop-i decreases-loop-i invariant-loop-j decreases-loop-j → tie.Start invariant-loop-i decreases-loop-i invariant-loop-j decreases-loop-j
 entry c = c.before.before.before.before
 
-abbrev start : tie.In-loop invariant-loop2 decreases-loop2 invariant-loop decreases-loop → tie.Start invariant-loop2 decreases-loop2 invariant-loop decreases-loop
+abbrev start : tie.In-loop-j invariant-loop-i decreases-loop-i invariant-loop-j decreases-loop-j → tie.Start invariant-loop-i decreases-loop-i invariant-loop-j decreases-loop-j
 start c = entry c.before.before.before
 
 -- ---- the rows begin
 
-loop-holds : tie.Need-loop-init invariant-loop2 decreases-loop2 invariant-loop decreases-loop
-loop-holds c = (zero-le, rows_none _ _ _, rows_none _ _ _, rows_none _ _ _, row-barred (state (entry c.before)) c.from_south.ensures)
+loop-holds : tie.Need-loop-j-init invariant-loop-i decreases-loop-i invariant-loop-j decreases-loop-j
+loop-holds c = (zero-le, rows_none _ _ _, rows_none _ _ _, rows_none _ _ _, row-barred (state (entry c.before)) c.from_south-below.ensures)
 
 -- ---- a row begins
 
-loop2-holds : tie.Need-loop2-init invariant-loop2 decreases-loop2 invariant-loop decreases-loop
+loop2-holds : tie.Need-loop-i-init invariant-loop-i decreases-loop-i invariant-loop-j decreases-loop-j
 loop2-holds c =
     let p = c.before in
-    let l = p.before.before.loop in
+    let l = p.before.before.loop-j in
     let b = start p.before in
     let s = state b in (
       row-none _ _ _ l.j,
@@ -72,107 +72,107 @@ loop2-holds c =
 -- ---- a turn
 
 -- the row of a turn
-abbrev row : tie.In-loop2 invariant-loop2 decreases-loop2 invariant-loop decreases-loop → tie.In-loop invariant-loop2 decreases-loop2 invariant-loop decreases-loop
+abbrev row : tie.In-loop-i invariant-loop-i decreases-loop-i invariant-loop-j decreases-loop-j → tie.In-loop-j invariant-loop-i decreases-loop-i invariant-loop-j decreases-loop-j
 row c = c.before.before.before.before
 
-below : (c : tie.In-loop2 invariant-loop2 decreases-loop2 invariant-loop decreases-loop) → let p = (start (row c)).args.p in (row c).before.loop.j * p.w + c.before.loop2.i < p.w * p.n
-below c = cell-lt c.loop2-test.true (row c).loop-test.true
+below : (c : tie.In-loop-i invariant-loop-i decreases-loop-i invariant-loop-j decreases-loop-j) → let p = (start (row c)).args.p in (row c).before.loop-j.j * p.w + c.before.loop-i.i < p.w * p.n
+below c = cell-lt c.loop-i-test.true (row c).loop-j-test.true
 
-most : (c : tie.In-loop2 invariant-loop2 decreases-loop2 invariant-loop decreases-loop) → let p = (start (row c)).args.p in (row c).before.loop.j * p.w + c.before.loop2.i < 4096
+most : (c : tie.In-loop-i invariant-loop-i decreases-loop-i invariant-loop-j decreases-loop-j) → let p = (start (row c)).args.p in (row c).before.loop-j.j * p.w + c.before.loop-i.i < 4096
 most c = let s = (start (row c)).pre.0.0.state in omega (arith, below c, cells-most s.columns s.rows)
 
-in-below : (c : tie.In-loop2 invariant-loop2 decreases-loop2 invariant-loop decreases-loop) → c.before.loop2.i < 64
-in-below c = omega (arith, c.loop2-test.true, (start (row c)).pre.0.0.state.columns.most)
+in-below : (c : tie.In-loop-i invariant-loop-i decreases-loop-i invariant-loop-j decreases-loop-j) → c.before.loop-i.i < 64
+in-below c = omega (arith, c.loop-i-test.true, (start (row c)).pre.0.0.state.columns.most)
 
-in_row : (c : tie.In-loop2 invariant-loop2 decreases-loop2 invariant-loop decreases-loop)
-    → let k = (row c).before.loop.j * (start (row c)).args.p.w + c.before.loop2.i in
-    (k < length c.before.loop2.dh) × (k < length c.before.loop2.du) × (k < length c.before.loop2.dv)
+in_row : (c : tie.In-loop-i invariant-loop-i decreases-loop-i invariant-loop-j decreases-loop-j)
+    → let k = (row c).before.loop-j.j * (start (row c)).args.p.w + c.before.loop-i.i in
+    (k < length c.before.loop-i.dh) × (k < length c.before.loop-i.du) × (k < length c.before.loop-i.dv)
 in_row c =
-    let l = c.before.loop2.invariant in
-    let o = (row c).before.loop.invariant in
+    let l = c.before.loop-i.invariant in
+    let o = (row c).before.loop-j.invariant in
     let r = (start (row c)).pre.1 in (
       omega (arith, below c, l.0.long, o.1.long, r.h),
       omega (arith, below c, l.1.long, o.2.long, r.u),
       omega (arith, below c, l.2.long, o.3.long, r.v),
     )
 
-abbrev turn : tie.After-doubles_of invariant-loop2 decreases-loop2 invariant-loop decreases-loop → tie.In-loop2 invariant-loop2 decreases-loop2 invariant-loop decreases-loop
+abbrev turn : tie.After-doubles_of-d invariant-loop-i decreases-loop-i invariant-loop-j decreases-loop-j → tie.In-loop-i invariant-loop-i decreases-loop-i invariant-loop-j decreases-loop-j
 turn c = c.before.before.before.before.before.before
 
 -- what the turn works out
-doubles : (c : tie.After-doubles_of invariant-loop2 decreases-loop2 invariant-loop decreases-loop)
+doubles : (c : tie.After-doubles_of-d invariant-loop-i decreases-loop-i invariant-loop-j decreases-loop-j)
     → let t = turn c in let b = start (row t) in
-    AreDoubles (state b) b.args.q.now t.before.loop2.i (row t).before.loop.j c.doubles_of.result
+    AreDoubles (state b) b.args.q.now t.before.loop-i.i (row t).before.loop-j.j c.doubles_of-d.result
 doubles c =
     let own = c.before.before.before.before.before in
     let t = turn c in
     let b = start (row t) in
     let s = state b in
-    let inv = t.before.loop2.inv in
-    c.doubles_of.ensures s b.args.q.now refl refl
+    let inv = t.before.loop-i.inv in
+    c.doubles_of-d.ensures s b.args.q.now refl refl
     (record {
-      here = cell-barred s own.cell_at2.ensures;
+      here = cell-barred s own.cell_at-own.ensures;
       to-west = inv.3;
-      to-south = handing-south inv.4 _ t.loop2-test.taken;
+      to-south = handing-south inv.4 _ t.loop-i-test.taken;
     })
 
-loop2-again : tie.Need-loop2-preserved invariant-loop2 decreases-loop2 invariant-loop decreases-loop
+loop2-again : tie.Need-loop-i-preserved invariant-loop-i decreases-loop-i invariant-loop-j decreases-loop-j
 loop2-again c =
     let t = turn c in
     let b = start (row t) in
     let s = state b in
-    let inv = t.before.loop2.inv in
-    let p = t.loop2-test.taken in
-    let r = (row t).loop-test.taken in
+    let inv = t.before.loop-i.inv in
+    let p = t.loop-i-test.taken in
+    let r = (row t).loop-j-test.taken in
     let d = doubles c in
     let north = c.before.before.before in
-    let own = north.before.before.cell_at2 in
+    let own = north.before.before.cell_at-own in
     let here = cell-barred s own.ensures in (
       row-filled _ _ _ inv.0 p r d.h,
       row-filled _ _ _ inv.1 p r d.u,
       row-filled _ _ _ inv.2 p r d.v,
-      subst (λ i. IsCell s b.args.q.now i (row t).before.loop.j own.result) (sym (previous-after p)) here,
+      subst (λ i. IsCell s b.args.q.now i (row t).before.loop-j.j own.result) (sym (previous-after p)) here,
       handing-more inv.4 p r (given here north.to_north.ensures),
     )
 
 -- ---- a row is filled, and all are
 
-loop-again : tie.Need-loop-preserved invariant-loop2 decreases-loop2 invariant-loop decreases-loop
+loop-again : tie.Need-loop-j-preserved invariant-loop-i decreases-loop-i invariant-loop-j decreases-loop-j
 loop-again c =
-    let inv2 = c.before.loop2.invariant in
-    let all = c.loop2-test.false in
+    let inv2 = c.before.loop-i.invariant in
+    let all = c.loop-i-test.false in
     let t = c.before.before.before.before in
     let s = start t in
-    let inv = t.before.loop.invariant in
-    let j = t.before.loop.j in (
-      omega (arith, t.loop-test.true),
+    let inv = t.before.loop-j.invariant in
+    let j = t.before.loop-j.j in (
+      omega (arith, t.loop-j-test.true),
       row_done _ _ _ j inv2.0 all (omega (arith, s.pre.1.h)) inv.1,
       row_done _ _ _ j inv2.1 all (omega (arith, s.pre.1.u)) inv.2,
       row_done _ _ _ j inv2.2 all (omega (arith, s.pre.1.v)) inv.3,
       handing-all inv2.4 all,
     )
 
-returns : tie.Need-returns invariant-loop2 decreases-loop2 invariant-loop decreases-loop
+returns : tie.Need-returns invariant-loop-i decreases-loop-i invariant-loop-j decreases-loop-j
 unfolding h_doubles u_doubles v_doubles
 returns c =
-    let inv = c.before.loop.invariant in
-    let all = c.loop-test.false in
+    let inv = c.before.loop-j.invariant in
+    let all = c.loop-j-test.false in
     (rows-filled _ _ _ inv.1 all, rows-filled _ _ _ inv.2 all, rows-filled _ _ _ inv.3 all)
 
 pub fill_spec : {M : Type 1} → statement M
 fill_spec =
     tie.close
     (tie.spec
-    invariant-loop2
-    decreases-loop2
-    invariant-loop
-    decreases-loop
+    invariant-loop-i
+    decreases-loop-i
+    invariant-loop-j
+    decreases-loop-j
     (λ c κs. let b = entry c in (walls-ready (state b) b.pre.0.0, b.pre.0.0.state.rows.some))
     loop-holds
     (λ c κs. (start c).requires.0.0.state.columns.some)
-    (λ c κs. let b = start c.before in (walls-ready (state b) b.pre.0.0, c.previous.ensures.1, c.before.loop-test.true))
+    (λ c κs. let b = start c.before in (walls-ready (state b) b.pre.0.0, c.previous.ensures.1, c.before.loop-j-test.true))
     loop2-holds
-    (λ c κs. let b = start (row c) in (walls-ready (state b) b.pre.0.0, c.loop2-test.true, (row c).loop-test.true))
+    (λ c κs. let b = start (row c) in (walls-ready (state b) b.pre.0.0, c.loop-i-test.true, (row c).loop-j-test.true))
     (λ c. omega (arith, in-below c.before))
     (λ c. in-below c.before)
     (λ c κs. tt)
@@ -189,12 +189,12 @@ fill_spec =
     (λ c. omega (arith, most (turn c)))
     (λ c. (in_row (turn c)).2)
     (λ c. omega (arith, in-below (turn c)))
-    (λ c. omega (arith, (turn c).loop2-test.true))
+    (λ c. omega (arith, (turn c).loop-i-test.true))
     loop2-again
-    (λ c. let t = c.before.before.before.before in omega (arith, t.loop-test.true, (start t).requires.0.0.state.rows.most))
-    (λ c. omega (arith, c.before.before.before.before.loop-test.true))
+    (λ c. let t = c.before.before.before.before in omega (arith, t.loop-j-test.true, (start t).requires.0.0.state.rows.most))
+    (λ c. omega (arith, c.before.before.before.before.loop-j-test.true))
     loop-again
-    (λ c. c.before.loop.invariant.1.long)
-    (λ c. c.before.loop.invariant.2.long)
-    (λ c. c.before.loop.invariant.3.long)
+    (λ c. c.before.loop-j.invariant.1.long)
+    (λ c. c.before.loop-j.invariant.2.long)
+    (λ c. c.before.loop-j.invariant.3.long)
     returns)

@@ -10,4 +10,4 @@ flux_at_spec =
     (λ c κs. search rules)
     (λ c κs. search rules)
     (λ c κs. search rules)
-    (λ c. rw (c.before.before.double_at.ensures, c.before.double_at2.ensures, c.double_at3.ensures)))
+    (λ c. rw (c.before.before.double_at.ensures, c.before.double_at-2.ensures, c.double_at-3.ensures)))

@@ -16,9 +16,9 @@ use Rattle.scheme_probe.proofs.is_narrow.Tie as tie
 abbrev state : tie.Start → State
 state c = let a = c.args in state_of a.p a.h.now a.b.now a.u.now a.v.now []
 
-chain : (c : tie.After-then_narrow5)
+chain : (c : tie.After-then_narrow)
     → let b = c.before.before.before.before.before in
-    Chain Accepted c.then_narrow5.result (value_tests Value (narrow_fields (state b) b.args.q.now))
+    Chain Accepted c.then_narrow.result (value_tests Value (narrow_fields (state b) b.args.q.now))
 chain c =
     let v = c.before in
     let u = v.before in
@@ -29,19 +29,19 @@ chain c =
     more (value_tests Value (narrowed s Vorticity q ∷ []))
     (more (value_tests Value (narrowed s VelocityV s.v ∷ []))
     (more (value_tests Value (narrowed s VelocityU s.u ∷ []))
-    (more (value_tests Value (narrowed s Bottom s.b ∷ [])) (start Accepted (value_tests Value (narrowed s Depth s.h ∷ [])) h.then_narrow.ensures) b.then_narrow2.ensures) u.then_narrow3.ensures) v.then_narrow4.ensures) c.then_narrow5.ensures
+    (more (value_tests Value (narrowed s Bottom s.b ∷ [])) (start Accepted (value_tests Value (narrowed s Depth s.h ∷ [])) h.then_narrow-depth.ensures) b.then_narrow-bottom.ensures) u.then_narrow-west.ensures) v.then_narrow-south.ensures) c.then_narrow.ensures
 
-returns : tie.Need-returns
+returns : tie.Need-returns-in-Accepted
 returns c =
     let t = c.before.before in
     let b = t.before.before.before.before.before in
-    narrow-yes (state b) b.args.q.now (sym c.enum_told.given.1 ∙ (chain t).is)
+    narrow-yes (state b) b.args.q.now (sym c.enum_told-1.given.1 ∙ (chain t).is)
 
-returns-2 : tie.Need-returns-2
+returns-2 : tie.Need-returns-in-Refused
 returns-2 c =
     let t = c.before.before in
     let b = t.before.before.before.before.before in
-    narrow-no (state b) b.args.q.now _ (sym c.enum_told2.given.1 ∙ (chain t).is)
+    narrow-no (state b) b.args.q.now _ (sym c.enum_told-in-Refused-1.given.1 ∙ (chain t).is)
 
 pub is_narrow_spec : {M : Type 1} → statement M
 is_narrow_spec =

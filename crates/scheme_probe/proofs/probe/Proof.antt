@@ -28,23 +28,23 @@ tested c =
     let b = m.before.before in
     let a = b.args in
     let s = state b in
-    let g = start Accepted (state_tests s (taken s Vorticity a.q.now ∷ []) [] []) t.test_vorticity.ensures in
-    (counted (λ k. cell_test k a.cell ∷ []) g (λ h. m.cells_of.ensures.0 (passed g h).0) c.then_cell.ensures).is
+    let g = start Accepted (state_tests s (taken s Vorticity a.q.now ∷ []) [] []) t.test_vorticity-state.ensures in
+    (counted (λ k. cell_test k a.cell ∷ []) g (λ h. m.cells_of-m.ensures.0 (passed g h).0) c.then_cell.ensures).is
 
 -- once they have passed
-abbrev begin : tie.After-enum_told → tie.Start
+abbrev begin : tie.In-Accepted → tie.Start
 begin c = c.before.before.before.before.before.before
 
-accepted : (c : tie.After-enum_told) → let b = begin c in Accepted ≡ answer_of (probe_test (state b) b.args.q.now b.args.cell)
-accepted c = sym c.enum_told.given.1 ∙ tested c.before.before
+accepted : (c : tie.In-Accepted) → let b = begin c in Accepted ≡ answer_of (probe_test (state b) b.args.q.now b.args.cell)
+accepted c = sym c.enum_told-1.given.1 ∙ tested c.before.before
 
-inside : (c : tie.After-enum_told) → let b = begin c in Ready (state b) b.args.q.now × (b.args.cell < cells (state b))
+inside : (c : tie.In-Accepted) → let b = begin c in Ready (state b) b.args.q.now × (b.args.cell < cells (state b))
 inside c = let b = begin c in probe-passed (state b) b.args.q.now b.args.cell (accepted c)
 
-some : (c : tie.After-enum_told) → 0 < (begin c).args.p.w
+some : (c : tie.In-Accepted) → 0 < (begin c).args.p.w
 some c = (inside c).0.0.state.columns.some
 
-returns : tie.Need-returns
+returns : tie.Need-returns-in-Accepted
 returns c =
     let n = c.before in
     let d = n.before in
@@ -52,14 +52,14 @@ returns c =
     let b = begin e in
     let s = state b in
     let q = b.args.q.now in
-    probe-done s q b.args.cell (accepted e) (n.is_narrow.ensures ∙ narrow-barred s q) d.doubles_at.ensures c.mark.ensures
+    probe-done s q b.args.cell (accepted e) (n.is_narrow.ensures ∙ narrow-barred s q) d.doubles_at-d.ensures c.mark.ensures
 
-returns-2 : tie.Need-returns-2
+returns-2 : tie.Need-returns-in-Refused
 returns-2 c =
     let k = c.before in
     let t = k.before.before in
     let b = t.before.before.before.before in
-    probe-refused (state b) b.args.q.now b.args.cell _ (sym k.refusal.given.1 ∙ tested t)
+    probe-refused (state b) b.args.q.now b.args.cell _ (sym k.refusal-1.given.1 ∙ tested t)
 
 pub probe_spec : {M : Type 1} → statement M
 probe_spec =

@@ -21,7 +21,7 @@ state c = let a = c.args in state_of a.p a.h.now a.b.now a.u.now a.v.now a.barri
 
 -- what belongs into the destinations, and what they hold before
 abbrev fillings : tie.Start → List (Filling Float)
-fillings c = let a = c.args in h_doubles (state c) into a.dh.now ∷ u_doubles (state c) a.q.now into a.du.now ∷ v_doubles (state c) a.q.now into a.dv.now ∷ []
+fillings c = let a = c.args in h_doubles (state c) into a.dh-1.now ∷ u_doubles (state c) a.q.now into a.du-1.now ∷ v_doubles (state c) a.q.now into a.dv-1.now ∷ []
 
 -- what the tests have found, once all are made
 abbrev entry : tie.After-then_rooms → tie.Start
@@ -29,29 +29,29 @@ entry c = c.before.before.before.before.before.before.before
 
 tested : (c : tie.After-then_rooms)
     → let b = entry c in let a = b.args in
-    c.then_rooms.result ≡ answer_of (tendencies_test (state b) a.q.now (length a.dh.now) (length a.du.now) (length a.dv.now))
+    c.then_rooms.result ≡ answer_of (tendencies_test (state b) a.q.now (length a.dh-1.now) (length a.du-1.now) (length a.dv-1.now))
 tested c =
     let t = c.before in
     let b = entry c in
-    tendencies-tested (state b) b.args.q.now _ _ _ t.test_vorticity.ensures t.before.cells_of.ensures.0 c.then_rooms.ensures
+    tendencies-tested (state b) b.args.q.now _ _ _ t.test_vorticity-state.ensures t.before.cells_of-m.ensures.0 c.then_rooms.ensures
 
 -- once they have passed
-abbrev begin : tie.After-enum_told → tie.Start
+abbrev begin : tie.In-Accepted → tie.Start
 begin c = entry c.before.before
 
-accepted : (c : tie.After-enum_told)
+accepted : (c : tie.In-Accepted)
     → let b = begin c in let a = b.args in
-    Accepted ≡ answer_of (tendencies_test (state b) a.q.now (length a.dh.now) (length a.du.now) (length a.dv.now))
-accepted c = sym c.enum_told.given.1 ∙ tested c.before.before
+    Accepted ≡ answer_of (tendencies_test (state b) a.q.now (length a.dh-1.now) (length a.du-1.now) (length a.dv-1.now))
+accepted c = sym c.enum_told-1.given.1 ∙ tested c.before.before
 
-inside : (c : tie.After-enum_told) → let b = begin c in let a = b.args in Ready (state b) a.q.now × Room (cells (state b)) a.dh.now a.du.now a.dv.now
+inside : (c : tie.In-Accepted) → let b = begin c in let a = b.args in Ready (state b) a.q.now × Room (cells (state b)) a.dh-1.now a.du-1.now a.dv-1.now
 inside c =
     let b = begin c in
     let a = b.args in
-    let p = tendencies-passed (state b) a.q.now a.dh.now a.du.now a.dv.now (accepted c) in
+    let p = tendencies-passed (state b) a.q.now a.dh-1.now a.du-1.now a.dv-1.now (accepted c) in
     ((p.0, p.1), p.2)
 
-done : tie.Need-returns
+done : tie.Need-returns-in-Accepted
 done c =
     let n = c.before in
     let f = n.before.before.before.before.before.before.before in
@@ -64,13 +64,13 @@ done c =
     (c.mark_grid.ensures ∙ ap marked_grid (n.is_narrow.ensures ∙ narrow-barred s q))
     (λ i. l.0 i ∷ l.1 i ∷ l.2 i ∷ [])
 
-refused : tie.Need-returns-2
+refused : tie.Need-returns-in-Refused
 refused c =
     let k = c.before in
     let t = k.before.before in
     let b = entry t in
     let s = state b in
-    fill-refused (probe_grid_answer (narrow s b.args.q.now)) told_probe_grid (cells s) (fillings b) _ (refused-some _ _ (sym k.refusal.given.1 ∙ tested t)) refl
+    fill-refused (probe_grid_answer (narrow s b.args.q.now)) told_probe_grid (cells s) (fillings b) _ (refused-some _ _ (sym k.refusal-1.given.1 ∙ tested t)) refl
 
 pub probe_grid_spec : {M : Type 1} → statement M
 probe_grid_spec =

@@ -18,8 +18,8 @@ use Rattle.scheme.specs.Handing.{FromWest, to-east, Handing, handing-none, handi
 use Rattle.scheme_tendencies.proofs.fill_row.Statement.{statement}
 use Rattle.scheme_tendencies.proofs.fill_row.Tie as tie
 
-abbrev invariant-loop : tie.invariant-loop
-invariant-loop p h b u v q j handed₀ dh₀ du₀ dv₀ from-west₀ i₀ i-end handed dh du dv from-west i =
+abbrev invariant-loop-i : tie.invariant-loop-i
+invariant-loop-i p h b u v q j handed₀ dh₀ du₀ dv₀ from-west₀ i₀ i-end handed dh du dv from-west i =
     let s = state_of p h b u v [] in
     RowWriting p.w p.n (λ i j. neg_ℤ (D s i j)) 0 j dh₀ i dh
     × RowWriting p.w p.n (tendency_u s q) 0 j du₀ i du
@@ -27,78 +27,78 @@ invariant-loop p h b u v q j handed₀ dh₀ du₀ dv₀ from-west₀ i₀ i-end
     × Handing s q j handed₀ i handed
     × FromWest s q i j (to_z w64 from-west)
 
-abbrev decreases-loop : tie.decreases-loop
-decreases-loop p h b u v q j handed₀ dh₀ du₀ dv₀ from-west₀ i₀ i-end handed dh du dv from-west i = p.w - i
+abbrev decreases-loop-i : tie.decreases-loop-i
+decreases-loop-i p h b u v q j handed₀ dh₀ du₀ dv₀ from-west₀ i₀ i-end handed dh du dv from-west i = p.w - i
 
-abbrev state : tie.Start invariant-loop decreases-loop → State
+abbrev state : tie.Start invariant-loop-i decreases-loop-i → State
 state c = let a = c.args in state_of a.p a.h.now a.b.now a.u.now a.v.now []
 
 -- ---- the row begins
 
-loop-holds : tie.Need-loop-init invariant-loop decreases-loop
+loop-holds : tie.Need-loop-i-init invariant-loop-i decreases-loop-i
 loop-holds c =
     let s = c.before in
     let a = s.args in
-    let x = c.from_west in
+    let x = c.from_west-bits in
     (row-none _ _ _ a.j, row-none _ _ _ a.j, row-none _ _ _ a.j, handing-none s.requires.2, subst (FromWest (state s) a.q.now 0 a.j) (sym (held-is w64 x.type_inv refl)) x.ensures)
 
 -- ---- a turn
 
-abbrev begin : tie.In-loop invariant-loop decreases-loop → tie.Start invariant-loop decreases-loop
+abbrev begin : tie.In-loop-i invariant-loop-i decreases-loop-i → tie.Start invariant-loop-i decreases-loop-i
 begin c = c.before.before.before
 
-abbrev turn : tie.After-struct_known invariant-loop decreases-loop → tie.In-loop invariant-loop decreases-loop
+abbrev turn : tie.After-struct_known-1 invariant-loop-i decreases-loop-i → tie.In-loop-i invariant-loop-i decreases-loop-i
 turn c = c.before.before.before.before.before.before.before.before
 
-below : (c : tie.In-loop invariant-loop decreases-loop) → let a = (begin c).args in a.j * a.p.w + c.before.loop.i < a.p.w * a.p.n
-below c = cell-lt c.loop-test.true (begin c).requires.1
+below : (c : tie.In-loop-i invariant-loop-i decreases-loop-i) → let a = (begin c).args in a.j * a.p.w + c.before.loop-i.i < a.p.w * a.p.n
+below c = cell-lt c.loop-i-test.true (begin c).requires.1
 
-most : (c : tie.In-loop invariant-loop decreases-loop) → let a = (begin c).args in a.j * a.p.w + c.before.loop.i < 4096
+most : (c : tie.In-loop-i invariant-loop-i decreases-loop-i) → let a = (begin c).args in a.j * a.p.w + c.before.loop-i.i < 4096
 most c = let s = (begin c).requires.0.state in omega (arith, below c, cells-most s.columns s.rows)
 
-in-handed : (c : tie.In-loop invariant-loop decreases-loop) → c.before.loop.i < length c.before.loop.handed
-in-handed c = omega (arith, c.loop-test.true, c.before.loop.invariant.3.long, (begin c).requires.2.long)
+in-handed : (c : tie.In-loop-i invariant-loop-i decreases-loop-i) → c.before.loop-i.i < length c.before.loop-i.handed
+in-handed c = omega (arith, c.loop-i-test.true, c.before.loop-i.invariant.3.long, (begin c).requires.2.long)
 
-in_row : (c : tie.In-loop invariant-loop decreases-loop)
-    → let a = (begin c).args in let k = a.j * a.p.w + c.before.loop.i in
-    (k < length c.before.loop.dh) × (k < length c.before.loop.du) × (k < length c.before.loop.dv)
+in_row : (c : tie.In-loop-i invariant-loop-i decreases-loop-i)
+    → let a = (begin c).args in let k = a.j * a.p.w + c.before.loop-i.i in
+    (k < length c.before.loop-i.dh) × (k < length c.before.loop-i.du) × (k < length c.before.loop-i.dv)
 in_row c =
-    let l = c.before.loop.invariant in
+    let l = c.before.loop-i.invariant in
     let r = (begin c).requires.3 in
     (omega (arith, below c, l.0.long, r.h), omega (arith, below c, l.1.long, r.u), omega (arith, below c, l.2.long, r.v))
 
-tendencies_at-requires : tie.Need-tendencies_at-requires invariant-loop decreases-loop
+tendencies_at-requires : tie.Need-tendencies_at-cell-requires invariant-loop-i decreases-loop-i
 tendencies_at-requires c κs =
     let i = c.before in
     let s = begin i in
-    let inv = i.before.loop.invariant in
-    (s.pre.0, i.loop-test.true, s.pre.1, inv.4, handing-south inv.3 s.pre.0 i.loop-test.true s.pre.1)
+    let inv = i.before.loop-i.invariant in
+    (s.pre.0, i.loop-i-test.true, s.pre.1, inv.4, handing-south inv.3 s.pre.0 i.loop-i-test.true s.pre.1)
 
-loop-again : tie.Need-loop-preserved invariant-loop decreases-loop
+loop-again : tie.Need-loop-i-preserved invariant-loop-i decreases-loop-i
 loop-again c =
     let t = c.before.before.before.before.before in
     let k = t.before in
     let i = turn c in
     let s = begin i in
-    let inv = i.before.loop.inv in
-    let p = i.loop-test.taken in
+    let inv = i.before.loop-i.inv in
+    let p = i.loop-i-test.taken in
     let r = s.pre.1 in
     let fit = fit-in s.pre.0 p r in
-    let e = k.tendencies_at.ensures in (
-      row-filled _ _ _ inv.0 p r (held-is w64 t.struct_told.given.0.1 e.depth),
-      row-filled _ _ _ inv.1 p r (held-is w64 t.struct_told.given.1.0.1 e.u),
-      row-filled _ _ _ inv.2 p r (held-is w64 t.struct_told.given.1.1.0.1 e.v),
+    let e = k.tendencies_at-cell.ensures in (
+      row-filled _ _ _ inv.0 p r (held-is w64 t.struct_told-1.given.0.1 e.depth),
+      row-filled _ _ _ inv.1 p r (held-is w64 t.struct_told-1.given.1.0.1 e.u),
+      row-filled _ _ _ inv.2 p r (held-is w64 t.struct_told-1.given.1.1.0.1 e.v),
       handing-more inv.3 (in-handed i) r (share-held (abs-as e.north (north-size fit)) ∙ e.north),
       to-east p (share-held (abs-as e.east (east-size fit)) ∙ e.east),
     )
 
 -- ---- the row is filled
 
-returns : tie.Need-returns invariant-loop decreases-loop
+returns : tie.Need-returns invariant-loop-i decreases-loop-i
 returns c =
     let s = c.before.before.before in
-    let inv = c.before.loop.invariant in
-    let all = c.loop-test.false in (
+    let inv = c.before.loop-i.invariant in
+    let all = c.loop-i-test.false in (
       row-whole _ _ _ inv.0 all,
       row-whole _ _ _ inv.1 all,
       row-whole _ _ _ inv.2 all,
@@ -109,8 +109,8 @@ pub fill_row_spec : {M : Type 1} → statement M
 fill_row_spec =
     tie.close
     (tie.spec
-    invariant-loop
-    decreases-loop
+    invariant-loop-i
+    decreases-loop-i
     (λ c κs. (c.requires.0, c.requires.0.state.columns.some, c.requires.1))
     loop-holds
     (λ c. omega (arith, most c))
@@ -127,10 +127,10 @@ fill_row_spec =
     (λ c. omega (arith, most (turn c)))
     (λ c. in-handed (turn c))
     (λ c. omega (arith, most (turn c)))
-    (λ c. omega (arith, (turn c).loop-test.true))
+    (λ c. omega (arith, (turn c).loop-i-test.true))
     loop-again
-    (λ c. c.before.loop.invariant.3.long)
-    (λ c. c.before.loop.invariant.0.long)
-    (λ c. c.before.loop.invariant.1.long)
-    (λ c. c.before.loop.invariant.2.long)
+    (λ c. c.before.loop-i.invariant.3.long)
+    (λ c. c.before.loop-i.invariant.0.long)
+    (λ c. c.before.loop-i.invariant.1.long)
+    (λ c. c.before.loop-i.invariant.2.long)
     returns)

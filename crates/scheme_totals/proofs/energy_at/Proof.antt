@@ -20,38 +20,38 @@ use Rattle.scheme_totals.proofs.energy_at.Tie as tie
 abbrev state : tie.Start → State
 state c = let a = c.args in state_of a.p a.h.now a.b.now a.u.now a.v.now []
 
-below : (c : tie.After-around) → let p = c.before.args.p in Below (p.w * p.n) c.around.result
+below : (c : tie.After-around-a) → let p = c.before.args.p in Below (p.w * p.n) c.around-a.result
 below c =
     let p = c.before.requires in
-    around-below (record { columns = p.0.columns; rows = p.0.rows; column = p.1; row = p.2 }) c.around.ensures
+    around-below (record { columns = p.0.columns; rows = p.0.rows; column = p.1; row = p.2 }) c.around-a.ensures
 
 -- the potential energy of the cell
-abbrev potential : tie.After-around → ℤ
-potential c = let a = c.before.args in potential_at a.p.g a.h.now a.b.now c.around.result.here
+abbrev potential : tie.After-around-a → ℤ
+potential c = let a = c.before.args in potential_at a.p.g a.h.now a.b.now c.around-a.result.here
 
 -- g as the machine holds it
-g-is : (c : tie.After-struct_told) → let p = c.before.before.before.before.args.p in held w64 p.g ≡ p.g
-g-is c = to_z-of_z {w = w64} (record { sfits = c.struct_told.given.1.1.1.0.1 })
+g-is : (c : tie.After-struct_told-1) → let p = c.before.before.before.before.args.p in held w64 p.g ≡ p.g
+g-is c = to_z-of_z {w = w64} (record { sfits = c.struct_told-1.given.1.1.1.0.1 })
 
 potential-is : (c : tie.After-potential_at) → c.potential_at.result ≡ potential c.before.before.before.before
 potential-is c =
     let r = c.before.before.before.before in
     let a = r.before.args in
-    c.potential_at.ensures ∙ ap (λ (g : ℤ). potential_at g a.h.now a.b.now r.around.result.here) (g-is c.before)
+    c.potential_at.ensures ∙ ap (λ (g : ℤ). potential_at g a.h.now a.b.now r.around-a.result.here) (g-is c.before)
 
-sizes : (c : tie.After-kinetic_at2) → Sizes (c.before.kinetic_at.result ∷ c.kinetic_at2.result ∷ potential c.before.before ∷ []) (most_kinetic ∷ most_kinetic ∷ most_potential ∷ [])
+sizes : (c : tie.After-kinetic_at-south) → Sizes (c.before.kinetic_at-west.result ∷ c.kinetic_at-south.result ∷ potential c.before.before ∷ []) (most_kinetic ∷ most_kinetic ∷ most_potential ∷ [])
 sizes c =
     let a = c.before.before in
     let b = below a in
-    rw (c.before.kinetic_at.ensures, c.kinetic_at2.ensures) (energy-sizes a.before.requires.0 (omega arith) (omega arith) (omega arith))
+    rw (c.before.kinetic_at-west.ensures, c.kinetic_at-south.ensures) (energy-sizes a.before.requires.0 (omega arith) (omega arith) (omega arith))
 
-kinetic_at-requires : tie.Need-kinetic_at-requires
+kinetic_at-requires : tie.Need-kinetic_at-west-requires
 kinetic_at-requires c κs =
     let b = below c in
     let l = c.before.requires.0 in
     (reads l.us (omega arith), reads l.depths (omega arith), reads l.depths (omega arith))
 
-kinetic_at-requires-2 : tie.Need-kinetic_at-requires-2
+kinetic_at-requires-2 : tie.Need-kinetic_at-south-requires
 kinetic_at-requires-2 c κs =
     let b = below c.before in
     let l = c.before.before.requires.0 in
@@ -72,7 +72,7 @@ returns c =
     let k = c.before.before in
     let a = k.before.before in
     rw (potential-is c)
-    (exact w64 energy_expr (sizes k) tt ∙ rw (k.before.kinetic_at.ensures, k.kinetic_at2.ensures) (energy-around (state a.before) a.around.ensures))
+    (exact w64 energy_expr (sizes k) tt ∙ rw (k.before.kinetic_at-west.ensures, k.kinetic_at-south.ensures) (energy-around (state a.before) a.around-a.ensures))
 
 pub energy_at_spec : {M : Type 1} → statement M
 energy_at_spec =

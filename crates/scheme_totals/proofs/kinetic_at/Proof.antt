@@ -11,7 +11,7 @@ use Rattle.scheme_totals.specs.Energy.{kinetic_expr}
 use Rattle.scheme_totals.proofs.kinetic_at.Statement.{statement}
 use Rattle.scheme_totals.proofs.kinetic_at.Tie as tie
 
-sizes : (c : tie.After-result2) → let a = c.before.before.before.args in Sizes (get_or a.x.now a.k (pos 0) ∷ get_or a.h.now a.l (pos 0) ∷ get_or a.h.now a.k (pos 0) ∷ []) (5000 ∷ 100000 ∷ 100000 ∷ [])
+sizes : (c : tie.After-result-2-1) → let a = c.before.before.before.args in Sizes (get_or a.x.now a.k (pos 0) ∷ get_or a.h.now a.l (pos 0) ∷ get_or a.h.now a.k (pos 0) ∷ []) (5000 ∷ 100000 ∷ 100000 ∷ [])
 sizes c = let p = c.before.before.before.requires in velocity-size p.0.value ◂ depth-size p.1.value ◂ depth-size p.2.value ◂ ∎
 
 returns : tie.Need-returns

@@ -20,8 +20,8 @@ use Rattle.scheme_totals.proofs.total_depth.Tie as tie
 abbrev state : tie.Start → State
 state c = let a = c.args in state_of a.p a.h.now a.b.now a.u.now a.v.now a.barriers.now
 
-passed : (c : tie.After-enum_told) → Accepted ≡ answer_of (first_found (total_tests (state c.before.before.before.before)))
-passed c = sym c.enum_told.given.1 ∙ c.before.before.test_state.ensures
+passed : (c : tie.In-Accepted) → Accepted ≡ answer_of (first_found (total_tests (state c.before.before.before.before)))
+passed c = sym c.enum_told-1.given.1 ∙ c.before.before.test_state.ensures
 
 sum_depths-requires : tie.Need-sum_depths-requires
 sum_depths-requires c κs =
@@ -31,18 +31,18 @@ sum_depths-requires c κs =
     let e = sym l.depths.long in
     (subst (λ (m : ℕ). FieldWithin depth_limits m h) e l.depths, subst (λ (m : ℕ). m ≤ 4096) e (cells-most l.columns l.rows))
 
-returns : tie.Need-returns
+returns : tie.Need-returns-in-Accepted
 unfolding total_depth
 returns c =
     let e = total-told (state c.before.before.before.before.before) (passed c.before) (held-is w64 c.sum_depths.type_inv c.sum_depths.ensures) in
     record { answers = e; tells = ap told_total e }
 
-returns-2 : tie.Need-returns-2
+returns-2 : tie.Need-returns-in-Refused
 returns-2 c =
     let k = c.before in
     let t = k.before.before in
     let s = state t.before.before in
-    let e = total-refused s (total_depth s) (sym k.refusal.given.1 ∙ t.test_state.ensures) in
+    let e = total-refused s (total_depth s) (sym k.refusal-1.given.1 ∙ t.test_state.ensures) in
     record { answers = e; tells = ap told_total e }
 
 pub total_depth_spec : {M : Type 1} → statement M

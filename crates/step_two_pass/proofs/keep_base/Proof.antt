@@ -16,19 +16,19 @@ returns c =
     let s = x.before.before in
     let a = s.args in
     let m = a.m in
-    let d = a.work.now in
+    let d = a.work-1.now in
     let d₁ = x.copy_into.new.0 in
-    let d₂ = y.copy_into2.new.0 in
+    let d₂ = y.copy_into-2.new.0 in
     let p = s.requires in
     let r = p.4 in
     let first = copied-elsewhere 0 m a.h.now d x.copy_into.ensures p.0 (omega arith) in
-    let second = copied-elsewhere m m a.u.now d₁ y.copy_into2.ensures p.1 (omega (arith, first.long)) in
-    let third = copied-elsewhere (2 * m) m a.v.now d₂ z.copy_into3.ensures p.2 (omega (arith, first.long, second.long)) in (
+    let second = copied-elsewhere m m a.u.now d₁ y.copy_into-2.ensures p.1 (omega (arith, first.long)) in
+    let third = copied-elsewhere (2 * m) m a.v.now d₂ z.copy_into-3.ensures p.2 (omega (arith, first.long, second.long)) in (
       kept-before third 0 m (omega arith) (omega (arith, first.long, second.long))
           ∙ kept-before second 0 m (omega arith) (omega (arith, first.long))
           ∙ copied 0 m a.h.now d x.copy_into.ensures p.0 (omega arith),
-      kept-before third m m (omega arith) (omega (arith, first.long, second.long)) ∙ copied m m a.u.now d₁ y.copy_into2.ensures p.1 (omega (arith, first.long)),
-      copied (2 * m) m a.v.now d₂ z.copy_into3.ensures p.2 (omega (arith, first.long, second.long)),
+      kept-before third m m (omega arith) (omega (arith, first.long, second.long)) ∙ copied m m a.u.now d₁ y.copy_into-2.ensures p.1 (omega (arith, first.long)),
+      copied (2 * m) m a.v.now d₂ z.copy_into-3.ensures p.2 (omega (arith, first.long, second.long)),
       elsewhere-then (elsewhere-wider first (omega arith) (omega arith)) (elsewhere-then (elsewhere-wider second (omega arith) (omega arith)) (elsewhere-wider third (omega arith) (omega arith))),
     )
 

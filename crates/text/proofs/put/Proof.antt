@@ -5,11 +5,11 @@ use Rattle.text.specs.Sink.{put-room, put_full}
 use Rattle.text.proofs.put.Statement.{statement}
 use Rattle.text.proofs.put.Tie as tie
 
-returns : tie.Need-returns
-returns c = let a = c.before.args in sym (put-room a.byte a.at a.out.now c.if1.true)
+returns : tie.Need-returns-then-at-out
+returns c = let a = c.before.args in sym (put-room a.byte a.at a.out.now c.if-at-out.true)
 
-returns-2 : tie.Need-returns-2
-returns-2 c = let a = c.before.args in sym (put_full a.byte a.at a.out.now c.if1.false)
+returns-2 : tie.Need-returns
+returns-2 c = let a = c.before.args in sym (put_full a.byte a.at a.out.now c.if-at-out.false)
 
 pub put_spec : {M : Type 1} → statement M
 put_spec = tie.close (tie.spec (λ c. search rules) (λ c. search rules) (λ c. search rules) returns returns-2)

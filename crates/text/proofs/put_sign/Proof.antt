@@ -22,17 +22,17 @@ above : (z : ℤ) → lt_z z (pos 0) ≡ false → [] ≡ sign z
 above (pos n) e = refl
 above (negsuc n) e = absurd (subst T e tt)
 
-returns : tie.Need-returns
+returns : tie.Need-returns-then-x-lt0
 returns c =
     let p = c.before.before in
     let t = p.before.before in
     let s = t.before.before in
-    p.put.ensures ∙ ap (λ l. puts l (sink s.args.at s.args.out.now)) (below s.args.x (rw (to_z-of_z s.ranges.x) at t.if1.true))
+    p.put.ensures ∙ ap (λ l. puts l (sink s.args.at s.args.out-1.now)) (below s.args.x (rw (to_z-of_z s.ranges.x) at t.if-x-lt0.true))
 
-returns-2 : tie.Need-returns-2
+returns-2 : tie.Need-returns-else-x-lt0
 returns-2 c =
     let s = c.before.before in
-    ap (λ l. puts l (sink s.args.at s.args.out.now)) (above s.args.x (rw (to_z-of_z s.ranges.x) at c.if1.false))
+    ap (λ l. puts l (sink s.args.at s.args.out-1.now)) (above s.args.x (rw (to_z-of_z s.ranges.x) at c.if-x-lt0.false))
 
 pub put_sign_spec : {M : Type 1} → statement M
 put_sign_spec = tie.close (tie.spec (λ c κs. search rules) (λ c. search rules) returns returns-2)

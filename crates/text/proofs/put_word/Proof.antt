@@ -17,10 +17,10 @@ returns c =
     let g = m.before.before.before.before in
     let s = g.before.before.before in
     let x = s.args.x in
-    let start = sink s.args.at s.args.out.now in
+    let start = sink s.args.at s.args.out-1.now in
     let size = m.magnitude.ensures ∙ ap nat_abs (to_z-of_z s.ranges.x) in
     let signed = g.put-sign.ensures ∙ ap (λ y. puts (sign y) start) (to_z-of_z s.ranges.x) in
-    let spelled = d.put_digits.ensures ∙ ap (λ n. puts (digits n) (sink g.put-sign.result g.put-sign.new.0)) size in
+    let spelled = d.put_digits-after.ensures ∙ ap (λ n. puts (digits n) (sink g.put-sign.result g.put-sign.new.0)) size in
     follows (sign x ++ digits (nat_abs x)) (s.args.end ∷ []) start (follows (sign x) (digits (nat_abs x)) start signed spelled) p.put.ensures
     ∙ ap (λ l. puts (l ++ (s.args.end ∷ [])) start) (sym (decimal-is x))
 
