@@ -16,6 +16,7 @@ ghost use Rattle.grid.specs.Barred.{bars, closed_at, Cleared};
 use model::{Boundary, BoundaryByte};
 
 // The boundary that a byte stands for. It rules out, for instance: kind 2 without its west wall; kind 3 taken for periodic.
+#[tactic(auto, unfolding(model::specs::State::boundary_of))]
 pub fn boundary_of(kind: u8) -> BoundaryByte
     ensures { result ≡ boundary_of kind }
 {

@@ -14,7 +14,7 @@ returns c =
     let given = m.before.before.ranges in
     let f = made m.parameters-p.ensures (to_z-of_z given.g) (to_z-of_z given.c) (to_z-of_z given.r) in
     let a = m.before.before.args in
-    record { answer = k.run-x.result; promise = run_of f a.h-1.now a.b.now a.u-1.now a.v-1.now a.barriers.now k.run-x.ensures; told = told-by n.run_numbers.ensures c.tell.ensures }
+    record { answer = k.run-x.result; promise = run_of f a.h.now a.b.now a.u.now a.v.now a.barriers.now k.run-x.ensures; told = told-by n.run_numbers.ensures c.tell.ensures }
 
 pub basin_run_spec : {M : Type 1} → statement M
 basin_run_spec =

@@ -14,7 +14,7 @@ returns c =
     let given = m.before.before.ranges in
     let f = made m.parameters-p.ensures (to_z-of_z given.g) (to_z-of_z given.c) (to_z-of_z given.r) in
     let a = m.before.before.args in
-    record { answer = k.step-x.result; promise = step_of f a.h-1.now a.b.now a.u-1.now a.v-1.now a.barriers.now k.step-x.ensures; told = told-by n.step_numbers.ensures c.tell.ensures }
+    record { answer = k.step-x.result; promise = step_of f a.h.now a.b.now a.u.now a.v.now a.barriers.now k.step-x.ensures; told = told-by n.step_numbers.ensures c.tell.ensures }
 
 pub basin_step_spec : {M : Type 1} → statement M
 basin_step_spec =

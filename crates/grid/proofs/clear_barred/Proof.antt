@@ -1,6 +1,5 @@
 -- `grid::clear_barred` meets its contract: the loop has passed k cells. Assumes nothing.
 use mathlib.Core.Path.{sym, subst, ◌∙◌}
-use mathlib.Core.Logic.{⊎_elim}
 use Prim.Native.Nat.{◌+◌, ◌-◌, ◌≤◌, ◌<◌}
 use native.Mathlib.Omega.{arith}
 use lib.ListN.{length, get_or}
@@ -8,6 +7,7 @@ use borrow.Author.Rules.{rules}
 use Rattle.grid.specs.Barred.{cleared-none, Clearing, clearing-none, clearing-open, clearing-closed, clearing-done}
 use Rattle.grid.proofs.clear_barred.Statement.{statement}
 use Rattle.grid.proofs.clear_barred.Tie as tie
+use Rattle.grid.proofs.clear_barred.Lts.{then-is_barred, else-is_barred}
 
 abbrev invariant-loop-k : tie.invariant-loop-k
 invariant-loop-k f₀ at barriers edge k₀ k-end f k = Clearing edge barriers at f₀ k f
@@ -34,13 +34,13 @@ loop-again : tie.Need-loop-k-preserved invariant-loop-k decreases-loop-k
 loop-again c =
     let k = c.before in
     let t = turn k in
-    let inv = t.before.loop-k.inv in
+    let inv = t.before.loop-k.invariant in
     let s = start t in
     let Next = Clearing s.args.edge s.args.barriers.now s.args.at s.args.f.now (t.before.loop-k.k + 1) in
-    ⊎_elim
-    (λ w. subst Next (sym w.1) (clearing-closed inv (sym k.is_barred.ensures ∙ w.0.taken) (inside t)))
-    (λ w. subst Next (sym w.1) (clearing-open inv (sym k.is_barred.ensures ∙ w.0.left)))
-    c.if-is_barred.branch
+    elim c.if-is_barred.branch [
+      then-is_barred w ↦ subst Next (sym w.f-is) (clearing-closed inv (sym k.is_barred.ensures ∙ w.if-is_barred.true) (inside t))
+    | else-is_barred w ↦ subst Next (sym w.f-is) (clearing-open inv (sym k.is_barred.ensures ∙ w.if-is_barred.false))
+    ]
 
 pub clear_barred_spec : {M : Type 1} → statement M
 clear_barred_spec =

@@ -38,7 +38,7 @@ returns c =
     let a = s.args in
     let l = part a.a a.m a.work.now in
     filling-done c.before.loop-k.invariant (many s) c.loop-k-test.false
-    ∙ ap (λ k. l ++ drop k a.d-1.now) (sym s.requires.1) ∙ ap (λ x. l ++ x) (drop-length a.d-1.now) ∙ append-nil l
+    ∙ ap (λ k. l ++ drop k a.d.now) (sym s.requires.1) ∙ ap (λ x. l ++ x) (drop-length a.d.now) ∙ append-nil l
 
 pub copy_out_spec : {M : Type 1} → statement M
 copy_out_spec =

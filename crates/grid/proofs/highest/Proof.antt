@@ -1,7 +1,6 @@
 -- `grid::highest` meets its contract: none of the first k bytes is above `most`, which stands at some place. Assumes nothing.
 use mathlib.Core.Path.{◌≡◌, refl, sym, subst, ◌∙◌}
 use mathlib.Core.Bool.{Bool, true, false}
-use mathlib.Core.Logic.{⊎_elim}
 use mathlib.Core.List.{List}
 use Prim.Native.Nat.{ℕ, ◌+◌, ◌-◌, ◌≤◌, ◌<◌, zero-le}
 use native.Mathlib.Nat.{le_refl}
@@ -11,6 +10,7 @@ use lib.ListN.{length, get_or, get_or-eq_default}
 use borrow.Author.Tests.{eqb-true, eqb-false, leb-true, leb-false}
 use Rattle.grid.proofs.highest.Statement.{statement}
 use Rattle.grid.proofs.highest.Tie as tie
+use Rattle.grid.proofs.highest.Lts.{then-most-byte, else-most-byte}
 
 abbrev invariant-loop-k : tie.invariant-loop-k
 invariant-loop-k bytes most₀ k₀ k-end most k = ((x : ℕ) → x < k → get_or bytes x 0 ≤ most) × ((x : ℕ) × (get_or bytes x 0 ≡ most))
@@ -31,16 +31,16 @@ loop-again c =
     let i = c.before.before in
     let a = i.before.before.args in
     let t = i.before.loop-k in
-    ⊎_elim
-    (λ w. (
-      more a.bytes.now t.k t.most c.if-most-byte.most t.invariant.0 (omega (arith, w.0.taken, w.1)) (omega (arith, w.1)),
-      (t.k, sym w.1),
-    ))
-    (λ w. (
-      more a.bytes.now t.k t.most c.if-most-byte.most t.invariant.0 (omega (arith, w.1)) (omega (arith, w.0.left, w.1)),
-      (t.invariant.1.0, t.invariant.1.1 ∙ sym w.1),
-    ))
-    c.if-most-byte.branch
+    elim c.if-most-byte.branch [
+      then-most-byte w ↦ (
+        more a.bytes.now t.k t.most c.if-most-byte.most t.invariant.0 (omega (arith, w.if-most-byte.true, w.most-is)) (omega (arith, w.most-is)),
+        (t.k, sym w.most-is),
+      )
+    | else-most-byte w ↦ (
+        more a.bytes.now t.k t.most c.if-most-byte.most t.invariant.0 (omega (arith, w.most-is)) (omega (arith, w.if-most-byte.false, w.most-is)),
+        (t.invariant.1.0, t.invariant.1.1 ∙ sym w.most-is),
+      )
+    ]
 
 -- past the end there is 0
 returns : tie.Need-returns invariant-loop-k decreases-loop-k

@@ -23,10 +23,10 @@ bits-requires-2 : tie.Need-bits-requires-in-Four
 bits-requires-2 c κs = let e = c.before in let s = e.before.before.before in rw (same s) (subst (λ z. SFits (width_of z) s.args.x) e.enum_told-in-Four-1.given.1 s.requires.1)
 
 put_unsigned-requires : tie.Need-put_unsigned-requires
-put_unsigned-requires c κs = let e = c.before.before in let s = e.before.before.before in subst (λ z. s.args.k + size_of z ≤ length s.args.d-1.now) e.enum_told-1.given.1 s.requires.0
+put_unsigned-requires c κs = let e = c.before.before in let s = e.before.before.before in subst (λ z. s.args.k + size_of z ≤ length s.args.d.now) e.enum_told-1.given.1 s.requires.0
 
 put_unsigned-requires-2 : tie.Need-put_unsigned-requires-in-Four
-put_unsigned-requires-2 c κs = let e = c.before.before in let s = e.before.before.before in subst (λ z. s.args.k + size_of z ≤ length s.args.d-1.now) e.enum_told-in-Four-1.given.1 s.requires.0
+put_unsigned-requires-2 c κs = let e = c.before.before in let s = e.before.before.before in subst (λ z. s.args.k + size_of z ≤ length s.args.d.now) e.enum_told-in-Four-1.given.1 s.requires.0
 
 returns : tie.Need-returns-in-Two
 returns c =
@@ -35,7 +35,7 @@ returns c =
     let e = b.before.before in
     let s = e.before.before.before in
     let value = ap (bytes 2) (b.bits.ensures ∙ ap (of_z w16) (same s)) ∙ sym (ap (λ z. bytes_by z s.args.x) e.enum_told-1.given.1) in
-    subst (λ l. Puts s.args.d-1.now s.args.k l p.put_unsigned.result p.put_unsigned.new.0) value p.put_unsigned.ensures
+    subst (λ l. Puts s.args.d.now s.args.k l p.put_unsigned.result p.put_unsigned.new.0) value p.put_unsigned.ensures
 
 returns-2 : tie.Need-returns-in-Four
 returns-2 c =
@@ -44,7 +44,7 @@ returns-2 c =
     let e = b.before.before in
     let s = e.before.before.before in
     let value = ap (bytes 4) (b.bits-in-Four.ensures ∙ ap (of_z w32) (same s)) ∙ sym (ap (λ z. bytes_by z s.args.x) e.enum_told-in-Four-1.given.1) in
-    subst (λ l. Puts s.args.d-1.now s.args.k l p.put_unsigned-in-Four.result p.put_unsigned-in-Four.new.0) value p.put_unsigned-in-Four.ensures
+    subst (λ l. Puts s.args.d.now s.args.k l p.put_unsigned-in-Four.result p.put_unsigned-in-Four.new.0) value p.put_unsigned-in-Four.ensures
 
 pub put_number_spec : {M : Type 1} → statement M
 put_number_spec =

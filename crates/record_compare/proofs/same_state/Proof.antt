@@ -33,7 +33,7 @@ returns c =
     let second = l.before in
     let first = second.before in
     other-read (λ k. (first.shared_slice_known-1.given k).fits) (λ k. (second.shared_slice_known-2-1.given k).fits) first.before.requires l.loop-tag.tag l.loop-tag.invariant.some (omega arith)
-    v.before.if-tag-ne3.true-raw (sym v.same_value.ensures ∙ not-true v.same_value.result c.if-not-same_value.true-raw)
+    v.before.if-tag-ne3.true (sym v.same_value.ensures ∙ not-true v.same_value.result c.if-not-same_value.true)
 
 loop-again : tie.Need-loop-tag-preserved invariant-loop-tag decreases-loop-tag
 loop-again c =
@@ -51,7 +51,7 @@ returns-2 c =
     let s = l.before.before.before in
     let known = subst (λ p. T (grid_known p)) (sym e.parameters_in.ensures) (known-grid s.requires.first_read) in
     let cells_are = m.cells_of-m.ensures.0 known ∙ ap (λ (p : Parameters). p.w * p.n) e.parameters_in.ensures in
-    c.same_barriers.ensures ∙ same_read l.loop-tag.invariant e.before.loop-tag-test.false-raw cells_are a.value_of-a.ensures.is b.value_of-b.ensures.is
+    c.same_barriers.ensures ∙ same_read l.loop-tag.invariant e.before.loop-tag-test.false cells_are a.value_of-a.ensures.is b.value_of-b.ensures.is
 
 pub same_state_spec : {M : Type 1} → statement M
 same_state_spec =

@@ -44,11 +44,11 @@ returns c =
     let a = s.args in
     let e = s.requires.1 in
     λ i. record {
-      h = own v1.value_of.ensures Four a.h-1.now e (h-is a.rec.now) v2.before.before.read_numbers.ensures i;
-      b = own v2.value_of-2.ensures Four a.b-1.now e (b-is a.rec.now) v3.before.before.read_numbers-2.ensures i;
-      u = own v3.value_of-3.ensures Two a.u-1.now e (u-is a.rec.now) v4.before.before.read_numbers-3.ensures i;
-      v = own v4.value_of-4.ensures Two a.v-1.now e (v-is a.rec.now) v5.before.before.read_numbers-4.ensures i;
-      barriers = own-bytes v5.value_of-5.ensures a.barriers-1.now e c.before.before.read_bytes.ensures i;
+      h = own v1.value_of.ensures Four a.h.now e (h-is a.rec.now) v2.before.before.read_numbers.ensures i;
+      b = own v2.value_of-2.ensures Four a.b.now e (b-is a.rec.now) v3.before.before.read_numbers-2.ensures i;
+      u = own v3.value_of-3.ensures Two a.u.now e (u-is a.rec.now) v4.before.before.read_numbers-3.ensures i;
+      v = own v4.value_of-4.ensures Two a.v.now e (v-is a.rec.now) v5.before.before.read_numbers-4.ensures i;
+      barriers = own-bytes v5.value_of-5.ensures a.barriers.now e c.before.before.read_bytes.ensures i;
     }
 
 abbrev at-4 : tie.After-read_numbers-arg-1 → tie.Start
@@ -72,13 +72,13 @@ fill_spec =
     tie.close
     (tie.spec
     (λ c κs. search rules)
-    (λ c κs. let s = at-4 c in (enough c.before.value_of.ensures 4 s.args.m s.pre.2.0, s.pre.3.0))
+    (λ c κs. let s = at-4 c in (enough c.before.value_of.ensures 4 s.args.m s.requires.2.0, s.requires.3.0))
     (λ c κs. search rules)
-    (λ c κs. let s = at_5 c in (enough c.before.value_of-2.ensures 4 s.args.m s.pre.2.1, s.pre.3.1.0))
+    (λ c κs. let s = at_5 c in (enough c.before.value_of-2.ensures 4 s.args.m s.requires.2.1, s.requires.3.1.0))
     (λ c κs. search rules)
-    (λ c κs. let s = at-6 c in (enough c.before.value_of-3.ensures 2 s.args.m s.pre.2.2, s.pre.3.1.1.0))
+    (λ c κs. let s = at-6 c in (enough c.before.value_of-3.ensures 2 s.args.m s.requires.2.2, s.requires.3.1.1.0))
     (λ c κs. search rules)
-    (λ c κs. let s = at_7 c in (enough c.before.value_of-4.ensures 2 s.args.m s.pre.2.3, s.pre.3.1.1.1.0))
+    (λ c κs. let s = at_7 c in (enough c.before.value_of-4.ensures 2 s.args.m s.requires.2.3, s.requires.3.1.1.1.0))
     (λ c κs. ((at_7 c.before.before).requires.0, lit≤ tt, lit≤ tt))
     room-9
     (λ c. search rules)

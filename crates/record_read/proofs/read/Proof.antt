@@ -21,13 +21,13 @@ start c = c.before.before.before.before.before.before.before.before
 
 -- the five destinations
 abbrev lent : tie.Start → Fields
-lent s = let a = s.args in record { h = a.h-1.now; b = a.b-1.now; u = a.u-1.now; v = a.v-1.now; barriers = a.barriers-1.now }
+lent s = let a = s.args in record { h = a.h.now; b = a.b.now; u = a.u.now; v = a.v.now; barriers = a.barriers.now }
 
 -- the room that is tested for is that of the shortest destination
 shortest : (c : tie.After-min-room) → c.min-room.result ≡ least (lent c.before.before.before.before.before.before)
 shortest c =
     let m = c.before in
-    let o = length m.before.before.before.before.before.args.barriers-1.now in
+    let o = length m.before.before.before.before.before.args.barriers.now in
     c.min-room.ensures ∙ ap (λ n. min n o) (m.min-numbers.ensures ∙ ap₂ min m.before.before.min.ensures m.before.min-2.ensures)
 
 -- the record has passed every test

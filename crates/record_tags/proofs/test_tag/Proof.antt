@@ -38,9 +38,9 @@ offset-of c = c.before.before.before.before.args.k
 tagged : (c : tie.Else-tag-gt-LAST_TAG) → Tagged (record_of c.before.before) (offset-of c.before.before) c.before.before.index-tag.result
 tagged c =
     let i = c.before.before in
-    let l = i.before.before.if-remaining-lt3.false-raw in
+    let l = i.before.before.if-remaining-lt3.false in
     let p = i.before.before.before.before.requires in
-    record { bytes = omega arith; is = i.index-tag.ensures.0; low = c.before.if-tag-lt1.false-raw; high = c.if-tag-gt-LAST_TAG.false-raw }
+    record { bytes = omega arith; is = i.index-tag.ensures.0; low = c.before.if-tag-lt1.false; high = c.if-tag-gt-LAST_TAG.false }
 
 module _ {rec at : List ℕ} {k tag : ℕ} (t : Tagged rec k tag) (parts : List Part) (s : Seen rec parts at) where
   placed : tag < places
@@ -75,21 +75,21 @@ returns : tie.Need-returns-then-remaining-lt3
 returns c parts s =
     let a = c.before.before in
     let p = a.requires in
-    let l = c.if-remaining-lt3.true-raw in
+    let l = c.if-remaining-lt3.true in
     tag-refused a.args.rec.now a.args.k parts (inl (omega arith))
 
 returns-2 : tie.Need-returns-then-tag-lt1
 returns-2 c parts s =
     let i = c.before in
-    tag-refused (record_of i) (offset-of i) parts (inr (inl (inl (subst (λ t. t < 1) i.index-tag.ensures.0 c.if-tag-lt1.true-raw))))
+    tag-refused (record_of i) (offset-of i) parts (inr (inl (inl (subst (λ t. t < 1) i.index-tag.ensures.0 c.if-tag-lt1.true))))
 
 returns-3 : tie.Need-returns-then-tag-gt-LAST_TAG
 returns-3 c parts s =
     let i = c.before.before in
-    tag-refused (record_of i) (offset-of i) parts (inr (inl (inr (subst (λ t. last_tag < t) i.index-tag.ensures.0 c.if-tag-gt-LAST_TAG.true-raw))))
+    tag-refused (record_of i) (offset-of i) parts (inr (inl (inr (subst (λ t. last_tag < t) i.index-tag.ensures.0 c.if-tag-gt-LAST_TAG.true))))
 
 returns-4 : tie.Need-returns-then-at-tag
-returns-4 c parts s = again (tagged c.before.before) parts s c.if-at-tag.true-raw
+returns-4 c parts s = again (tagged c.before.before) parts s c.if-at-tag.true
 
 returns-5 : tie.Need-returns-then-remaining-size
 returns-5 c parts s =
@@ -103,7 +103,7 @@ returns-6 c parts s =
     let r = c.before in
     let z = r.before.before in
     wrong (tagged z.before.before.before) parts s z.size_at-size.result z.size_at-size.ensures.0
-    (sym r.right_size.ensures ∙ not-true r.right_size.result c.if-not-right_size.true-raw)
+    (sym r.right_size.ensures ∙ not-true r.right_size.result c.if-not-right_size.true)
 
 returns-7 : tie.Need-returns
 returns-7 c parts s =
@@ -112,8 +112,8 @@ returns-7 c parts s =
     let z = f.before in
     let t = tagged z.before.before.before in
     let b = t.bytes in
-    sound t parts s z.size_at-size.result z.size_at-size.ensures.0 z.before.if-at-tag.false-raw (omega arith)
-    (sym r.right_size.ensures ∙ not-false r.right_size.result c.if-not-right_size.false-raw)
+    sound t parts s z.size_at-size.result z.size_at-size.ensures.0 z.before.if-at-tag.false (omega arith)
+    (sym r.right_size.ensures ∙ not-false r.right_size.result c.if-not-right_size.false)
 
 pub test_tag_spec : {M : Type 1} → statement M
 test_tag_spec =

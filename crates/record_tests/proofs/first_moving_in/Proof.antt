@@ -128,7 +128,7 @@ loop-again : tie.Need-loop-i-preserved invariant-loop-i decreases-loop-i invaria
 loop-again c =
     let i = turn c.before in
     let l = i.before in
-    (omega arith, l.loop-i.inv.1, scanned-at (scanned-more l.loop-i.inv.2 (below i) (still c)) (omega arith))
+    (omega arith, l.loop-i.invariant.1, scanned-at (scanned-more l.loop-i.invariant.2 (below i) (still c)) (omega arith))
 
 scan-again : tie.Need-scan-preserved invariant-loop-i decreases-loop-i invariant-scan decreases-scan
 scan-again c =
@@ -147,7 +147,7 @@ returns c =
 returns-2 : tie.Need-returns-then-number_at-ne0 invariant-loop-i decreases-loop-i invariant-scan decreases-scan
 returns-2 c =
     let i = turn c.before.before.before in
-    sym (ap found_by (scanned-bad i.before.loop-i.inv.2 (below i) (moving c)))
+    sym (ap found_by (scanned-bad i.before.loop-i.invariant.2 (below i) (moving c)))
 
 pub first_moving_in_spec : {M : Type 1} → statement M
 first_moving_in_spec =

@@ -27,7 +27,7 @@ abbrev start : tie.In-loop-k invariant-loop-k decreases-loop-k → tie.Start inv
 start c = c.before.before.before.before
 
 below : (c : tie.In-loop-k invariant-loop-k decreases-loop-k) → c.before.loop-k.k < (start c).args.m
-below c = c.loop-k-test.true-raw
+below c = c.loop-k-test.true
 
 -- the number stands within the value, so all that leads to it fits
 inside : (c : tie.In-loop-k invariant-loop-k decreases-loop-k) → let a = (start c).args in c.before.loop-k.k * c.before.before.bytes_of-each.result + size_of a.size ≤ length a.value.now
@@ -58,16 +58,16 @@ returns : tie.Need-returns-then-not-within invariant-loop-k decreases-loop-k
 returns c =
     let w = c.before in
     let i = w.before.before in
-    sym (ap found_by (scanned-bad i.before.loop-k.invariant (below i) (ap not (sym (told w)) ∙ c.if-not-within.true-raw)))
+    sym (ap found_by (scanned-bad i.before.loop-k.invariant (below i) (ap not (sym (told w)) ∙ c.if-not-within.true)))
 
 loop-again : tie.Need-loop-k-preserved invariant-loop-k decreases-loop-k
 loop-again c =
     let w = c.before in
     let i = w.before.before in
-    scanned-more i.before.loop-k.invariant (below i) (ap not (sym (told w)) ∙ c.if-not-within.false-raw)
+    scanned-more i.before.loop-k.invariant (below i) (ap not (sym (told w)) ∙ c.if-not-within.false)
 
 returns-2 : tie.Need-returns invariant-loop-k decreases-loop-k
-returns-2 c = sym (ap found_by (scanned-all c.before.loop-k.invariant c.loop-k-test.false-raw))
+returns-2 c = sym (ap found_by (scanned-all c.before.loop-k.invariant c.loop-k-test.false))
 
 pub first_outside_in_spec : {M : Type 1} → statement M
 first_outside_in_spec =

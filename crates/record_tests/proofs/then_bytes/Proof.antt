@@ -26,7 +26,7 @@ tested s b = let a = s.args in bytes_test a.m b (value_of a.tag (parts_in a.rec.
 
 -- the tag is there
 there : (c : tie.Else-not-has) → let a = c.before.before.before.args in true ≡ has a.tag (parts_in a.rec.now)
-there c = sym (not-false c.before.has.result c.if-not-has.false-raw) ∙ c.before.has.ensures
+there c = sym (not-false c.before.has.result c.if-not-has.false) ∙ c.before.has.ensures
 
 -- the table's size of the tag
 row : (c : tie.In-PerCell-2) → PerCell c.k-1.given.0.0 ≡ tag_size_of (size_in tag_table c.before.before.before.before.before.before.before.args.tag)
@@ -43,7 +43,7 @@ absent c =
     let s = c.before.before.before in
     let a = s.args in
     sym (absent-passes a.earlier a.m (value_of a.tag (parts_in a.rec.now)) (size_in tag_table a.tag))
-    ∙ ap (λ b. after a.earlier (tested s b)) (sym (not-true c.before.has.result c.if-not-has.true-raw) ∙ c.before.has.ensures)
+    ∙ ap (λ b. after a.earlier (tested s b)) (sym (not-true c.before.has.result c.if-not-has.true) ∙ c.before.has.ensures)
 
 fixed : tie.Need-returns-in-Fixed
 fixed c =

@@ -32,7 +32,7 @@ abbrev bytes : tie.After-value_of-o → List ℕ
 bytes c = c.value_of-o.result.now
 
 mean : (c : tie.After-value_of-o) → (start_of c).args.earlier ≡ Accepted → (k : ℕ) → get_or (bytes c) k 0 ≡ get_or (state c).barriers k 0
-mean c h = let b = start_of c in value-barriers c.value_of-o.ensures (cells_are b.pre.0) (b.pre.1 h)
+mean c h = let b = start_of c in value-barriers c.value_of-o.ensures (cells_are b.requires.0) (b.requires.1 h)
 
 -- u's edges, the first link
 west : (c : tie.After-then_still_in-west)
@@ -41,7 +41,7 @@ west c =
     let q = c.before in
     let b = start_of q in
     let a = b.args in
-    let numbers = value-numbers q.before.before.value_of-u.ensures Two (cells_are b.pre.0) (u-is a.rec.now) in
+    let numbers = value-numbers q.before.before.value_of-u.ensures Two (cells_are b.requires.0) (u-is a.rec.now) in
     start a.earlier _ (numbers_as a.earlier a.p West VelocityU (bytes q) (state q).barriers (mean q) numbers c.then_still_in-west.ensures)
 
 returns : tie.Need-returns
@@ -50,11 +50,11 @@ returns c =
     let q = w.before in
     let b = start_of q in
     let a = b.args in
-    let numbers = value-numbers q.before.value_of-v.ensures Two (cells_are b.pre.0) (v-is a.rec.now) in
+    let numbers = value-numbers q.before.value_of-v.ensures Two (cells_are b.requires.0) (v-is a.rec.now) in
     (more (still_test a.p (state q).barriers South VelocityV (state q).v ∷ []) (west w)
     (numbers_as w.then_still_in-west.result a.p South VelocityV (bytes q) (state q).barriers (λ h. mean q (begun (west w) h)) numbers c.then_still_in.ensures)
     ).is
-    ∙ ap (after a.earlier) (own-edges b.pre.0)
+    ∙ ap (after a.earlier) (own-edges b.requires.0)
 
 pub then_edges_in_spec : {M : Type 1} → statement M
 then_edges_in_spec =

@@ -38,7 +38,7 @@ first : (c : tie.After-then_field_in-depth) → let s = state c.before in Chain 
 first c =
     let q = c.before in
     let b = start_of q in
-    let numbers = value-numbers q.before.before.before.before.value_of-h.ensures Four (cells_are b.pre.0) (h-is b.args.rec.now) in
+    let numbers = value-numbers q.before.before.before.before.value_of-h.ensures Four (cells_are b.requires.0) (h-is b.args.rec.now) in
     start b.args.earlier _ (own q b.args.earlier Depth numbers c.then_field_in-depth.ensures)
 
 second : (c : tie.After-then_field_in-bottom)
@@ -47,7 +47,7 @@ second : (c : tie.After-then_field_in-bottom)
 second c =
     let q = c.before.before in
     let b = start_of q in
-    let numbers = value-numbers q.before.before.before.value_of-b.ensures Four (cells_are b.pre.0) (b-is b.args.rec.now) in
+    let numbers = value-numbers q.before.before.before.value_of-b.ensures Four (cells_are b.requires.0) (b-is b.args.rec.now) in
     more (value_tests Value (taken (state q) Bottom (state q).b ∷ [])) (first c.before) (own q c.before.then_field_in-depth.result Bottom numbers c.then_field_in-bottom.ensures)
 
 third : (c : tie.After-then_field_in-west)
@@ -57,7 +57,7 @@ third : (c : tie.After-then_field_in-west)
 third c =
     let q = c.before.before.before in
     let b = start_of q in
-    let numbers = value-numbers q.before.before.value_of-u.ensures Two (cells_are b.pre.0) (u-is b.args.rec.now) in
+    let numbers = value-numbers q.before.before.value_of-u.ensures Two (cells_are b.requires.0) (u-is b.args.rec.now) in
     more (value_tests Value (taken (state q) VelocityU (state q).u ∷ [])) (second c.before) (own q c.before.then_field_in-bottom.result VelocityU numbers c.then_field_in-west.ensures)
 
 fourth : (c : tie.After-then_field_in-south)
@@ -68,7 +68,7 @@ fourth : (c : tie.After-then_field_in-south)
 fourth c =
     let q = c.before.before.before.before in
     let b = start_of q in
-    let numbers = value-numbers q.before.value_of-v.ensures Two (cells_are b.pre.0) (v-is b.args.rec.now) in
+    let numbers = value-numbers q.before.value_of-v.ensures Two (cells_are b.requires.0) (v-is b.args.rec.now) in
     more (value_tests Value (taken (state q) VelocityV (state q).v ∷ [])) (third c.before) (own q c.before.then_field_in-west.result VelocityV numbers c.then_field_in-south.ensures)
 
 -- the bytes mean the state's own barriers, where this link is not idle
@@ -81,7 +81,7 @@ returns c =
     let o = q.value_of-barriers.result.now in
     (more (value_tests Value (taken s Barriers (barrier_numbers s) ∷ [])) (fourth v)
     (bytes-tested v.then_field_in-south.result o s.barriers (cells s)
-    (λ h. value-bytes q.value_of-barriers.ensures (cells_are b.pre.0) (b.pre.1 (begun (fourth v) h)))
+    (λ h. value-bytes q.value_of-barriers.ensures (cells_are b.requires.0) (b.requires.1 (begun (fourth v) h)))
     c.then_barriers.ensures)
     ).is
 

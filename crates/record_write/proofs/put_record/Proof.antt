@@ -23,7 +23,7 @@ abbrev last : tie.After-shared_slice_known-1 → List ℕ
 last s = eight s ++ nine s
 
 -- the room for all fields, and what is left of it
-room : (s : tie.After-shared_slice_known-1) → let a = s.before.args in 0 + length (joined_fields a.p a.h.now a.b.now a.u.now a.v.now a.barriers.now a.timestamp) ≤ length a.d-1.now
+room : (s : tie.After-shared_slice_known-1) → let a = s.before.args in 0 + length (joined_fields a.p a.h.now a.b.now a.u.now a.v.now a.barriers.now a.timestamp) ≤ length a.d.now
 room s = let a = s.before.args in record-room a.p a.h.now a.b.now a.u.now a.v.now a.barriers.now a.timestamp s.before.requires
 
 room4 : (c : tie.After-put_scalars-after_scalars) → let s = c.before.before.before in c.put_scalars-after_scalars.result + length (fields s ++ last s) ≤ length c.put_scalars-after_scalars.new.0

@@ -34,14 +34,14 @@ vorticity_row-requires c κs =
     let t = c.before in
     let k = begin t in
     let s = k.before in
-    (s.pre.0, subst (λ (m : ℕ). t.before.loop-y.y < m) k.corner_rows-rows.ensures t.loop-y-test.true, omega (arith, s.pre.1, t.before.loop-y.invariant.1.long))
+    (s.requires.0, subst (λ (m : ℕ). t.before.loop-y.y < m) k.corner_rows-rows.ensures t.loop-y-test.true, omega (arith, s.requires.1, t.before.loop-y.invariant.1.long))
 
 loop-again : tie.Need-loop-y-preserved invariant-loop-y decreases-loop-y
 loop-again c =
     let r = c.before in
     let t = r.before.before in
     let s = (begin t).before in
-    (omega (arith, t.loop-y-test.true), row_done _ _ _ t.before.loop-y.y r.vorticity_row.ensures (omega arith) (omega (arith, s.pre.1)) t.before.loop-y.invariant.1)
+    (omega (arith, t.loop-y-test.true), row_done _ _ _ t.before.loop-y.y r.vorticity_row.ensures (omega arith) (omega (arith, s.requires.1)) t.before.loop-y.invariant.1)
 
 returns : tie.Need-returns invariant-loop-y decreases-loop-y
 unfolding vorticity

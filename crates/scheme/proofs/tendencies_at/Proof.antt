@@ -56,7 +56,7 @@ from-west c o =
     let k = worked c in
     let s = start k in
     let x = c.before.before.other_share-from_west in
-    held-is w64 x.type_inv (x.ensures ∙ ap₂ (cond (eqb s.args.p.w 1)) (east-is k) (to_z-of_z s.fits.west) ∙ west-beyond s.pre.3 s.pre.1 o)
+    held-is w64 x.type_inv (x.ensures ∙ ap₂ (cond (eqb s.args.p.w 1)) (east-is k) (to_z-of_z s.fits.west) ∙ west-beyond s.requires.3 s.requires.1 o)
 
 from-south : (c : tie.After-other_share-from_south) → let s = start (worked c) in closed_south (state s) s.args.i s.args.j ≡ false
     → held w64 c.other_share-from_south.result ≡ north_share_at (state s) s.args.q.now s.args.i (to_south (state s) s.args.j)
@@ -64,13 +64,13 @@ from-south c o =
     let k = worked c in
     let s = start k in
     let x = c.other_share-from_south in
-    held-is w64 x.type_inv (x.ensures ∙ ap₂ (cond (eqb s.args.p.n 1)) (north-is k) (to_z-of_z s.fits.south) ∙ south-beyond s.pre.4 s.pre.2 o)
+    held-is w64 x.type_inv (x.ensures ∙ ap₂ (cond (eqb s.args.p.n 1)) (north-is k) (to_z-of_z s.fits.south) ∙ south-beyond s.requires.4 s.requires.2 o)
 
 -- the tendencies at the edges
 edge_tendency-requires : tie.Need-edge_tendency-requires
 edge_tendency-requires c κs =
     let k = worked c.before in
-    let p = (start k).pre in (
+    let p = (start k).requires in (
       abs-as (share-held (own-west k)) (own-west k),
       λ o. abs-as (from-west c.before (sym (west-closed k.before.before) ∙ o)) (east-size (fit-in p.0 (previous-lt _ _ p.0.state.columns.some) p.2)),
     )
@@ -88,7 +88,7 @@ edge_tendency-requires-2 : tie.Need-edge_tendency-requires-2
 edge_tendency-requires-2 c κs =
     let e = c.before.before.before in
     let k = worked e in
-    let p = (start k).pre in (
+    let p = (start k).requires in (
       abs-as (share-held (own-south k)) (own-south k),
       λ o. abs-as (from-south e (sym (south-closed k.before) ∙ o)) (north-size (fit-in p.0 p.1 (previous-lt _ _ p.0.state.rows.some))),
     )

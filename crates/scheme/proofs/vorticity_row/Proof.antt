@@ -59,16 +59,16 @@ in-slice c = omega (arith, index c, (begin c).before.requires.2, c.before.loop-x
 vorticity_at-requires : tie.Need-vorticity_at-requires invariant-loop-x decreases-loop-x
 vorticity_at-requires c κs =
     let s = (begin c).before in
-    let p = s.pre.0 in (
+    let p = s.requires.0 in (
       p,
-      record { columns = p.columns; rows = p.rows; column = corners-more (walled_west (state s)) c.loop-x-test.true; row = s.pre.1 },
+      record { columns = p.columns; rows = p.rows; column = corners-more (walled_west (state s)) c.loop-x-test.true; row = s.requires.1 },
     )
 
 loop-again : tie.Need-loop-x-preserved invariant-loop-x decreases-loop-x
 loop-again c =
     let t = c.before in
     let k = begin t in
-    (omega (arith, t.loop-x-test.true), row-filled _ _ _ t.before.loop-x.invariant.1 (within k t.loop-x-test.true) k.before.pre.1 (held-is w64 c.vorticity_at.type_inv c.vorticity_at.ensures))
+    (omega (arith, t.loop-x-test.true), row-filled _ _ _ t.before.loop-x.invariant.1 (within k t.loop-x-test.true) k.before.requires.1 (held-is w64 c.vorticity_at.type_inv c.vorticity_at.ensures))
 
 -- ---- the corner past the last place
 
@@ -88,9 +88,9 @@ wall_vorticity_at-requires : tie.Need-wall_vorticity_at-requires invariant-loop-
 wall_vorticity_at-requires c κs =
     let k = columns c.before in
     let s = k.before in
-    let p = s.pre.0 in
+    let p = s.requires.0 in
     let l = subst (λ (m : ℕ). s.args.p.w < m) k.corner_columns-columns.ensures c.before.if-p-columns.true in (
-      record { columns = p.columns; rows = p.rows; column = l; row = s.pre.1 },
+      record { columns = p.columns; rows = p.rows; column = l; row = s.requires.1 },
       ap (λ b. b || on_wall (walled_south (state s)) s.args.p.n s.args.y) (last-on-wall (walled_west (state s)) s.args.p.w l),
       p.coriolis,
       p.depths,
@@ -110,10 +110,10 @@ returns c =
     let l = ended t in
     let s = k.before in
     let w = s.args.p.w in
-    let inv = l.before.loop-x.inv in
+    let inv = l.before.loop-x.invariant in
     let at-end = subst (λ (x : ℕ). RowWriting k.corner_columns-columns.result (corner_rows (state s)) (vorticity_at (state s)) 0 s.args.y s.args.d.now x l.before.loop-x.d) (le_antisymm inv.0 l.loop-x-test.left) inv.1 in
     whole k
-    (row-filled _ _ _ at-end t.if-p-columns.true s.pre.1 (held-is w64 c.wall_vorticity_at.type_inv (c.wall_vorticity_at.ensures s.args.u.now s.args.v.now)))
+    (row-filled _ _ _ at-end t.if-p-columns.true s.requires.1 (held-is w64 c.wall_vorticity_at.type_inv (c.wall_vorticity_at.ensures s.args.u.now s.args.v.now)))
     (subst (λ (m : ℕ). m ≤ w + 1) (sym k.corner_columns-columns.ensures) (corners-next (walled_west (state s)) w))
 
 returns-2 : tie.Need-returns-else-p-columns invariant-loop-x decreases-loop-x

@@ -55,6 +55,6 @@ doubles_at_spec =
     (λ c κs. search rules)
     (λ c. omega (arith, most (start c)))
     (λ c. omega (arith, most (start c)))
-    (λ c. let b = start c.before in omega (arith, below b, b.pre.0.1))
+    (λ c. let b = start c.before in omega (arith, below b, b.requires.0.1))
     (λ c κs. search rules)
     returns)

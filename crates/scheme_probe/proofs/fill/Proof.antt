@@ -79,10 +79,10 @@ below : (c : tie.In-loop-i invariant-loop-i decreases-loop-i invariant-loop-j de
 below c = cell-lt c.loop-i-test.true (row c).loop-j-test.true
 
 most : (c : tie.In-loop-i invariant-loop-i decreases-loop-i invariant-loop-j decreases-loop-j) → let p = (start (row c)).args.p in (row c).before.loop-j.j * p.w + c.before.loop-i.i < 4096
-most c = let s = (start (row c)).pre.0.0.state in omega (arith, below c, cells-most s.columns s.rows)
+most c = let s = (start (row c)).requires.0.0.state in omega (arith, below c, cells-most s.columns s.rows)
 
 in-below : (c : tie.In-loop-i invariant-loop-i decreases-loop-i invariant-loop-j decreases-loop-j) → c.before.loop-i.i < 64
-in-below c = omega (arith, c.loop-i-test.true, (start (row c)).pre.0.0.state.columns.most)
+in-below c = omega (arith, c.loop-i-test.true, (start (row c)).requires.0.0.state.columns.most)
 
 in_row : (c : tie.In-loop-i invariant-loop-i decreases-loop-i invariant-loop-j decreases-loop-j)
     → let k = (row c).before.loop-j.j * (start (row c)).args.p.w + c.before.loop-i.i in
@@ -90,7 +90,7 @@ in_row : (c : tie.In-loop-i invariant-loop-i decreases-loop-i invariant-loop-j d
 in_row c =
     let l = c.before.loop-i.invariant in
     let o = (row c).before.loop-j.invariant in
-    let r = (start (row c)).pre.1 in (
+    let r = (start (row c)).requires.1 in (
       omega (arith, below c, l.0.long, o.1.long, r.h),
       omega (arith, below c, l.1.long, o.2.long, r.u),
       omega (arith, below c, l.2.long, o.3.long, r.v),
@@ -108,7 +108,7 @@ doubles c =
     let t = turn c in
     let b = start (row t) in
     let s = state b in
-    let inv = t.before.loop-i.inv in
+    let inv = t.before.loop-i.invariant in
     c.doubles_of-d.ensures s b.args.q.now refl refl
     (record {
       here = cell-barred s own.cell_at-own.ensures;
@@ -121,7 +121,7 @@ loop2-again c =
     let t = turn c in
     let b = start (row t) in
     let s = state b in
-    let inv = t.before.loop-i.inv in
+    let inv = t.before.loop-i.invariant in
     let p = t.loop-i-test.taken in
     let r = (row t).loop-j-test.taken in
     let d = doubles c in
@@ -146,9 +146,9 @@ loop-again c =
     let inv = t.before.loop-j.invariant in
     let j = t.before.loop-j.j in (
       omega (arith, t.loop-j-test.true),
-      row_done _ _ _ j inv2.0 all (omega (arith, s.pre.1.h)) inv.1,
-      row_done _ _ _ j inv2.1 all (omega (arith, s.pre.1.u)) inv.2,
-      row_done _ _ _ j inv2.2 all (omega (arith, s.pre.1.v)) inv.3,
+      row_done _ _ _ j inv2.0 all (omega (arith, s.requires.1.h)) inv.1,
+      row_done _ _ _ j inv2.1 all (omega (arith, s.requires.1.u)) inv.2,
+      row_done _ _ _ j inv2.2 all (omega (arith, s.requires.1.v)) inv.3,
       handing-all inv2.4 all,
     )
 
@@ -167,12 +167,12 @@ fill_spec =
     decreases-loop-i
     invariant-loop-j
     decreases-loop-j
-    (λ c κs. let b = entry c in (walls-ready (state b) b.pre.0.0, b.pre.0.0.state.rows.some))
+    (λ c κs. let b = entry c in (walls-ready (state b) b.requires.0.0, b.requires.0.0.state.rows.some))
     loop-holds
     (λ c κs. (start c).requires.0.0.state.columns.some)
-    (λ c κs. let b = start c.before in (walls-ready (state b) b.pre.0.0, c.previous.ensures.1, c.before.loop-j-test.true))
+    (λ c κs. let b = start c.before in (walls-ready (state b) b.requires.0.0, c.previous.ensures.1, c.before.loop-j-test.true))
     loop2-holds
-    (λ c κs. let b = start (row c) in (walls-ready (state b) b.pre.0.0, c.loop-i-test.true, (row c).loop-j-test.true))
+    (λ c κs. let b = start (row c) in (walls-ready (state b) b.requires.0.0, c.loop-i-test.true, (row c).loop-j-test.true))
     (λ c. omega (arith, in-below c.before))
     (λ c. in-below c.before)
     (λ c κs. tt)
@@ -180,7 +180,7 @@ fill_spec =
     (λ c. in-below c.before.before.before)
     (λ c. omega (arith, most c.before.before.before.before))
     (λ c. omega (arith, most c.before.before.before.before))
-    (λ c. let t = c.before.before.before.before.before in omega (arith, below t, (start (row t)).pre.0.1))
+    (λ c. let t = c.before.before.before.before.before in omega (arith, below t, (start (row t)).requires.0.1))
     (λ c κs. tt)
     (λ c. omega (arith, most (turn c)))
     (λ c. (in_row (turn c)).0)

@@ -34,7 +34,7 @@ start c = c.before.before.before.before
 
 -- a row has 64 cells at most
 in_row : (c : tie.In-loop-i invariant-loop-i decreases-loop-i) → c.before.loop-i.i < 64
-in_row c = omega (arith, c.loop-i-test.true, (start c.before).pre.0.state.columns.most)
+in_row c = omega (arith, c.loop-i-test.true, (start c.before).requires.0.state.columns.most)
 
 loop-again : tie.Need-loop-i-preserved invariant-loop-i decreases-loop-i
 loop-again c =
@@ -52,7 +52,7 @@ loop-again c =
 returns-2 : tie.Need-returns invariant-loop-i decreases-loop-i
 returns-2 c =
     let inv = c.before.loop-i.invariant in
-    record { long = omega (arith, inv.1, (start c.before).pre.0.state.columns.most); each = each_all inv.0 c.loop-i-test.false }
+    record { long = omega (arith, inv.1, (start c.before).requires.0.state.columns.most); each = each_all inv.0 c.loop-i-test.false }
 
 pub from_south_spec : {M : Type 1} → statement M
 from_south_spec =
@@ -64,7 +64,7 @@ from_south_spec =
     returns
     (λ c κs. c.before.before.requires.1)
     (λ c. (each_none, refl))
-    (λ c κs. ((start c.before).pre.0, c.loop-i-test.true, c.before.before.previous-south.ensures.1))
+    (λ c κs. ((start c.before).requires.0, c.loop-i-test.true, c.before.before.previous-south.ensures.1))
     (λ c κs. tt)
     (λ c. omega (arith, in_row c.before.before))
     (λ c. in_row c.before.before)

@@ -21,7 +21,7 @@ state c = let a = c.args in state_of a.p a.h.now a.b.now a.u.now a.v.now a.barri
 
 -- what belongs into the destinations, and what they hold before
 abbrev fillings : tie.Start → List (Filling Float)
-fillings c = let a = c.args in h_doubles (state c) into a.dh-1.now ∷ u_doubles (state c) a.q.now into a.du-1.now ∷ v_doubles (state c) a.q.now into a.dv-1.now ∷ []
+fillings c = let a = c.args in h_doubles (state c) into a.dh.now ∷ u_doubles (state c) a.q.now into a.du.now ∷ v_doubles (state c) a.q.now into a.dv.now ∷ []
 
 -- what the tests have found, once all are made
 abbrev entry : tie.After-then_rooms → tie.Start
@@ -29,7 +29,7 @@ entry c = c.before.before.before.before.before.before.before
 
 tested : (c : tie.After-then_rooms)
     → let b = entry c in let a = b.args in
-    c.then_rooms.result ≡ answer_of (tendencies_test (state b) a.q.now (length a.dh-1.now) (length a.du-1.now) (length a.dv-1.now))
+    c.then_rooms.result ≡ answer_of (tendencies_test (state b) a.q.now (length a.dh.now) (length a.du.now) (length a.dv.now))
 tested c =
     let t = c.before in
     let b = entry c in
@@ -41,14 +41,14 @@ begin c = entry c.before.before
 
 accepted : (c : tie.In-Accepted)
     → let b = begin c in let a = b.args in
-    Accepted ≡ answer_of (tendencies_test (state b) a.q.now (length a.dh-1.now) (length a.du-1.now) (length a.dv-1.now))
+    Accepted ≡ answer_of (tendencies_test (state b) a.q.now (length a.dh.now) (length a.du.now) (length a.dv.now))
 accepted c = sym c.enum_told-1.given.1 ∙ tested c.before.before
 
-inside : (c : tie.In-Accepted) → let b = begin c in let a = b.args in Ready (state b) a.q.now × Room (cells (state b)) a.dh-1.now a.du-1.now a.dv-1.now
+inside : (c : tie.In-Accepted) → let b = begin c in let a = b.args in Ready (state b) a.q.now × Room (cells (state b)) a.dh.now a.du.now a.dv.now
 inside c =
     let b = begin c in
     let a = b.args in
-    let p = tendencies-passed (state b) a.q.now a.dh-1.now a.du-1.now a.dv-1.now (accepted c) in
+    let p = tendencies-passed (state b) a.q.now a.dh.now a.du.now a.dv.now (accepted c) in
     ((p.0, p.1), p.2)
 
 done : tie.Need-returns-in-Accepted

@@ -72,7 +72,7 @@ tendencies_at-requires c κs =
     let i = c.before in
     let s = begin i in
     let inv = i.before.loop-i.invariant in
-    (s.pre.0, i.loop-i-test.true, s.pre.1, inv.4, handing-south inv.3 s.pre.0 i.loop-i-test.true s.pre.1)
+    (s.requires.0, i.loop-i-test.true, s.requires.1, inv.4, handing-south inv.3 s.requires.0 i.loop-i-test.true s.requires.1)
 
 loop-again : tie.Need-loop-i-preserved invariant-loop-i decreases-loop-i
 loop-again c =
@@ -80,10 +80,10 @@ loop-again c =
     let k = t.before in
     let i = turn c in
     let s = begin i in
-    let inv = i.before.loop-i.inv in
+    let inv = i.before.loop-i.invariant in
     let p = i.loop-i-test.taken in
-    let r = s.pre.1 in
-    let fit = fit-in s.pre.0 p r in
+    let r = s.requires.1 in
+    let fit = fit-in s.requires.0 p r in
     let e = k.tendencies_at-cell.ensures in (
       row-filled _ _ _ inv.0 p r (held-is w64 t.struct_told-1.given.0.1 e.depth),
       row-filled _ _ _ inv.1 p r (held-is w64 t.struct_told-1.given.1.0.1 e.u),

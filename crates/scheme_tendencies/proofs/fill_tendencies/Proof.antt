@@ -30,9 +30,9 @@ returns c =
     let some = pre.0.state.columns.some in
     let few : length a.barriers.now ≤ cells s = omega (arith, pre.1) in
     let l = f.fill_walled.ensures in (
-      l.0 ∙ ap (λ t. filled (cells s) t a.dh-1.now) (h-unmasked s),
-      cleared-filled x.clear_barred.ensures s.w s.n (tendency_u s q) (tendency_u (unbarred s) q) a.du-1.now some few pre.2.u l.1 (λ i j p r. u-masked s q i j),
-      cleared-filled y.clear_barred-2.ensures s.w s.n (tendency_v s q) (tendency_v (unbarred s) q) a.dv-1.now some few pre.2.v l.2 (λ i j p r. v-masked s q i j),
+      l.0 ∙ ap (λ t. filled (cells s) t a.dh.now) (h-unmasked s),
+      cleared-filled x.clear_barred.ensures s.w s.n (tendency_u s q) (tendency_u (unbarred s) q) a.du.now some few pre.2.u l.1 (λ i j p r. u-masked s q i j),
+      cleared-filled y.clear_barred-2.ensures s.w s.n (tendency_v s q) (tendency_v (unbarred s) q) a.dv.now some few pre.2.v l.2 (λ i j p r. v-masked s q i j),
     )
 
 pub fill_tendencies_spec : {M : Type 1} → statement M

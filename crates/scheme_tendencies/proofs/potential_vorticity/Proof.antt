@@ -27,23 +27,23 @@ unfolding vorticity vorticity_at Z H
 bottomless p h b u v barriers = refl
 
 -- what the tests have found, once all are made
-tested : (c : tie.After-then_room-answer) → let b = c.before.before.before.before in c.then_room-answer.result ≡ answer_of (vorticity_test (state b) (length b.args.d-1.now))
+tested : (c : tie.After-then_room-answer) → let b = c.before.before.before.before in c.then_room-answer.result ≡ answer_of (vorticity_test (state b) (length b.args.d.now))
 unfolding vorticity_test
 tested c =
     let t = c.before in
     let m = t.before in
     let a = m.before.before.args in
     let g = start Accepted (state_tests (state m.before.before) [] [] []) t.test_state-state.ensures in
-    (counted (λ k. room_tests k (length a.d-1.now ∷ [])) g (λ h. m.corners_of-m.ensures.0 (passed g h).0) c.then_room-answer.ensures).is
+    (counted (λ k. room_tests k (length a.d.now ∷ [])) g (λ h. m.corners_of-m.ensures.0 (passed g h).0) c.then_room-answer.ensures).is
 
-accepted : (c : tie.In-Accepted) → let b = c.before.before.before.before.before.before in Accepted ≡ answer_of (vorticity_test (state b) (length b.args.d-1.now))
+accepted : (c : tie.In-Accepted) → let b = c.before.before.before.before.before.before in Accepted ≡ answer_of (vorticity_test (state b) (length b.args.d.now))
 accepted c = sym c.enum_told-1.given.1 ∙ tested c.before.before
 
 fill_vorticity-requires : tie.Need-fill_vorticity-requires
 fill_vorticity-requires c κs =
     let e = c.before in
     let b = e.before.before.before.before.before.before in
-    let l = vorticity-passed (state b) (length b.args.d-1.now) (accepted e) in
+    let l = vorticity-passed (state b) (length b.args.d.now) (accepted e) in
     (record { columns = l.0.columns; rows = l.0.rows; coriolis = l.0.coriolis; depths = l.0.depths; us = l.0.us; vs = l.0.vs }, l.1)
 
 refused : tie.Need-returns-in_default
@@ -51,7 +51,7 @@ refused c =
     let t = c.before.before in
     let b = t.before.before.before.before in
     let h = c.enum_told-in_default-1.given.1 in
-    fill-refused answer_of told_answer (corners (state b)) (vorticity (state b) into b.args.d-1.now ∷ []) _ (refused-some _ _ (sym h ∙ tested t)) h
+    fill-refused answer_of told_answer (corners (state b)) (vorticity (state b) into b.args.d.now ∷ []) _ (refused-some _ _ (sym h ∙ tested t)) h
 
 done : tie.Need-returns
 done c =
@@ -60,8 +60,8 @@ done c =
     let b = e.before.before.before.before.before.before in
     let a = b.args in
     let m = corners (state b) in
-    fill_done answer_of told_answer m (vorticity (state b) into a.d-1.now ∷ []) (accepted-none _ (accepted e)) refl
-    (ap (λ l. l ∷ []) (f.fill_vorticity.ensures ∙ ap (λ l. filled m l a.d-1.now) (bottomless a.p a.h.now a.b.now a.u.now a.v.now a.barriers.now)))
+    fill_done answer_of told_answer m (vorticity (state b) into a.d.now ∷ []) (accepted-none _ (accepted e)) refl
+    (ap (λ l. l ∷ []) (f.fill_vorticity.ensures ∙ ap (λ l. filled m l a.d.now) (bottomless a.p a.h.now a.b.now a.u.now a.v.now a.barriers.now)))
 
 pub potential_vorticity_spec : {M : Type 1} → statement M
 potential_vorticity_spec =

@@ -19,12 +19,12 @@ state c = let a = c.args in state_of a.p a.h.now a.b.now a.u.now a.v.now a.barri
 
 -- what belongs into the destinations, and what they hold before
 abbrev fillings : tie.Start → List (Filling ℤ)
-fillings c = let a = c.args in h_tendencies (state c) into a.dh-1.now ∷ u_tendencies (state c) a.q.now into a.du-1.now ∷ v_tendencies (state c) a.q.now into a.dv-1.now ∷ []
+fillings c = let a = c.args in h_tendencies (state c) into a.dh.now ∷ u_tendencies (state c) a.q.now into a.du.now ∷ v_tendencies (state c) a.q.now into a.dv.now ∷ []
 
 -- what the tests have found, once all are made
 tested : (c : tie.After-then_rooms-answer)
     → let b = c.before.before.before.before in let a = b.args in
-    c.then_rooms-answer.result ≡ answer_of (tendencies_test (state b) a.q.now (length a.dh-1.now) (length a.du-1.now) (length a.dv-1.now))
+    c.then_rooms-answer.result ≡ answer_of (tendencies_test (state b) a.q.now (length a.dh.now) (length a.du.now) (length a.dv.now))
 tested c =
     let t = c.before in
     let b = t.before.before.before in
@@ -32,7 +32,7 @@ tested c =
 
 accepted : (c : tie.In-Accepted)
     → let b = c.before.before.before.before.before.before in let a = b.args in
-    Accepted ≡ answer_of (tendencies_test (state b) a.q.now (length a.dh-1.now) (length a.du-1.now) (length a.dv-1.now))
+    Accepted ≡ answer_of (tendencies_test (state b) a.q.now (length a.dh.now) (length a.du.now) (length a.dv.now))
 accepted c = sym c.enum_told-1.given.1 ∙ tested c.before.before
 
 fill_tendencies-requires : tie.Need-fill_tendencies-requires
@@ -40,7 +40,7 @@ fill_tendencies-requires c κs =
     let e = c.before.before.before in
     let b = e.before.before.before.before.before.before in
     let a = b.args in
-    tendencies-passed (state b) a.q.now a.dh-1.now a.du-1.now a.dv-1.now (accepted e)
+    tendencies-passed (state b) a.q.now a.dh.now a.du.now a.dv.now (accepted e)
 
 refused : tie.Need-returns-in_default
 refused c =

@@ -31,10 +31,10 @@ module _ (c : tie.After-sum-1 invariant-loop-k decreases-loop-k) where
   start = c.before.before.before
 
   so_far : Abs (sum_to c.before.before.loop-k.k (depth start.args.h.now)) (4096 * 100000)
-  so_far = sum-most 4096 (omega arith) (λ i l. depth-size (start.pre.0.each i (omega arith)))
+  so_far = sum-most 4096 (omega arith) (λ i l. depth-size (start.requires.0.each i (omega arith)))
 
   added : Abs (depth start.args.h.now c.before.before.loop-k.k) 100000
-  added = depth-size (start.pre.0.each _ c.before.loop-k-test.true)
+  added = depth-size (start.requires.0.each _ c.before.loop-k-test.true)
 
 loop-again : tie.Need-loop-k-preserved invariant-loop-k decreases-loop-k
 loop-again c =

@@ -72,7 +72,7 @@ loop2-again c =
     let p = a.p in
     let m = p.w * p.n in
     let k = cell i in
-    let inv = i.before.loop-i.inv in
+    let inv = i.before.loop-i.invariant in
     let l = below i in
     let same = ap (λ (f : ℕ → ℕ → ℤ). f i.before.loop-i.i i.before.before.before.loop-j.j) (depths-kept p inv.1 a.inflow.now (ready-row i).long) in (
       bank-more _ _ _ inv.0 i.loop-i-test.taken i.before.before.loop-j-test.taken (held-is w64 n.new_depth-depth.type_inv (n.new_depth-depth.ensures ∙ same)) (part-set (3 * m) m _ k _ l),

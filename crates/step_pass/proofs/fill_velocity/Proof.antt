@@ -62,12 +62,12 @@ velocity_row-requires : tie.Need-velocity_row-requires invariant-loop-j decrease
 velocity_row-requires c κs =
     let i = c.before.before in
     let s = begin i in
-    let inv = i.before.loop-j.invariant in (velocity-ready-kept (state s) inv.5 s.pre, i.loop-j-test.true, inv.3)
+    let inv = i.before.loop-j.invariant in (velocity-ready-kept (state s) inv.5 s.requires, i.loop-j-test.true, inv.3)
 
 -- what goes by the base as the row begins goes by the one at first
 module _ (c : Turn) (P : State → Type 0) where
-  at_first : let s = begin c in P (base_in s.args.p s.args.b.now [] c.before.loop-j.work-1) → P (base_in s.args.p s.args.b.now [] s.args.work-1.now)
-  at_first = let s = begin c in subst P (base_kept (state s) c.before.loop-j.invariant.5 s.pre.long)
+  at_first : let s = begin c in P (base_in s.args.p s.args.b.now [] c.before.loop-j.work-1) → P (base_in s.args.p s.args.b.now [] s.args.work.now)
+  at_first = let s = begin c in subst P (base_kept (state s) c.before.loop-j.invariant.5 s.requires.long)
 
 loop-again : tie.Need-loop-j-preserved invariant-loop-j decreases-loop-j
 loop-again c =
@@ -82,7 +82,7 @@ loop-again c =
     let e = f.velocity_row.ensures in
     let after = f.velocity_row.new.1.1.1.1.1.1.1 in
     let d' = after.1.0 in
-    let room : (a : ℕ) → a + m ≤ 8 * m → 0 + p.w * p.n ≤ length (part a m s.args.work-1.now) = λ a h. omega (arith, length_part a m s.args.work-1.now (omega (arith, s.pre.long))) in (
+    let room : (a : ℕ) → a + m ≤ 8 * m → 0 + p.w * p.n ≤ length (part a m s.args.work.now) = λ a h. omega (arith, length_part a m s.args.work.now (omega (arith, s.requires.long))) in (
       omega arith,
       row_done _ _ _ j (at_first i (λ b. RowWriting p.w p.n (new_u (state s) b s.args.q.now) 0 j (part (4 * m) m d) p.w (part (4 * m) m d')) e.0) (omega arith) (room (4 * m) (omega arith)) inv.1,
       row_done _ _ _ j (at_first i (λ b. RowWriting p.w p.n (new_v (state s) b s.args.q.now) 0 j (part (5 * m) m d) p.w (part (5 * m) m d')) e.1) (omega arith) (room (5 * m) (omega arith)) inv.2,
@@ -97,7 +97,7 @@ returns c =
     let m = cells s in
     let inv = c.before.loop-j.invariant in
     let all = c.loop-j-test.false in
-    let room : (a : ℕ) → a + m ≤ 8 * m → length (part a m s.args.work-1.now) ≡ m = λ a h. length_part a m s.args.work-1.now (omega (arith, s.requires.long)) in
+    let room : (a : ℕ) → a + m ≤ 8 * m → length (part a m s.args.work.now) ≡ m = λ a h. length_part a m s.args.work.now (omega (arith, s.requires.long)) in
     (bank-filled _ _ _ inv.1 all (room (4 * m) (omega arith)), bank-filled _ _ _ inv.2 all (room (5 * m) (omega arith)), inv.5)
 
 pub fill_velocity_spec : {M : Type 1} → statement M

@@ -53,7 +53,7 @@ q-is : (c : tie.After-part_of) → q c ≡ vorticity (state (start c))
 q-is c =
     let v = corners (flows (depths c)) in
     let s = begin v in
-    vorticity-is (state s) s.args.q-1.now v.fill_vorticity.ensures (c.part_of.ensures ∙ ap (λ (m : ℕ). part 0 m (left v)) c.before.before.corner_count-corners.ensures.0)
+    vorticity-is (state s) s.args.q.now v.fill_vorticity.ensures (c.part_of.ensures ∙ ap (λ (m : ℕ). part 0 m (left v)) c.before.before.corner_count-corners.ensures.0)
 
 fill_vorticity-requires : tie.Need-fill_vorticity-requires
 fill_vorticity-requires c κs =
@@ -64,14 +64,14 @@ fill_vorticity-requires c κs =
 fill_flows-requires : tie.Need-fill_flows-requires
 fill_flows-requires c κs =
     let s = begin c.before.before in
-    let l = s.pre.given in
-    (record { columns = l.columns; rows = l.rows; ratio = l.ratio; depths = l.depths; us = l.us; vs = l.vs }, s.pre.long)
+    let l = s.requires.given in
+    (record { columns = l.columns; rows = l.rows; ratio = l.ratio; depths = l.depths; us = l.us; vs = l.vs }, s.requires.long)
 
 fill_depth-requires : tie.Need-fill_depth-requires
 fill_depth-requires c κs =
     let f = c.before.before in
     let s = begin (corners f) in
-    depth-ready (state s) s.args.inflow.now _ s.args.work-1.now s.pre f.fill_flows.ensures
+    depth-ready (state s) s.args.inflow.now _ s.args.work.now s.requires f.fill_flows.ensures
 
 corner_count-requires : tie.Need-corner_count-corners-requires
 corner_count-requires c κs = let l = (begin (corners (flows c.before))).requires.given in (l.columns, l.rows)
@@ -87,7 +87,7 @@ fill_velocity-requires c κs =
     let p = c.before in
     let d = depths p in
     let s = start p in
-    velocity-ready (state s) s.args.inflow.now _ s.args.work-1.now s.pre (flows d).fill_flows.ensures d.fill_depth.ensures (q-is p)
+    velocity-ready (state s) s.args.inflow.now _ s.args.work.now s.requires (flows d).fill_flows.ensures d.fill_depth.ensures (q-is p)
 
 clear_barred-requires : tie.Need-clear_barred-requires
 clear_barred-requires c κs =
@@ -95,7 +95,7 @@ clear_barred-requires c κs =
     let p = lent v in
     let d = depths p in
     let s = start p in
-    west-room (state s) s.args.inflow.now _ s.args.work-1.now s.pre (flows d).fill_flows.ensures d.fill_depth.ensures (q p) v.fill_velocity.ensures
+    west-room (state s) s.args.inflow.now _ s.args.work.now s.requires (flows d).fill_flows.ensures d.fill_depth.ensures (q p) v.fill_velocity.ensures
 
 clear_barred-requires-2 : tie.Need-clear_barred-requires-2
 clear_barred-requires-2 c κs =
@@ -104,7 +104,7 @@ clear_barred-requires-2 c κs =
     let p = lent v in
     let d = depths p in
     let s = start p in
-    south-room (state s) s.args.inflow.now _ s.args.work-1.now s.pre (flows d).fill_flows.ensures d.fill_depth.ensures (q p) v.fill_velocity.ensures x.clear_barred.ensures
+    south-room (state s) s.args.inflow.now _ s.args.work.now s.requires (flows d).fill_flows.ensures d.fill_depth.ensures (q p) v.fill_velocity.ensures x.clear_barred.ensures
 
 returns : tie.Need-returns
 returns c =
@@ -114,7 +114,7 @@ returns c =
     let p = lent v in
     let d = depths p in
     let s = start p in
-    passed (state s) s.args.inflow.now _ s.args.work-1.now s.pre (flows d).fill_flows.ensures d.fill_depth.ensures (q-is p) v.fill_velocity.ensures x.clear_barred.ensures
+    passed (state s) s.args.inflow.now _ s.args.work.now s.requires (flows d).fill_flows.ensures d.fill_depth.ensures (q-is p) v.fill_velocity.ensures x.clear_barred.ensures
     y.clear_barred-2.ensures
 
 pub pass_spec : {M : Type 1} → statement M

@@ -103,7 +103,7 @@ tendencies_at-requires c κs =
     let t = c.before in
     let s = begin t in
     let inv = t.before.loop-i.invariant in
-    (ready s, t.loop-i-test.true, s.pre.1, inv.3, handing-south inv.2 (ready s) t.loop-i-test.true s.pre.1)
+    (ready s, t.loop-i-test.true, s.requires.1, inv.3, handing-south inv.2 (ready s) t.loop-i-test.true s.requires.1)
 
 abbrev turn : tie.After-tendencies_at-cell invariant-loop-i decreases-loop-i → Turn
 turn c = c.before.before
@@ -130,13 +130,13 @@ u-is : (c : tie.After-tendencies_at-cell invariant-loop-i decreases-loop-i) → 
 u-is c =
     let s = begin (turn c) in
     let e = c.tendencies_at-cell.ensures.u in
-    exact w64 (var 0) (abs-as e (tendency_u-size (ready s) (turn c).loop-i-test.true s.pre.1) ◂ ∎) tt ∙ e
+    exact w64 (var 0) (abs-as e (tendency_u-size (ready s) (turn c).loop-i-test.true s.requires.1) ◂ ∎) tt ∙ e
 
 v-is : (c : tie.After-tendencies_at-cell invariant-loop-i decreases-loop-i) → let s = begin (turn c) in held w64 c.tendencies_at-cell.result.v ≡ tendency_v (state s) (vorticity s) (turn c).before.loop-i.i s.args.j
 v-is c =
     let s = begin (turn c) in
     let e = c.tendencies_at-cell.ensures.v in
-    exact w64 (var 0) (abs-as e (tendency_v-size (ready s) (turn c).loop-i-test.true s.pre.1) ◂ ∎) tt ∙ e
+    exact w64 (var 0) (abs-as e (tendency_v-size (ready s) (turn c).loop-i-test.true s.requires.1) ◂ ∎) tt ∙ e
 
 ratio-is : (c : Start) → held w64 c.args.p.r ≡ c.args.p.r
 ratio-is c = exact w64 (var 0) (ratio-size c.requires.0.ratio ◂ ∎) tt
@@ -149,8 +149,8 @@ moved_velocity-requires c κs =
     let t = c.before.before.before.before.before.before in
     let i = turn t in
     let s = begin i in (
-      subst (Within velocity_limits) (sym (old-u i)) (s.pre.0.us.each (cell i) (below i)),
-      abs-as (u-is t) (tendency_u-size (ready s) i.loop-i-test.taken s.pre.1),
+      subst (Within velocity_limits) (sym (old-u i)) (s.requires.0.us.each (cell i) (below i)),
+      abs-as (u-is t) (tendency_u-size (ready s) i.loop-i-test.taken s.requires.1),
       ratio-within s,
     )
 
@@ -159,8 +159,8 @@ moved_velocity-requires-2 c κs =
     let t = c.before.before.before.before.before.before.before.before.before.before in
     let i = turn t in
     let s = begin i in (
-      subst (Within velocity_limits) (sym (old-v i)) (s.pre.0.vs.each (cell i) (below i)),
-      abs-as (v-is t) (tendency_v-size (ready s) i.loop-i-test.taken s.pre.1),
+      subst (Within velocity_limits) (sym (old-v i)) (s.requires.0.vs.each (cell i) (below i)),
+      abs-as (v-is t) (tendency_v-size (ready s) i.loop-i-test.taken s.requires.1),
       ratio-within s,
     )
 
@@ -197,9 +197,9 @@ loop-again c =
     let m = cells s in
     let k = cell i in
     let d = i.before.loop-i.work in
-    let inv = i.before.loop-i.inv in
+    let inv = i.before.loop-i.invariant in
     let p = i.loop-i-test.taken in
-    let r = s.pre.1 in
+    let r = s.requires.1 in
     let l = below i in
     let fit = fit-in (ready s) p r in
     let e = t.tendencies_at-cell.ensures in (

@@ -43,13 +43,13 @@ after c =
 -- a field at hand is as long as the one that was lent
 module _ (c : tie.After-two_pass invariant-loop decreases-loop) where
   h-long : let a = (begin (turn c)).args in length c.two_pass.new.1.0 ≡ length a.h.now
-  h-long = c.two_pass.auto.1.0 ∙ (turn c).before.loop.invariant.0.state.depths.long ∙ sym (begin (turn c)).pre.state.depths.long
+  h-long = c.two_pass.auto.1.0 ∙ (turn c).before.loop.invariant.0.state.depths.long ∙ sym (begin (turn c)).requires.state.depths.long
 
   u-long : let a = (begin (turn c)).args in length c.two_pass.new.1.1.1.0 ≡ length a.u.now
-  u-long = c.two_pass.auto.1.1.1.0 ∙ (turn c).before.loop.invariant.0.state.us.long ∙ sym (begin (turn c)).pre.state.us.long
+  u-long = c.two_pass.auto.1.1.1.0 ∙ (turn c).before.loop.invariant.0.state.us.long ∙ sym (begin (turn c)).requires.state.us.long
 
   v-long : let a = (begin (turn c)).args in length c.two_pass.new.1.1.1.1.0 ≡ length a.v.now
-  v-long = c.two_pass.auto.1.1.1.1.0 ∙ (turn c).before.loop.invariant.0.state.vs.long ∙ sym (begin (turn c)).pre.state.vs.long
+  v-long = c.two_pass.auto.1.1.1.1.0 ∙ (turn c).before.loop.invariant.0.state.vs.long ∙ sym (begin (turn c)).requires.state.vs.long
 
   q-long : let a = (begin (turn c)).args in length c.two_pass.new.1.1.1.1.1.1.1.0 ≡ length a.q.now
   q-long = c.two_pass.auto.1.1.1.1.1.1.1.0 ∙ (turn c).before.loop.invariant.3
@@ -70,7 +70,7 @@ returns c =
     let inflow = (begin i).args.inflow.now in
     let o = two_pass (state i) inflow in
     let z = came-stuck o _ _ _ (subst (λ a. Stepped (state i) o a (after t)) c.before.pass.given.1 t.two_pass.ensures.0) in
-    let ran = running-stuck i.before.loop.inv.1 i.loop-test.taken z.0 in
+    let ran = running-stuck i.before.loop.invariant.1 i.loop-test.taken z.0 in
     (sym (ap (λ (r : Ran). r.answer) ran), z.1 ∙ sym (ap (λ (r : Ran). r.state) ran), rest t)
 
 abbrev moves : tie.After-enum_told invariant-loop decreases-loop → tie.After-two_pass invariant-loop decreases-loop
@@ -82,7 +82,7 @@ loop-again c =
     let i = turn t in
     let inflow = (begin i).args.inflow.now in
     let o = two_pass (state i) inflow in
-    let inv = i.before.loop.inv in
+    let inv = i.before.loop.invariant in
     let e = came-moved o (subst (λ a. Stepped (state i) o a (after t)) c.enum_told.given.1 t.two_pass.ensures.0) in
     (ready-next inv.0 e t.two_pass.kept.1.1.1.1.1.1.1.0 t.two_pass.ensures.1.long, running_more inv.1 i.loop-test.taken e, rest t, q-long t)
 

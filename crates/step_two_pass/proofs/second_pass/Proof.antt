@@ -38,15 +38,15 @@ take_state-requires : tie.Need-take_state-requires
 take_state-requires c κs =
     let k = passed c.before.before.before.before.before.before in
     let s = begin k in
-    let g = s.pre.given in
-    (g.depths.long, g.us.long, g.vs.long, few s, omega arith, omega (arith, s.pre.long, k.pass.ensures.1.long))
+    let g = s.requires.given in
+    (g.depths.long, g.us.long, g.vs.long, few s, omega arith, omega (arith, s.requires.long, k.pass.ensures.1.long))
 
 take_state-requires-2 : tie.Need-take_state-requires-2
 take_state-requires-2 c κs =
     let k = passed c.before.before.before.before.before.before.before in
     let s = begin k in
-    let g = s.pre.given in
-    (g.depths.long, g.us.long, g.vs.long, few s, omega arith, omega (arith, s.pre.long, k.pass.ensures.1.long))
+    let g = s.requires.given in
+    (g.depths.long, g.us.long, g.vs.long, few s, omega arith, omega (arith, s.requires.long, k.pass.ensures.1.long))
 
 returns : tie.Need-returns
 returns c =
@@ -67,7 +67,7 @@ returns-2 c =
     let k = passed l in
     let s = begin k in
     let a = s.args in
-    let state = taken-base a.p a.b.now a.barriers.now _ _ _ _ t.take_state2.ensures ∙ base-after a.p a.b.now a.barriers.now k.pass.ensures.1 s.pre.long in
+    let state = taken-base a.p a.b.now a.barriers.now _ _ _ _ t.take_state2.ensures ∙ base-after a.p a.b.now a.barriers.now k.pass.ensures.1 s.requires.long in
     (second_stuck (base s) (given s) a.inflow.now _ _ (sym e.field.given.1 ∙ scanned l) state, rest_of (cells s) k.pass.ensures.1 (omega arith))
 
 pub second_pass_spec : {M : Type 1} → statement M
@@ -76,7 +76,7 @@ second_pass_spec =
     (tie.spec
     (λ c. omega (arith, few c.before.before))
     (λ c κs. search rules)
-    (λ c κs. let k = c.before.before.before in let s = begin k in let g = s.pre.given in (g.columns, g.rows, omega (arith, s.pre.long, k.pass.ensures.1.long)))
+    (λ c κs. let k = c.before.before.before in let s = begin k in let g = s.requires.given in (g.columns, g.rows, omega (arith, s.requires.long, k.pass.ensures.1.long)))
     (λ c. search rules)
     (λ c. omega (arith, few (begin (passed c.before.before.before))))
     take_state-requires

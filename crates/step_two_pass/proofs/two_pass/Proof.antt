@@ -86,7 +86,7 @@ take_state-requires : tie.Need-take_state-requires
 take_state-requires c κs =
     let k = returned c.before.before.before.before.before.before in
     let s = begin (kept k.before) in
-    let l = s.pre.state in
+    let l = s.requires.state in
     (l.depths.long, l.us.long, l.vs.long, few s, omega arith, (ready-again k).long)
 
 -- ---- pass 1's result is lent

@@ -46,7 +46,7 @@ loop-again c =
     let a = l.before.before.args in
     let k = l.loop-k.k in
     let f = cell_line a.w a.h.now a.u.now a.v.now in
-    let start = sink a.at a.out-1.now in (
+    let start = sink a.at a.out.now in (
       omega arith,
       p.put_cell-after.auto.0 ∙ l.loop-k.invariant.1,
       follows (lines (tabulate k f)) (f k) start l.loop-k.invariant.2
@@ -60,7 +60,7 @@ returns c =
     let l = c.before in
     let a = l.before.before.args in
     let f = cell_line a.w a.h.now a.u.now a.v.now in
-    l.loop-k.invariant.2 ∙ ap (λ k. puts (lines (tabulate k f)) (sink a.at a.out-1.now)) (le_antisymm l.loop-k.invariant.0 c.loop-k-test.false)
+    l.loop-k.invariant.2 ∙ ap (λ k. puts (lines (tabulate k f)) (sink a.at a.out.now)) (le_antisymm l.loop-k.invariant.0 c.loop-k-test.false)
 
 pub put_cells_spec : {M : Type 1} → statement M
 put_cells_spec =

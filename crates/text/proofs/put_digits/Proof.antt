@@ -11,7 +11,7 @@ returns c =
     let p = c.before.before in
     let d = p.before.before.before in
     let s = d.before.before.before in
-    p.put_text.ensures ∙ ap (λ l. puts l (sink s.args.at s.args.out-1.now)) (d.decimal-count.ensures.1.1 ∙ kit-digits s.args.x d.decimal-count.result d.decimal-count.ensures.1.0)
+    p.put_text.ensures ∙ ap (λ l. puts l (sink s.args.at s.args.out.now)) (d.decimal-count.ensures.1.1 ∙ kit-digits s.args.x d.decimal-count.result d.decimal-count.ensures.1.0)
 
 pub put_digits_spec : {M : Type 1} → statement M
 put_digits_spec = tie.close (tie.spec (λ c κs. search rules) (λ c. search rules) (λ c. search rules) (λ c κs. search rules) (λ c. search rules) returns)

@@ -15,7 +15,7 @@ returns c =
     let t = p.before.before.before.before in
     let s = t.before.before.before.before in
     let name = s.args.name.now in
-    let start = sink 0 s.args.out-1.now in
+    let start = sink 0 s.args.out.now in
     word-then name 32 (decimal s.args.x ++ (10 ∷ [])) start (follows name (32 ∷ []) start t.put_text-named.ensures p.put-spaced.ensures)
     (word-as 10 (sink p.put-spaced.result p.put-spaced.new.0) (to_z-of_z s.ranges.x) w.put_word.ensures)
 

@@ -27,12 +27,12 @@ returns c =
     let p = c.before.before in
     let t = p.before.before in
     let s = t.before.before in
-    p.put.ensures ∙ ap (λ l. puts l (sink s.args.at s.args.out-1.now)) (below s.args.x (rw (to_z-of_z s.ranges.x) at t.if-x-lt0.true))
+    p.put.ensures ∙ ap (λ l. puts l (sink s.args.at s.args.out.now)) (below s.args.x (rw (to_z-of_z s.ranges.x) at t.if-x-lt0.true))
 
 returns-2 : tie.Need-returns-else-x-lt0
 returns-2 c =
     let s = c.before.before in
-    ap (λ l. puts l (sink s.args.at s.args.out-1.now)) (above s.args.x (rw (to_z-of_z s.ranges.x) at c.if-x-lt0.false))
+    ap (λ l. puts l (sink s.args.at s.args.out.now)) (above s.args.x (rw (to_z-of_z s.ranges.x) at c.if-x-lt0.false))
 
 pub put_sign_spec : {M : Type 1} → statement M
 put_sign_spec = tie.close (tie.spec (λ c κs. search rules) (λ c. search rules) returns returns-2)

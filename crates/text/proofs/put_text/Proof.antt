@@ -26,15 +26,15 @@ loop-again c =
     let text = a.text.now in (
       omega arith,
       p.put-after.auto.0 ∙ l.loop-k.invariant.1,
-      follows (take k text) (get_or text k 0 ∷ []) (sink a.at a.out-1.now) l.loop-k.invariant.2 p.put-after.ensures
-          ∙ ap (λ t. puts t (sink a.at a.out-1.now)) (sym (ap (λ j. take j text) (add-one k) ∙ take-suc text k 0 (omega arith))),
+      follows (take k text) (get_or text k 0 ∷ []) (sink a.at a.out.now) l.loop-k.invariant.2 p.put-after.ensures
+          ∙ ap (λ t. puts t (sink a.at a.out.now)) (sym (ap (λ j. take j text) (add-one k) ∙ take-suc text k 0 (omega arith))),
     )
 
 returns : tie.Need-returns invariant-loop-k decreases-loop-k
 returns c =
     let l = c.before in
     let a = l.before.before.before.args in
-    l.loop-k.invariant.2 ∙ ap (λ t. puts t (sink a.at a.out-1.now)) (take_all l.loop-k.k a.text.now (omega arith))
+    l.loop-k.invariant.2 ∙ ap (λ t. puts t (sink a.at a.out.now)) (take_all l.loop-k.k a.text.now (omega arith))
 
 pub put_text_spec : {M : Type 1} → statement M
 put_text_spec =

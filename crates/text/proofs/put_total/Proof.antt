@@ -11,7 +11,7 @@ returns : tie.Need-returns
 returns c =
     let p = c.before.before in
     let s = p.before.before.before.before in
-    p.put_named.ensures ∙ ap (λ x. puts (total_line x) (sink 0 s.args.out-1.now)) (to_z-of_z s.ranges.x)
+    p.put_named.ensures ∙ ap (λ x. puts (total_line x) (sink 0 s.args.out.now)) (to_z-of_z s.ranges.x)
 
 pub put_total_spec : {M : Type 1} → statement M
 put_total_spec = tie.close (tie.spec (λ c. search rules) (λ c κs. search rules) (λ c. search rules) returns)
