@@ -25,9 +25,13 @@ pub record Value (x : Float) (z : ℤ) : Type 0 where
   pub is : z ≡ signed (sign_of x) size
 
 pub value-of : (x : Float) (z : ℤ) → IsWhole x z → Value x z
+value-of nan z w = elim w [ ]
+value-of (inf _) z w = elim w [ ]
 value-of (fin s m e) z w = record { size = w.0; has = (refl, mul-one (m * up e) ∙ w.1); is = w.2 }
 
 pub whole_of : (x : Float) (s : Bool) (n : ℕ) → HasValue x s n 1 → IsWhole x (signed s n)
+whole_of nan s n v = elim v [ ]
+whole_of (inf _) s n v = elim v [ ]
 whole_of (fin t m e) s n v = (n, sym (mul-one (m * up e)) ∙ v.1, ap (λ b. signed b n) (sym v.0))
 
 -- ---- whole numbers with a sign
@@ -77,6 +81,10 @@ under a b h =
 pub mul-round : (f : Format) (x y : Float) (s t : Bool) (a b : ℕ) → HasValue x s a 1 → HasValue y t b 1
     → mul f x y ≡ round f (unlike s t) (a * b) 1
 unfolding mul
+mul-round f nan y s t a b v w = elim v [ ]
+mul-round f (inf _) y s t a b v w = elim v [ ]
+mul-round f (fin s' m e) nan s t a b v w = elim w [ ]
+mul-round f (fin s' m e) (inf _) s t a b v w = elim w [ ]
 mul-round f (fin s' m e) (fin t' n d) s t a b v w =
     let p = m * up e * (n * up d) in
     let c = down e * down d in
@@ -91,6 +99,10 @@ mul-round f (fin s' m e) (fin t' n d) s t a b v w =
 pub add-sum : (f : Format) (x y : Float) (s t : Bool) (a b : ℕ) → HasValue x s a 1 → HasValue y t b 1
     → (c : ℕ) × (0 < c) × (add f x y ≡ sum f s (a * c) t (b * c) c)
 unfolding add
+add-sum f nan y s t a b v w = elim v [ ]
+add-sum f (inf _) y s t a b v w = elim v [ ]
+add-sum f (fin s' m e) nan s t a b v w = elim w [ ]
+add-sum f (fin s' m e) (inf _) s t a b v w = elim w [ ]
 add-sum f (fin s' m e) (fin t' n d) s t a b v w =
     let c = down e * down d in
     let x = m * up e * down d in
@@ -187,4 +199,6 @@ mul-rounds f x y p q v w =
 -- a negation rounds nothing
 pub neg-whole : (x : Float) (z : ℤ) → IsWhole x z → IsWhole (neg x) (neg_ℤ z)
 unfolding neg
+neg-whole nan z w = elim w [ ]
+neg-whole (inf _) z w = elim w [ ]
 neg-whole (fin s m e) z w = (w.0, w.1, ap neg_ℤ w.2 ∙ neg-signed s w.0)
