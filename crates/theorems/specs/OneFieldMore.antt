@@ -21,6 +21,7 @@ pub has_one : (t : ℕ) (parts : List Part) (p : Part) → has t (parts ++ (p �
 has_one t parts p = has_more t parts (p ∷ []) ∙ ap (λ x. has t parts || x) (or-false (eqb p.tag t))
 
 pub among-more : (t : ℕ) (parts : List Part) (p : Part) → Among t parts → Among t (parts ++ (p ∷ []))
+among-more t [] p m = elim m [ ]
 among-more t (q ∷ parts) p (inl e) = inl e
 among-more t (q ∷ parts) p (inr m) = inr (among-more t parts p m)
 
