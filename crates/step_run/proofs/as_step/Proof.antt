@@ -13,5 +13,5 @@ as_step_spec =
     (λ c. search rules)
     (λ c. search rules)
     (λ c. search rules)
-    (λ c. sym (ap as_step c.before.run.given.1))
-    (λ c. sym (ap as_step c.before.run2.given.1)))
+    (λ c. sym (ap as_step c.before.run-1.given.1))
+    (λ c. sym (ap as_step c.before.run-in-Stopped-1.given.1)))

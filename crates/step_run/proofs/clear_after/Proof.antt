@@ -8,10 +8,10 @@ use Rattle.model.specs.Step.{leaves_all, cleared, work_left}
 use Rattle.step_run.proofs.clear_after.Statement.{statement}
 use Rattle.step_run.proofs.clear_after.Tie as tie
 
-clears : (c : tie.Then1) → leaves_all c.before.before.args.refusal ≡ false
-clears c = sym c.before.Leaves-all.ensures ∙ not-true _ c.if1.true
+clears : (c : tie.Then-not-leaves_all) → leaves_all c.before.before.args.refusal ≡ false
+clears c = sym c.before.Leaves-all.ensures ∙ not-true _ c.if-not-leaves_all.true
 
-returns : tie.Need-returns
+returns : tie.Need-returns-then-not-leaves_all
 unfolding work_left
 returns c h b u v barriers =
     let k = c.before in
@@ -19,11 +19,11 @@ returns c h b u v barriers =
     let a = t.before.before.args in
     k.clear_used.ensures ∙ sym (ap (λ x. cond x a.work.now (cleared (state_of a.p h b u v barriers) a.work.now)) (clears t))
 
-returns-2 : tie.Need-returns-2
+returns-2 : tie.Need-returns-else-not-leaves_all
 unfolding work_left
 returns-2 c h b u v barriers =
     let a = c.before.before.args in
-    sym (ap (λ x. cond x a.work.now (cleared (state_of a.p h b u v barriers) a.work.now)) (sym c.before.Leaves-all.ensures ∙ not-false _ c.if1.false))
+    sym (ap (λ x. cond x a.work.now (cleared (state_of a.p h b u v barriers) a.work.now)) (sym c.before.Leaves-all.ensures ∙ not-false _ c.if-not-leaves_all.false))
 
 pub clear_after_spec : {M : Type 1} → statement M
 clear_after_spec =

@@ -11,10 +11,10 @@ abbrev state : tie.Start → State
 state c = let a = c.args in state_of a.p a.h.now a.b.now a.u.now a.v.now a.barriers.now
 
 -- what the steps ask, of an array of m numbers
-ready : (c : tie.After-corner_count) {m : ℕ} → c.corner_count.result ≤ m → let s = c.before.before in StepReady (state s) s.args.inflow.now m s.args.work.now
+ready : (c : tie.After-corner_count-corners) {m : ℕ} → c.corner_count-corners.result ≤ m → let s = c.before.before in StepReady (state s) s.args.inflow.now m s.args.work.now
 ready c {m} l =
     let t = c.before.before.requires in
-    record { state = t.0; entering = t.1; fits = subst (λ (k : ℕ). k ≤ m) c.corner_count.ensures.0 l; long = t.2 }
+    record { state = t.0; entering = t.1; fits = subst (λ (k : ℕ). k ≤ m) c.corner_count-corners.ensures.0 l; long = t.2 }
 
 pub run_in_room_spec : {M : Type 1} → statement M
 run_in_room_spec =
@@ -22,21 +22,21 @@ run_in_room_spec =
     (tie.spec
     (λ c κs. let t = c.before.requires.0 in (t.columns, t.rows))
     (λ c. search rules)
-    (λ c κs. let few = c.before.before.before.before.before in ready few.before few.if1.true)
+    (λ c κs. let few = c.before.before.before.before.before in ready few.before few.if-corners-le25.true)
     (λ c. search rules)
     (λ c. search rules)
     (λ c. search rules)
     (λ c. search rules)
     (λ c. search rules)
     (λ c. search rules)
-    (λ c κs. let some = c.before.before.before.before.before in ready some.before.before some.if2.true)
+    (λ c κs. let some = c.before.before.before.before.before in ready some.before.before some.if-corners-le289.true)
     (λ c. search rules)
     (λ c. search rules)
     (λ c. search rules)
     (λ c. search rules)
     (λ c. search rules)
     (λ c. search rules)
-    (λ c κs. let k = c.before.before.before.before.before.before.before in ready k k.corner_count.ensures.1)
+    (λ c κs. let k = c.before.before.before.before.before.before.before in ready k k.corner_count-corners.ensures.1)
     (λ c. search rules)
     (λ c. search rules)
     (λ c. search rules)

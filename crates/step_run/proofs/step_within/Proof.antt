@@ -16,7 +16,7 @@ run_tested-requires : tie.Need-run_tested-requires
 run_tested-requires c κs =
     let t = c.before.before.before.before in
     let s = t.before.before in
-    t.test_beside.ensures ∙ sym (ap answer_of (beside-only (state s) s.args.inflow.now (length s.args.work.now) s.requires))
+    t.test_beside-tested.ensures ∙ sym (ap answer_of (beside-only (state s) s.args.inflow.now (length s.args.work.now) s.requires))
 
 returns : tie.Need-returns
 returns c =

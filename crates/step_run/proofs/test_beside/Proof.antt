@@ -19,15 +19,15 @@ few : (c : tie.Start) → c.args.p.w * c.args.p.n ≤ 4096
 few c = cells-most c.requires.0 c.requires.1
 
 -- the chain so far
-sized : (c : tie.After-then_work)
+sized : (c : tie.After-then_work-work)
     → let a = c.before.before.before.args in
     let m = a.p.w * a.p.n in
-    Chain Accepted c.then_work.result (length_test m (length a.inflow.now) ∷ work_test m a.room ∷ [])
+    Chain Accepted c.then_work-work.result (length_test m (length a.inflow.now) ∷ work_test m a.room ∷ [])
 sized c =
     let l = c.before in
     let a = l.before.before.args in
     let m = a.p.w * a.p.n in
-    more (work_test m a.room ∷ []) (start Accepted (length_test m (length a.inflow.now) ∷ []) l.then_length.ensures) c.then_work.ensures
+    more (work_test m a.room ∷ []) (start Accepted (length_test m (length a.inflow.now) ∷ []) l.then_length-lengths.ensures) c.then_work-work.ensures
 
 pub test_beside_spec : {M : Type 1} → statement M
 test_beside_spec =

@@ -41,14 +41,14 @@ take_state-requires c κs =
     let g = s.requires.given in
     (g.depths.long, g.us.long, g.vs.long, few s, omega arith, omega (arith, s.requires.long, k.pass.ensures.1.long))
 
-take_state-requires-2 : tie.Need-take_state-requires-2
+take_state-requires-2 : tie.Need-take_state-requires-in-Outside
 take_state-requires-2 c κs =
     let k = passed c.before.before.before.before.before.before.before in
     let s = begin k in
     let g = s.requires.given in
     (g.depths.long, g.us.long, g.vs.long, few s, omega arith, omega (arith, s.requires.long, k.pass.ensures.1.long))
 
-returns : tie.Need-returns
+returns : tie.Need-returns-in-Kept
 returns c =
     let t = c.before.before.before in
     let e = t.before.before.before.before.before in
@@ -57,9 +57,9 @@ returns c =
     let s = begin k in
     let a = s.args in
     let state = taken-result a.p a.b.now a.barriers.now _ _ _ _ t.take_state.ensures ∙ k.pass.ensures.0 in
-    (second-moved (base s) (given s) a.inflow.now (sym e.enum_told.given.1 ∙ scanned l) state, rest_of (cells s) k.pass.ensures.1 (omega arith))
+    (second-moved (base s) (given s) a.inflow.now (sym e.enum_told-1.given.1 ∙ scanned l) state, rest_of (cells s) k.pass.ensures.1 (omega arith))
 
-returns-2 : tie.Need-returns-2
+returns-2 : tie.Need-returns-in-Outside
 returns-2 c =
     let t = c.before.before.before in
     let e = t.before.before.before.before.before.before in
@@ -67,8 +67,8 @@ returns-2 c =
     let k = passed l in
     let s = begin k in
     let a = s.args in
-    let state = taken-base a.p a.b.now a.barriers.now _ _ _ _ t.take_state2.ensures ∙ base-after a.p a.b.now a.barriers.now k.pass.ensures.1 s.requires.long in
-    (second_stuck (base s) (given s) a.inflow.now _ _ (sym e.field.given.1 ∙ scanned l) state, rest_of (cells s) k.pass.ensures.1 (omega arith))
+    let state = taken-base a.p a.b.now a.barriers.now _ _ _ _ t.take_state-in-Outside.ensures ∙ base-after a.p a.b.now a.barriers.now k.pass.ensures.1 s.requires.long in
+    (second_stuck (base s) (given s) a.inflow.now _ _ (sym e.field-1.given.1 ∙ scanned l) state, rest_of (cells s) k.pass.ensures.1 (omega arith))
 
 pub second_pass_spec : {M : Type 1} → statement M
 second_pass_spec =

@@ -8,7 +8,7 @@ returns c =
     let z = c.before in
     let y = z.before.before.before in
     let x = y.before.before.before in
-    (x.copy_out.ensures, y.copy_out2.ensures, z.copy_out3.ensures)
+    (x.copy_out.ensures, y.copy_out-2.ensures, z.copy_out-3.ensures)
 
 pub take_state_spec : {M : Type 1} → statement M
 take_state_spec =

@@ -64,13 +64,13 @@ base-still c = let k = kept c in let a = (begin k).args in base-after a.p a.b.no
 abbrev room : tie.After-pass → ℕ
 room c = length c.pass.new.1.1.1.1.1.1.1.0
 
-ready-again : (c : tie.After-q) → let k = c.before in let s = begin (kept k) in StepReady (state s) s.args.inflow.now (room k) (space k)
-ready-again c = let k = c.before in ready-after (ready (kept k)) c.q.given k.pass.ensures.1.long
+ready-again : (c : tie.After-q-1) → let k = c.before in let s = begin (kept k) in StepReady (state s) s.args.inflow.now (room k) (space k)
+ready-again c = let k = c.before in ready-after (ready (kept k)) c.q-1.given k.pass.ensures.1.long
 
 rest : (c : tie.After-pass) → let s = begin (kept c) in Rest (cells s) s.args.work.now (space c)
 rest c = let k = kept c in let m = cells (begin k) in rest_then (rest_of m k.keep_base.ensures.3 (omega arith)) (rest_of m c.pass.ensures.1 (omega arith))
 
-abbrev returned : tie.After-first_outside → tie.After-q
+abbrev returned : tie.After-first_outside → tie.After-q-1
 returned c = c.before.before.before
 
 abbrev passed : tie.After-first_outside → tie.After-pass
@@ -91,17 +91,17 @@ take_state-requires c κs =
 
 -- ---- pass 1's result is lent
 
-abbrev chosen : tie.After-take_state → tie.After-enum_told
+abbrev chosen : tie.After-take_state → tie.In-Kept
 chosen c = c.before.before.before.before.before
 
-abbrev again : tie.After-take_state → tie.After-q
+abbrev again : tie.After-take_state → tie.After-q-1
 again c = returned (chosen c).before.before
 
 abbrev done : tie.After-take_state → tie.After-pass
 done c = (again c).before
 
 clean : (c : tie.After-take_state) → Kept ≡ bounds_by (leaves (first (begin (kept (done c)))))
-clean c = let e = chosen c in sym e.enum_told.given.1 ∙ scanned e.before.before
+clean c = let e = chosen c in sym e.enum_told-1.given.1 ∙ scanned e.before.before
 
 lent_is : (c : tie.After-take_state)
     → let s = begin (kept (done c)) in let l = c.take_state.new.1.1.1 in state_of s.args.p l.0 s.args.b.now l.1.0 l.1.1.0 s.args.barriers.now ≡ first s
@@ -118,7 +118,7 @@ second_pass-requires c κs =
     let s = begin (kept k) in
     subst (λ g. PassReady g s.args.inflow.now (room k) (space k)) (sym (lent_is t)) (second-ready (state s) s.args.inflow.now (ready-again (again t)) (clean t) (base-still k))
 
-returns : tie.Need-returns
+returns : tie.Need-returns-in-Kept
 returns c =
     let n = c.before.before.before.before.before in
     let t = n.before.before.before.before.before.before.before.before.before in
@@ -128,13 +128,13 @@ returns c =
     let e = n.second_pass.ensures in
     (both (state s) inflow (clean t) (second-as inflow (base-still k) (lent_is t) e.0), rest_then (rest k) e.1)
 
-returns-2 : tie.Need-returns-2
+returns-2 : tie.Need-returns-in-Outside
 returns-2 c =
     let f = c.before in
     let l = f.before.before in
     let k = passed l in
     let s = begin (kept k) in
-    (first-stuck (state s) s.args.inflow.now _ _ (sym f.field.given.1 ∙ scanned l), rest k)
+    (first-stuck (state s) s.args.inflow.now _ _ (sym f.field-1.given.1 ∙ scanned l), rest k)
 
 pub two_pass_spec : {M : Type 1} → statement M
 two_pass_spec =

@@ -9,7 +9,7 @@ use Rattle.tests.proofs.corners_of.Tie as tie
 
 corner_count-requires : tie.Need-corner_count-requires
 corner_count-requires c κs =
-    let k = (known-iff c.before.before.args.p).0 (true-T (sym c.before.grid_known.ensures ∙ c.if1.true)) in (k.columns, k.rows)
+    let k = (known-iff c.before.before.args.p).0 (true-T (sym c.before.grid_known.ensures ∙ c.if-grid_known.true)) in (k.columns, k.rows)
 
 pub corners_of_spec : {M : Type 1} → statement M
 corners_of_spec =
@@ -18,4 +18,4 @@ corners_of_spec =
     (λ c κs. search rules)
     corner_count-requires
     (λ c. (λ t. c.corner_count.ensures.0, c.corner_count.ensures.1))
-    (λ c. (λ t. absurd (rw (sym c.before.grid_known.ensures ∙ c.if1.false) at t), zero-le)))
+    (λ c. (λ t. absurd (rw (sym c.before.grid_known.ensures ∙ c.if-grid_known.false) at t), zero-le)))

@@ -18,54 +18,54 @@ use Rattle.tests.specs.Sought.{found_by, outside_in}
 use Rattle.tests.proofs.first_byte_outside.Statement.{statement}
 use Rattle.tests.proofs.first_byte_outside.Tie as tie
 
-abbrev invariant-loop : tie.invariant-loop
-invariant-loop bytes l k₀ k-end k = Scanned (outside_in l (map pos bytes)) (length bytes) k
+abbrev invariant-loop-k : tie.invariant-loop-k
+invariant-loop-k bytes l k₀ k-end k = Scanned (outside_in l (map pos bytes)) (length bytes) k
 
-abbrev decreases-loop : tie.decreases-loop
-decreases-loop bytes l k₀ k-end k = length bytes - k
+abbrev decreases-loop-k : tie.decreases-loop-k
+decreases-loop-k bytes l k₀ k-end k = length bytes - k
 
-loop-holds : tie.Need-loop-init invariant-loop decreases-loop
+loop-holds : tie.Need-loop-k-init invariant-loop-k decreases-loop-k
 loop-holds c = scanned-none
 
 -- a byte is no negative number
-cast-x : tie.Need-overflow_cast-x invariant-loop decreases-loop
-cast-x c = record { sfits = lt_trans (c.shared_slice_known2.given c.before.before.loop.k).fits (lit< tt) }
+cast-x : tie.Need-overflow_cast-x invariant-loop-k decreases-loop-k
+cast-x c = record { sfits = lt_trans (c.shared_slice_known-in-loop-k-1.given c.before.before.loop-k.k).fits (lit< tt) }
 
 -- what the call of `within` tells
-told : (c : tie.After-within invariant-loop decreases-loop)
+told : (c : tie.After-within invariant-loop-k decreases-loop-k)
     → let l = c.before.before.before in
     let a = l.before.before.args in
-    c.within.result ≡ within (between a.l) (get_or (map pos a.bytes.now) l.loop.k (pos 0))
+    c.within.result ≡ within (between a.l) (get_or (map pos a.bytes.now) l.loop-k.k (pos 0))
 told c =
     let l = c.before.before.before in
     let a = l.before.before.args in
     c.within.ensures
-    ∙ ap (λ (z : ℤ). within (between a.l) z) (to_z-of_z {w = w64} {z = pos (get_or a.bytes.now l.loop.k 0)} (cast-x c.before) ∙ sym (get_or-map pos a.bytes.now l.loop.k 0))
+    ∙ ap (λ (z : ℤ). within (between a.l) z) (to_z-of_z {w = w64} {z = pos (get_or a.bytes.now l.loop-k.k 0)} (cast-x c.before) ∙ sym (get_or-map pos a.bytes.now l.loop-k.k 0))
 
-returns : tie.Need-returns invariant-loop decreases-loop
+returns : tie.Need-returns-then-not-within invariant-loop-k decreases-loop-k
 returns c =
     let w = c.before in
     let i = w.before.before in
-    sym (ap found_by (scanned-bad i.before.loop.invariant i.loop-test.true (ap not (sym (told w)) ∙ c.if1.true)))
+    sym (ap found_by (scanned-bad i.before.loop-k.invariant i.loop-k-test.true (ap not (sym (told w)) ∙ c.if-not-within.true)))
 
-loop-again : tie.Need-loop-preserved invariant-loop decreases-loop
+loop-again : tie.Need-loop-k-preserved invariant-loop-k decreases-loop-k
 loop-again c =
     let w = c.before in
     let i = w.before.before in
-    scanned-more i.before.loop.invariant i.loop-test.true (ap not (sym (told w)) ∙ c.if1.false)
+    scanned-more i.before.loop-k.invariant i.loop-k-test.true (ap not (sym (told w)) ∙ c.if-not-within.false)
 
 pub first_byte_outside_spec : {M : Type 1} → statement M
 first_byte_outside_spec =
     tie.close
     (tie.spec
-    invariant-loop
-    decreases-loop
+    invariant-loop-k
+    decreases-loop-k
     loop-holds
-    (λ c. c.before.loop-test.true)
+    (λ c. c.before.loop-k-test.true)
     cast-x
     (λ c κs. search rules)
     returns
     (λ c. omega arith)
     (λ c. omega arith)
     loop-again
-    (λ c. sym (ap found_by (scanned-all c.before.loop.invariant c.loop-test.false))))
+    (λ c. sym (ap found_by (scanned-all c.before.loop-k.invariant c.loop-k-test.false))))

@@ -7,23 +7,23 @@ use Rattle.model.specs.Refusals.{grid_known}
 use Rattle.tests.proofs.grid_known.Statement.{statement}
 use Rattle.tests.proofs.grid_known.Tie as tie
 
-returns : tie.Need-returns
+returns : tie.Need-returns-then-not-is_side
 unfolding grid_known
-returns c = rw (sym c.before.is_side.ensures ∙ not-true _ c.if1.true)
+returns c = rw (sym c.before.is_side.ensures ∙ not-true _ c.if-not-is_side.true)
 
-returns-2 : tie.Need-returns-2
+returns-2 : tie.Need-returns-then-not-is_side-2
 unfolding grid_known
 returns-2 c =
     let e = c.before.before in
-    rw (sym e.before.is_side.ensures ∙ not-false _ e.if1.false, sym c.before.is_side2.ensures ∙ not-true _ c.if2.true)
+    rw (sym e.before.is_side.ensures ∙ not-false _ e.if-not-is_side.false, sym c.before.is_side-2.ensures ∙ not-true _ c.if-not-is_side-2.true)
 
-returns-3 : tie.Need-returns-3
+returns-3 : tie.Need-returns
 unfolding grid_known
 returns-3 c =
     let d = c.before.before in
     let e = d.before.before in
     c.known.ensures ∙ ap known c.before.boundary_of.ensures
-    ∙ rw (sym e.before.is_side.ensures ∙ not-false _ e.if1.false, sym d.before.is_side2.ensures ∙ not-false _ d.if2.false)
+    ∙ rw (sym e.before.is_side.ensures ∙ not-false _ e.if-not-is_side.false, sym d.before.is_side-2.ensures ∙ not-false _ d.if-not-is_side-2.false)
 
 pub grid_known_spec : {M : Type 1} → statement M
 grid_known_spec =

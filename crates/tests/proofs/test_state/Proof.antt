@@ -9,15 +9,15 @@ use Rattle.tests.specs.Links.{Chain, start, more, outline_tests, fields-long-aft
 use Rattle.tests.proofs.test_state.Statement.{statement}
 use Rattle.tests.proofs.test_state.Tie as tie
 
-abbrev state : tie.After-shared_slice_known → State
+abbrev state : tie.After-shared_slice_known-1 → State
 state c = let a = c.before.args in state_of a.p a.h.now a.b.now a.u.now a.v.now a.barriers.now
 
 -- the chain so far
-outline : (c : tie.After-test_outline) → Chain Accepted c.test_outline.result (outline_tests (state c.before))
-outline c = start Accepted (outline_tests (state c.before)) c.test_outline.ensures
+outline : (c : tie.After-test_outline-outline) → Chain Accepted c.test_outline-outline.result (outline_tests (state c.before))
+outline c = start Accepted (outline_tests (state c.before)) c.test_outline-outline.ensures
 
-values : (c : tie.After-then_fields) → let s = state c.before.before in Chain Accepted c.then_fields.result (outline_tests s ++ value_tests Value (fields_of s))
-values c = more (value_tests Value (fields_of (state c.before.before))) (outline c.before) c.then_fields.ensures
+values : (c : tie.After-then_fields-values) → let s = state c.before.before in Chain Accepted c.then_fields-values.result (outline_tests s ++ value_tests Value (fields_of s))
+values c = more (value_tests Value (fields_of (state c.before.before))) (outline c.before) c.then_fields-values.ensures
 
 pub test_state_spec : {M : Type 1} → statement M
 test_state_spec =

@@ -11,4 +11,4 @@ then_asks_spec =
     (λ c. search rules)
     (λ c. search rules)
     (λ c. search rules)
-    (λ c. rw (c.before.enum_told.given.1, c.if1.false)))
+    (λ c. rw (c.before.enum_told-1.given.1, c.if-holds.false)))

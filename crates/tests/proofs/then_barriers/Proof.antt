@@ -18,7 +18,7 @@ use Rattle.tests.proofs.then_barriers.Statement.{statement}
 use Rattle.tests.proofs.then_barriers.Tie as tie
 
 -- every byte is 3 at most
-small : tie.Need-returns-2
+small : tie.Need-returns-then-highest-le3
 small c =
     let i = c.before in
     let h = i.before in
@@ -26,17 +26,17 @@ small c =
     let a = e.before.before.before.args in
     let o = a.barriers.now in
     c.value_answer.ensures
-    ∙ sym (small-inside o (length o) (λ k. le_trans (h.highest.ensures.0 k) i.if1.true))
-    ∙ ap (λ x. after x (barriers_test o (length o) ∷ [])) (sym e.enum_told.given.1)
+    ∙ sym (small-inside o (length o) (λ k. le_trans (h.highest.ensures.0 k) i.if-highest-le3.true))
+    ∙ ap (λ x. after x (barriers_test o (length o) ∷ [])) (sym e.enum_told-1.given.1)
 
-scanned : tie.Need-returns-3
+scanned : tie.Need-returns
 scanned c =
     let f = c.before in
     let l = f.before in
     let e = l.before.before.before in
     let a = e.before.before.before.args in
     let o = map pos a.barriers.now in
-    sought (outside_in l.limits.result o) (length a.barriers.now) (Value Barriers) e.enum_told.given.1 f.first_byte_outside.ensures c.value_answer2.ensures
+    sought (outside_in l.limits.result o) (length a.barriers.now) (Value Barriers) e.enum_told-1.given.1 f.first_byte_outside-found.ensures c.value_answer-2.ensures
     ∙ ap (λ (x : Limits). after a.earlier (seeks (λ k. not (within x (get_or o k (pos 0)))) (length a.barriers.now) (Value Barriers) ∷ [])) l.limits.ensures
 
 pub then_barriers_spec : {M : Type 1} → statement M

@@ -9,14 +9,14 @@ use Rattle.tests.proofs.then_edges.Statement.{statement}
 use Rattle.tests.proofs.then_edges.Tie as tie
 
 -- u's edges, the first link
-west : (c : tie.After-then_still) → let a = c.before.before.args in Chain a.earlier c.then_still.result (still_test a.p a.barriers.now West VelocityU a.u.now ∷ [])
-west c = start c.before.before.args.earlier _ c.then_still.ensures
+west : (c : tie.After-then_still-west) → let a = c.before.before.args in Chain a.earlier c.then_still-west.result (still_test a.p a.barriers.now West VelocityU a.u.now ∷ [])
+west c = start c.before.before.args.earlier _ c.then_still-west.ensures
 
 returns : tie.Need-returns
 returns c h b =
     let w = c.before in
     let a = w.before.before.args in
-    (more (still_test a.p a.barriers.now South VelocityV a.v.now ∷ []) (west w) c.then_still2.ensures).is
+    (more (still_test a.p a.barriers.now South VelocityV a.v.now ∷ []) (west w) c.then_still.ensures).is
     ∙ ap (after a.earlier) (edges_are a.p h b a.u.now a.v.now a.barriers.now)
 
 pub then_edges_spec : {M : Type 1} → statement M

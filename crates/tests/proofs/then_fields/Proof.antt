@@ -10,28 +10,28 @@ use Rattle.tests.specs.Links.{Chain, start, more, counted, begun}
 use Rattle.tests.proofs.then_fields.Statement.{statement}
 use Rattle.tests.proofs.then_fields.Tie as tie
 
-abbrev state : tie.After-shared_slice_known → State
+abbrev state : tie.After-shared_slice_known-1 → State
 state c = let a = c.before.args in state_of a.p a.h.now a.b.now a.u.now a.v.now a.barriers.now
 
 -- the chain so far
-first : (c : tie.After-then_field) → let s = state c.before in Chain c.before.before.args.earlier c.then_field.result (value_tests Value (taken s Depth s.h ∷ []))
-first c = let s = state c.before in start c.before.before.args.earlier (value_tests Value (taken s Depth s.h ∷ [])) c.then_field.ensures
+first : (c : tie.After-then_field-depth) → let s = state c.before in Chain c.before.before.args.earlier c.then_field-depth.result (value_tests Value (taken s Depth s.h ∷ []))
+first c = let s = state c.before in start c.before.before.args.earlier (value_tests Value (taken s Depth s.h ∷ [])) c.then_field-depth.ensures
 
-second : (c : tie.After-then_field2)
+second : (c : tie.After-then_field-bottom)
     → let s = state c.before.before in
-    Chain c.before.before.before.args.earlier c.then_field2.result (value_tests Value (taken s Depth s.h ∷ taken s Bottom s.b ∷ []))
-second c = let s = state c.before.before in more (value_tests Value (taken s Bottom s.b ∷ [])) (first c.before) c.then_field2.ensures
+    Chain c.before.before.before.args.earlier c.then_field-bottom.result (value_tests Value (taken s Depth s.h ∷ taken s Bottom s.b ∷ []))
+second c = let s = state c.before.before in more (value_tests Value (taken s Bottom s.b ∷ [])) (first c.before) c.then_field-bottom.ensures
 
-third : (c : tie.After-then_field3)
+third : (c : tie.After-then_field-west)
     → let s = state c.before.before.before in
-    Chain c.before.before.before.before.args.earlier c.then_field3.result (value_tests Value (taken s Depth s.h ∷ taken s Bottom s.b ∷ taken s VelocityU s.u ∷ []))
-third c = let s = state c.before.before.before in more (value_tests Value (taken s VelocityU s.u ∷ [])) (second c.before) c.then_field3.ensures
+    Chain c.before.before.before.before.args.earlier c.then_field-west.result (value_tests Value (taken s Depth s.h ∷ taken s Bottom s.b ∷ taken s VelocityU s.u ∷ []))
+third c = let s = state c.before.before.before in more (value_tests Value (taken s VelocityU s.u ∷ [])) (second c.before) c.then_field-west.ensures
 
-fourth : (c : tie.After-then_field4)
+fourth : (c : tie.After-then_field-south)
     → let s = state c.before.before.before.before in
-    Chain c.before.before.before.before.before.args.earlier c.then_field4.result
+    Chain c.before.before.before.before.before.args.earlier c.then_field-south.result
     (value_tests Value (taken s Depth s.h ∷ taken s Bottom s.b ∷ taken s VelocityU s.u ∷ taken s VelocityV s.v ∷ []))
-fourth c = let s = state c.before.before.before.before in more (value_tests Value (taken s VelocityV s.v ∷ [])) (third c.before) c.then_field4.ensures
+fourth c = let s = state c.before.before.before.before in more (value_tests Value (taken s VelocityV s.v ∷ [])) (third c.before) c.then_field-south.ensures
 
 -- the bytes are as many as the cells, where this link is not idle
 fifth : tie.Need-returns

@@ -19,8 +19,8 @@ returns c =
     let h = b.before in
     let a = h.before.before.args in
     let t : List ℤ → Test Refusal = λ l. length_test a.m (length l) in
-    (more (t (map pos a.barriers.now) ∷ []) (more (t a.v.now ∷ []) (more (t a.u.now ∷ []) (more (t a.b.now ∷ []) (start a.earlier (t a.h.now ∷ []) h.then_length.ensures) b.then_length2.ensures) u.then_length3.ensures) v.then_length4.ensures)
-    (c.then_length5.ensures ∙ ap (λ n. after v.then_length4.result (length_test a.m n ∷ [])) (sym (length-map a.barriers.now pos)))).is
+    (more (t (map pos a.barriers.now) ∷ []) (more (t a.v.now ∷ []) (more (t a.u.now ∷ []) (more (t a.b.now ∷ []) (start a.earlier (t a.h.now ∷ []) h.then_length-depth.ensures) b.then_length-bottom.ensures) u.then_length-west.ensures) v.then_length-south.ensures)
+    (c.then_length.ensures ∙ ap (λ n. after v.then_length-south.result (length_test a.m n ∷ [])) (sym (length-map a.barriers.now pos)))).is
 
 pub then_lengths_spec : {M : Type 1} → statement M
 then_lengths_spec =

@@ -11,7 +11,7 @@ returns c =
     let s = c.before in
     let f = s.before in
     let a = f.before.args in
-    (more (room_tests a.m (a.dv ∷ [])) (more (room_tests a.m (a.du ∷ [])) (start a.earlier (room_tests a.m (a.dh ∷ [])) f.then_room.ensures) s.then_room2.ensures) c.then_room3.ensures).is
+    (more (room_tests a.m (a.dv ∷ [])) (more (room_tests a.m (a.du ∷ [])) (start a.earlier (room_tests a.m (a.dh ∷ [])) f.then_room-first.ensures) s.then_room-second.ensures) c.then_room.ensures).is
 
 pub then_rooms_spec : {M : Type 1} → statement M
 then_rooms_spec = tie.close (tie.spec (λ c κs. search rules) (λ c κs. search rules) (λ c κs. search rules) returns)

@@ -7,11 +7,11 @@ use Rattle.tests.proofs.LinkLaws.{sought}
 use Rattle.tests.proofs.then_still.Statement.{statement}
 use Rattle.tests.proofs.then_still.Tie as tie
 
-returns-2 : tie.Need-returns-2
+returns-2 : tie.Need-returns
 returns-2 c =
     let b = c.before in
     let a = b.before.before.before.before.args in
-    sought (bad_in (moving_at (edges_of a.p a.barriers.now) a.edge) a.p.w a.f.now) (a.p.w * a.p.n) (ClosedEdge a.field) b.before.enum_told.given.1 b.first_moving.ensures c.edge_answer.ensures
+    sought (bad_in (moving_at (edges_of a.p a.barriers.now) a.edge) a.p.w a.f.now) (a.p.w * a.p.n) (ClosedEdge a.field) b.before.enum_told-1.given.1 b.first_moving.ensures c.edge_answer.ensures
 
 pub then_still_spec : {M : Type 1} → statement M
 then_still_spec =
@@ -19,7 +19,7 @@ then_still_spec =
     (tie.spec
     (λ c. search rules)
     (λ c. search rules)
-    (λ c. rw c.enum_told2.given.1)
-    (λ c κs. c.before.before.before.requires c.enum_told.given.1)
+    (λ c. rw c.enum_told-in_default-1.given.1)
+    (λ c κs. c.before.before.before.requires c.enum_told-1.given.1)
     (λ c κs. search rules)
     returns-2)

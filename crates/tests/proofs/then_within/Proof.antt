@@ -7,12 +7,12 @@ use Rattle.tests.proofs.LinkLaws.{sought}
 use Rattle.tests.proofs.then_within.Statement.{statement}
 use Rattle.tests.proofs.then_within.Tie as tie
 
-returns-2 : tie.Need-returns-2
+returns-2 : tie.Need-returns
 returns-2 c =
     let b = c.before in
     let e = b.before in
     let a = e.before.before.args in
-    sought (outside_in a.limits a.f.now) (length a.f.now) (Value a.field) e.enum_told.given.1 b.first_outside.ensures c.value_answer.ensures
+    sought (outside_in a.limits a.f.now) (length a.f.now) (Value a.field) e.enum_told-1.given.1 b.first_outside.ensures c.value_answer.ensures
 
 pub then_within_spec : {M : Type 1} → statement M
 then_within_spec =
@@ -20,7 +20,7 @@ then_within_spec =
     (tie.spec
     (λ c. search rules)
     (λ c. search rules)
-    (λ c. rw c.enum_told2.given.1)
+    (λ c. rw c.enum_told-in_default-1.given.1)
     (λ c κs. search rules)
     (λ c κs. search rules)
     returns-2)

@@ -12,5 +12,5 @@ value_answer_spec =
     (tie.spec
     (λ c. search rules)
     (λ c. search rules)
-    (λ c. sym (ap (answer_by (Value c.before.before.before.args.field)) c.before.found.given.1))
+    (λ c. sym (ap (answer_by (Value c.before.before.before.args.field)) c.before.found-1.given.1))
     (λ c. search rules))

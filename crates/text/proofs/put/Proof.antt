@@ -8,7 +8,7 @@ use Rattle.text.proofs.put.Tie as tie
 returns : tie.Need-returns-then-at-out
 returns c = let a = c.before.args in sym (put-room a.byte a.at a.out.now c.if-at-out.true)
 
-returns-2 : tie.Need-returns
+returns-2 : tie.Need-returns-then-at-out
 returns-2 c = let a = c.before.args in sym (put_full a.byte a.at a.out.now c.if-at-out.false)
 
 pub put_spec : {M : Type 1} → statement M

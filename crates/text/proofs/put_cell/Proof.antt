@@ -30,7 +30,7 @@ returns c =
     word-then i 32 (line (j ∷ h ∷ u ∷ v ∷ [])) s0 (word-as 32 s0 (to_z-of_z f.i) w1.put_word-column.ensures)
     (word-then j 32 (line (h ∷ u ∷ v ∷ [])) s1 (word-as 32 s1 (to_z-of_z f.j) w2.put_word-row.ensures)
     (word-then h 32 (line (u ∷ v ∷ [])) s2 (word-as 32 s2 (to_z-of_z f.h) w3.put_word-depth.ensures)
-    (word-then u 32 (line (v ∷ [])) s3 (word-as 32 s3 (to_z-of_z f.u) w4.put_word-velocity.ensures) (word-as 10 s4 (to_z-of_z f.v) w5.put_word.ensures))))
+    (word-then u 32 (line (v ∷ [])) s3 (word-as 32 s3 (to_z-of_z f.u) w4.put_word-velocity.ensures) (word-as 10 s4 (to_z-of_z f.v) w5.put_word-column.ensures))))
 
 pub put_cell_spec : {M : Type 1} → statement M
 put_cell_spec =
