@@ -2,7 +2,6 @@
 use mathlib.Core.Path.{refl, sym, ap, ◌∙◌}
 use mathlib.Core.List.{[]}
 use mathlib.Core.Bool.{true≢false}
-use mathlib.Core.Logic.{⊎_elim}
 use native.Mathlib.Omega.{arith}
 use mir.Syntax.{w64}
 use borrow.Author.Rules.{rules}
@@ -12,6 +11,7 @@ use Rattle.scheme.specs.Masking.{south-walled}
 use Rattle.scheme.specs.Shares.{north_share_at}
 use Rattle.scheme.proofs.from_south.Statement.{statement}
 use Rattle.scheme.proofs.from_south.Tie as tie
+use Rattle.scheme.proofs.from_south.Lts.{then-p-eq1-via-then-p-eq1, then-p-eq1-via-else-p-eq1+then-walled_south}
 
 abbrev state : tie.Start → State
 state c = let a = c.args in state_of a.p a.h.now a.b.now a.u.now a.v.now []
@@ -20,7 +20,14 @@ state c = let a = c.args in state_of a.p a.h.now a.b.now a.u.now a.v.now []
 returns : tie.Need-returns-then-p-eq1
 returns c =
     let s = c.before.before in
-    record { share = λ o l. absurd (⊎_elim (λ w. omega (arith, w.taken, l)) (λ w. true≢false (sym w.2.taken ∙ w.1.ensures ∙ south-walled (state s) s.args.i s.args.j ∙ o)) c.then-p-eq1.branch) }
+    record {
+      share = λ o l.
+          absurd (elim c.then-p-eq1.branch [
+            | then-p-eq1-via-then-p-eq1 w ↦ omega (arith, w.if-p-eq1.true, l)
+            | then-p-eq1-via-else-p-eq1+then-walled_south w ↦
+                true≢false (sym w.if-walled_south.true ∙ w.walled_south.ensures ∙ south-walled (state s) s.args.i s.args.j ∙ o)
+          ]);
+    }
 
 returns-2 : tie.Need-returns
 returns-2 c =
@@ -30,7 +37,7 @@ returns-2 c =
     record {
       share = λ o l.
           held-is w64 c.struct_told-1.given.1.1.1.1.0.1
-          (k.Shares-at.ensures.north ∙ ap (λ j. north_share_at (state s) s.args.q.now s.args.i j) p.previous-south.ensures.0);
+          (k.shares_at-beyond.ensures.north ∙ ap (λ j. north_share_at (state s) s.args.q.now s.args.i j) p.previous-south.ensures.0);
     }
 
 pub from_south_spec : {M : Type 1} → statement M

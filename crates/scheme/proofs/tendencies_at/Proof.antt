@@ -34,17 +34,17 @@ start c = c.before.before.before
 own : (c : tie.After-shares_at-own) → let s = start c in Fit (weights_in (state s) s.args.q.now s.args.i s.args.j) (fluxes_in (state s) s.args.i s.args.j) (head_in (state s) s.args.i s.args.j)
 own c = let p = (start c).requires in fit-in p.0 p.1 p.2
 
-own-west : (c : tie.After-shares_at-own) → Abs c.Shares-at.result.west most_share
-own-west c = abs-as c.Shares-at.ensures.west (west-size (own c))
+own-west : (c : tie.After-shares_at-own) → Abs c.shares_at-own.result.west most_share
+own-west c = abs-as c.shares_at-own.ensures.west (west-size (own c))
 
-own-south : (c : tie.After-shares_at-own) → Abs c.Shares-at.result.south most_share
-own-south c = abs-as c.Shares-at.ensures.south (south-size (own c))
+own-south : (c : tie.After-shares_at-own) → Abs c.shares_at-own.result.south most_share
+own-south c = abs-as c.shares_at-own.ensures.south (south-size (own c))
 
-east-is : (c : tie.After-shares_at-own) → let s = start c in held w64 c.Shares-at.result.east ≡ east_share_at (state s) s.args.q.now s.args.i s.args.j
-east-is c = let e = c.Shares-at.ensures.east in share-held (abs-as e (east-size (own c))) ∙ e
+east-is : (c : tie.After-shares_at-own) → let s = start c in held w64 c.shares_at-own.result.east ≡ east_share_at (state s) s.args.q.now s.args.i s.args.j
+east-is c = let e = c.shares_at-own.ensures.east in share-held (abs-as e (east-size (own c))) ∙ e
 
-north-is : (c : tie.After-shares_at-own) → let s = start c in held w64 c.Shares-at.result.north ≡ north_share_at (state s) s.args.q.now s.args.i s.args.j
-north-is c = let e = c.Shares-at.ensures.north in share-held (abs-as e (north-size (own c))) ∙ e
+north-is : (c : tie.After-shares_at-own) → let s = start c in held w64 c.shares_at-own.result.north ≡ north_share_at (state s) s.args.q.now s.args.i s.args.j
+north-is c = let e = c.shares_at-own.ensures.north in share-held (abs-as e (north-size (own c))) ∙ e
 
 -- the shares of the cells beyond the edges, where these are open
 abbrev worked : tie.After-other_share-from_south → tie.After-shares_at-own
@@ -56,7 +56,7 @@ from-west c o =
     let k = worked c in
     let s = start k in
     let x = c.before.before.other_share-from_west in
-    held-is w64 x.type_inv (x.ensures ∙ ap₂ (cond (eqb s.args.p.w 1)) (east-is k) (to_z-of_z s.fits.west) ∙ west-beyond s.requires.3 s.requires.1 o)
+    held-is w64 x.type_inv (x.ensures ∙ ap₂ (cond (eqb s.args.p.w 1)) (east-is k) (to_z-of_z s.ranges.west) ∙ west-beyond s.requires.3 s.requires.1 o)
 
 from-south : (c : tie.After-other_share-from_south) → let s = start (worked c) in closed_south (state s) s.args.i s.args.j ≡ false
     → held w64 c.other_share-from_south.result ≡ north_share_at (state s) s.args.q.now s.args.i (to_south (state s) s.args.j)
@@ -64,7 +64,7 @@ from-south c o =
     let k = worked c in
     let s = start k in
     let x = c.other_share-from_south in
-    held-is w64 x.type_inv (x.ensures ∙ ap₂ (cond (eqb s.args.p.n 1)) (north-is k) (to_z-of_z s.fits.south) ∙ south-beyond s.requires.4 s.requires.2 o)
+    held-is w64 x.type_inv (x.ensures ∙ ap₂ (cond (eqb s.args.p.n 1)) (north-is k) (to_z-of_z s.ranges.south) ∙ south-beyond s.requires.4 s.requires.2 o)
 
 -- the tendencies at the edges
 edge_tendency-requires : tie.Need-edge_tendency-requires
@@ -82,7 +82,7 @@ u-is c =
     let s = start k in
     held-is w64 c.edge_tendency.type_inv
     (c.edge_tendency.ensures
-    ∙ u-edge (state s) s.args.q.now s.args.i s.args.j (west-closed k.before.before) (share-held (own-west k) ∙ k.Shares-at.ensures.west) (from-west e))
+    ∙ u-edge (state s) s.args.q.now s.args.i s.args.j (west-closed k.before.before) (share-held (own-west k) ∙ k.shares_at-own.ensures.west) (from-west e))
 
 edge_tendency-requires-2 : tie.Need-edge_tendency-requires-2
 edge_tendency-requires-2 c κs =
@@ -100,7 +100,7 @@ v-is c =
     let s = start k in
     held-is w64 c.edge_tendency-2.type_inv
     (c.edge_tendency-2.ensures
-    ∙ v-edge (state s) s.args.q.now s.args.i s.args.j (south-closed k.before) (share-held (own-south k) ∙ k.Shares-at.ensures.south) (from-south e))
+    ∙ v-edge (state s) s.args.q.now s.args.i s.args.j (south-closed k.before) (share-held (own-south k) ∙ k.shares_at-own.ensures.south) (from-south e))
 
 returns : tie.Need-returns
 returns c =
@@ -108,7 +108,7 @@ returns c =
     let u = v.before.before in
     let k = worked u.before.before in
     record {
-      depth = held-is w64 c.struct_told-5-1.given.0.1 k.Shares-at.ensures.depth;
+      depth = held-is w64 c.struct_told-5-1.given.0.1 k.shares_at-own.ensures.depth;
       u = u-is u;
       v = v-is v;
       east = east-is k;

@@ -111,7 +111,7 @@ returns c =
     let s = k.before in
     let w = s.args.p.w in
     let inv = l.before.loop-x.invariant in
-    let at-end = subst (λ (x : ℕ). RowWriting k.corner_columns-columns.result (corner_rows (state s)) (vorticity_at (state s)) 0 s.args.y s.args.d.now x l.before.loop-x.d) (le_antisymm inv.0 l.loop-x-test.left) inv.1 in
+    let at-end = subst (λ (x : ℕ). RowWriting k.corner_columns-columns.result (corner_rows (state s)) (vorticity_at (state s)) 0 s.args.y s.args.d.now x l.before.loop-x.d) (le_antisymm inv.0 l.loop-x-test.false) inv.1 in
     whole k
     (row-filled _ _ _ at-end t.if-p-columns.true s.requires.1 (held-is w64 c.wall_vorticity_at.type_inv (c.wall_vorticity_at.ensures s.args.u.now s.args.v.now)))
     (subst (λ (m : ℕ). m ≤ w + 1) (sym k.corner_columns-columns.ensures) (corners-next (walled_west (state s)) w))
