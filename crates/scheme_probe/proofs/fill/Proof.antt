@@ -113,7 +113,7 @@ doubles c =
     (record {
       here = cell-barred s own.cell_at-own.ensures;
       to-west = inv.3;
-      to-south = handing-south inv.4 _ t.loop-i-test.taken;
+      to-south = handing-south inv.4 _ t.loop-i-test.true;
     })
 
 loop2-again : tie.Need-loop-i-preserved invariant-loop-i decreases-loop-i invariant-loop-j decreases-loop-j
@@ -122,8 +122,8 @@ loop2-again c =
     let b = start (row t) in
     let s = state b in
     let inv = t.before.loop-i.invariant in
-    let p = t.loop-i-test.taken in
-    let r = (row t).loop-j-test.taken in
+    let p = t.loop-i-test.true in
+    let r = (row t).loop-j-test.true in
     let d = doubles c in
     let north = c.before.before.before in
     let own = north.before.before.cell_at-own in

@@ -39,7 +39,7 @@ loop-holds : tie.Need-loop-i-init invariant-loop-i decreases-loop-i
 loop-holds c =
     let s = c.before in
     let a = s.args in
-    let x = c.from_west-bits in
+    let x = c.from_west-from_west in
     (row-none _ _ _ a.j, row-none _ _ _ a.j, row-none _ _ _ a.j, handing-none s.requires.2, subst (FromWest (state s) a.q.now 0 a.j) (sym (held-is w64 x.type_inv refl)) x.ensures)
 
 -- ---- a turn
@@ -81,7 +81,7 @@ loop-again c =
     let i = turn c in
     let s = begin i in
     let inv = i.before.loop-i.invariant in
-    let p = i.loop-i-test.taken in
+    let p = i.loop-i-test.true in
     let r = s.requires.1 in
     let fit = fit-in s.requires.0 p r in
     let e = k.tendencies_at-cell.ensures in (

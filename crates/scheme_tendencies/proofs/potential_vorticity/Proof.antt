@@ -36,28 +36,28 @@ tested c =
     let g = start Accepted (state_tests (state m.before.before) [] [] []) t.test_state-state.ensures in
     (counted (λ k. room_tests k (length a.d.now ∷ [])) g (λ h. m.corners_of-m.ensures.0 (passed g h).0) c.then_room-answer.ensures).is
 
-accepted : (c : tie.In-Accepted) → let b = c.before.before.before.before.before.before in Accepted ≡ answer_of (vorticity_test (state b) (length b.args.d.now))
-accepted c = sym c.enum_told-1.given.1 ∙ tested c.before.before
+accepted : (c : tie.In-Accepted) → let b = c.before.before.before.before.before in Accepted ≡ answer_of (vorticity_test (state b) (length b.args.d.now))
+accepted c = sym c.in-Accepted.is ∙ tested c.before
 
 fill_vorticity-requires : tie.Need-fill_vorticity-requires
 fill_vorticity-requires c κs =
     let e = c.before in
-    let b = e.before.before.before.before.before.before in
+    let b = e.before.before.before.before.before in
     let l = vorticity-passed (state b) (length b.args.d.now) (accepted e) in
     (record { columns = l.0.columns; rows = l.0.rows; coriolis = l.0.coriolis; depths = l.0.depths; us = l.0.us; vs = l.0.vs }, l.1)
 
 refused : tie.Need-returns-in_default
 refused c =
-    let t = c.before.before in
+    let t = c.before in
     let b = t.before.before.before.before in
-    let h = c.enum_told-in_default-1.given.1 in
+    let h = c.in_default.is in
     fill-refused answer_of told_answer (corners (state b)) (vorticity (state b) into b.args.d.now ∷ []) _ (refused-some _ _ (sym h ∙ tested t)) h
 
 done : tie.Need-returns
 done c =
     let f = c.before in
     let e = f.before.before in
-    let b = e.before.before.before.before.before.before in
+    let b = e.before.before.before.before.before in
     let a = b.args in
     let m = corners (state b) in
     fill_done answer_of told_answer m (vorticity (state b) into a.d.now ∷ []) (accepted-none _ (accepted e)) refl

@@ -31,30 +31,30 @@ tested c =
     tendencies-tested (state b) b.args.q.now _ _ _ t.test_vorticity-state.ensures t.before.cells_of-m.ensures.0 c.then_rooms-answer.ensures
 
 accepted : (c : tie.In-Accepted)
-    → let b = c.before.before.before.before.before.before in let a = b.args in
+    → let b = c.before.before.before.before.before in let a = b.args in
     Accepted ≡ answer_of (tendencies_test (state b) a.q.now (length a.dh.now) (length a.du.now) (length a.dv.now))
-accepted c = sym c.enum_told-1.given.1 ∙ tested c.before.before
+accepted c = sym c.in-Accepted.is ∙ tested c.before
 
 fill_tendencies-requires : tie.Need-fill_tendencies-requires
 fill_tendencies-requires c κs =
     let e = c.before.before.before in
-    let b = e.before.before.before.before.before.before in
+    let b = e.before.before.before.before.before in
     let a = b.args in
     tendencies-passed (state b) a.q.now a.dh.now a.du.now a.dv.now (accepted e)
 
 refused : tie.Need-returns-in_default
 refused c =
-    let t = c.before.before in
+    let t = c.before in
     let b = t.before.before.before.before in
     let s = state b in
-    let h = c.enum_told-in_default-1.given.1 in
+    let h = c.in_default.is in
     fill-refused answer_of told_answer (cells s) (fillings b) _ (refused-some _ _ (sym h ∙ tested t)) h
 
 done : tie.Need-returns
 done c =
     let f = c.before.before.before in
     let e = f.before.before.before.before in
-    let b = e.before.before.before.before.before.before in
+    let b = e.before.before.before.before.before in
     let s = state b in
     let l = f.fill_tendencies.ensures in
     fill_done answer_of told_answer (cells s) (fillings b) (accepted-none _ (accepted e)) refl (λ i. l.0 i ∷ l.1 i ∷ l.2 i ∷ [])

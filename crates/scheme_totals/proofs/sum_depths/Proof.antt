@@ -39,7 +39,7 @@ module _ (c : tie.After-sum-1 invariant-loop-k decreases-loop-k) where
 loop-again : tie.Need-loop-k-preserved invariant-loop-k decreases-loop-k
 loop-again c =
     let l = c.before.before.loop-k in
-    (omega arith, added_is l.sum-1 l.invariant.1 (so_far c) (added c) tt ∙ sym (sum_more l.k (depth (start c).args.h.now)))
+    (omega arith, added_is l.sum-bits l.invariant.1 (so_far c) (added c) tt ∙ sym (sum_more l.k (depth (start c).args.h.now)))
 
 returns : tie.Need-returns invariant-loop-k decreases-loop-k
 returns c =
@@ -56,7 +56,7 @@ sum_depths_spec =
     (λ c. (zero-le, sym (sum-none (depth c.args.h.now))))
     (λ c. omega arith)
     (λ c. omega arith)
-    (λ c. let l = c.before.before.loop-k in added-fits l.sum-1 l.invariant.1 (so_far c) (added c) tt)
+    (λ c. let l = c.before.before.loop-k in added-fits l.sum-bits l.invariant.1 (so_far c) (added c) tt)
     (λ c. omega arith)
     (λ c. omega arith)
     loop-again

@@ -47,10 +47,10 @@ module _ (c : tie.After-energy_at-sum invariant-loop-i decreases-loop-i invarian
   so_far : Abs (sum_before outer.before.args.p.w (cell outer.before) outer.loop-j.j inner.loop-i.i) (64 * (64 * most_energy) + 64 * most_energy)
   so_far =
       let l = outer.before.requires in
-      before-most 64 l.columns.most l.rows.most inner.loop-i.invariant.0 inner.before.loop-j-test.taken (λ i j p q. energy-size _ l p q)
+      before-most 64 l.columns.most l.rows.most inner.loop-i.invariant.0 inner.before.loop-j-test.true (λ i j p q. energy-size _ l p q)
 
   added : Abs c.energy_at-sum.result most_energy
-  added = abs-as c.energy_at-sum.ensures (energy-size _ outer.before.requires c.before.loop-i-test.true inner.before.loop-j-test.taken)
+  added = abs-as c.energy_at-sum.ensures (energy-size _ outer.before.requires c.before.loop-i-test.true inner.before.loop-j-test.true)
 
 loop2-again : tie.Need-loop-i-preserved invariant-loop-i decreases-loop-i invariant-loop-j decreases-loop-j
 loop2-again c =

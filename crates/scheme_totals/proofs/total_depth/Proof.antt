@@ -20,12 +20,12 @@ use Rattle.scheme_totals.proofs.total_depth.Tie as tie
 abbrev state : tie.Start → State
 state c = let a = c.args in state_of a.p a.h.now a.b.now a.u.now a.v.now a.barriers.now
 
-passed : (c : tie.In-Accepted) → Accepted ≡ answer_of (first_found (total_tests (state c.before.before.before.before)))
-passed c = sym c.enum_told-1.given.1 ∙ c.before.before.test_state.ensures
+passed : (c : tie.In-Accepted) → Accepted ≡ answer_of (first_found (total_tests (state c.before.before.before)))
+passed c = sym c.in-Accepted.is ∙ c.before.test_state.ensures
 
 sum_depths-requires : tie.Need-sum_depths-requires
 sum_depths-requires c κs =
-    let s = c.before.before.before.before in
+    let s = c.before.before.before in
     let h = s.args.h.now in
     let l = total-passed (state s) (passed c) in
     let e = sym l.depths.long in
@@ -34,15 +34,14 @@ sum_depths-requires c κs =
 returns : tie.Need-returns-in-Accepted
 unfolding total_depth
 returns c =
-    let e = total-told (state c.before.before.before.before.before) (passed c.before) (held-is w64 c.sum_depths.type_inv c.sum_depths.ensures) in
+    let e = total-told (state c.before.before.before.before) (passed c.before) (held-is w64 c.sum_depths.type_inv c.sum_depths.ensures) in
     record { answers = e; tells = ap told_total e }
 
 returns-2 : tie.Need-returns-in-Refused
 returns-2 c =
-    let k = c.before in
-    let t = k.before.before in
+    let t = c.before in
     let s = state t.before.before in
-    let e = total-refused s (total_depth s) (sym k.refusal-1.given.1 ∙ t.test_state.ensures) in
+    let e = total-refused s (total_depth s) (sym c.in-Refused.is ∙ t.test_state.ensures) in
     record { answers = e; tells = ap told_total e }
 
 pub total_depth_spec : {M : Type 1} → statement M

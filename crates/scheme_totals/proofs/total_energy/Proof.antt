@@ -18,21 +18,20 @@ use Rattle.scheme_totals.proofs.total_energy.Tie as tie
 abbrev state : tie.Start → State
 state c = let a = c.args in state_of a.p a.h.now a.b.now a.u.now a.v.now a.barriers.now
 
-passed : (c : tie.In-Accepted) → Accepted ≡ answer_of (first_found (total_tests (state c.before.before.before.before)))
-passed c = sym c.enum_told-1.given.1 ∙ c.before.before.test_state.ensures
+passed : (c : tie.In-Accepted) → Accepted ≡ answer_of (first_found (total_tests (state c.before.before.before)))
+passed c = sym c.in-Accepted.is ∙ c.before.test_state.ensures
 
 returns : tie.Need-returns-in-Accepted
 returns c =
-    let s = state c.before.before.before.before.before in
+    let s = state c.before.before.before.before in
     let e = total-told s (passed c.before) (held-is w64 c.sum_energy.type_inv (c.sum_energy.ensures ∙ energy-barred s)) in
     record { answers = e; tells = ap told_total e }
 
 returns-2 : tie.Need-returns-in-Refused
 returns-2 c =
-    let k = c.before in
-    let t = k.before.before in
+    let t = c.before in
     let s = state t.before.before in
-    let e = total-refused s (energy4 s) (sym k.refusal-1.given.1 ∙ t.test_state.ensures) in
+    let e = total-refused s (energy4 s) (sym c.in-Refused.is ∙ t.test_state.ensures) in
     record { answers = e; tells = ap told_total e }
 
 pub total_energy_spec : {M : Type 1} → statement M
@@ -41,7 +40,7 @@ total_energy_spec =
     (tie.spec
     (λ c κs. search rules)
     (λ c. search rules)
-    (λ c κs. search (total-passed (state c.before.before.before.before) (passed c)))
+    (λ c κs. search (total-passed (state c.before.before.before) (passed c)))
     (λ c. search rules)
     returns
     returns-2)
