@@ -38,7 +38,7 @@ returns c =
     let q = b.args.q.now in
     c.doubles_of.ensures s q refl refl
     (record {
-      here = cell-barred s own.Cell-at.ensures;
+      here = cell-barred s own.cell_at-own.ensures;
       to-west = cell-barred s (subst (λ i. IsCell (unbarred s) q i b.args.j west.cell_at-west.result) pw.previous.ensures.0 west.cell_at-west.ensures);
       to-south = record { given = λ o. given (cell-barred s (subst (λ j. IsCell (unbarred s) q b.args.i j south.cell_at.result) ps.previous-2.ensures.0 south.cell_at.ensures)) given-south.to_north-south.ensures };
     })

@@ -65,7 +65,7 @@ loop2-holds c =
       row-none _ _ _ l.j,
       row-none _ _ _ l.j,
       row-none _ _ _ l.j,
-      cell-barred s (subst (λ i. IsCell (unbarred s) b.args.q.now i l.j c.Cell-at.result) p.previous.ensures.0 c.Cell-at.ensures),
+      cell-barred s (subst (λ i. IsCell (unbarred s) b.args.q.now i l.j c.cell_at-west.result) p.previous.ensures.0 c.cell_at-west.ensures),
       handing-none l.invariant.4,
     )
 

@@ -43,7 +43,7 @@ loop-again c =
     let l = i.before in
     let inv = l.loop-i.invariant in
     let b = start l in
-    let g = given k.Cell-at.ensures c.to_north.ensures in (
+    let g = given k.cell_at.ensures c.to_north.ensures in (
       each_more inv.0 (omega (arith, in_row i, inv.1))
           (record { given = λ o. subst (λ j. IsGiven (state b) b.args.q.now l.loop-i.i j c.to_north.result) l.before.previous-south.ensures.0 g }),
       rw length-set inv.1,

@@ -33,15 +33,15 @@ chain c =
 
 returns : tie.Need-returns-in-Accepted
 returns c =
-    let t = c.before.before in
+    let t = c.before in
     let b = t.before.before.before.before.before in
-    narrow-yes (state b) b.args.q.now (sym c.enum_told-1.given.1 ∙ (chain t).is)
+    narrow-yes (state b) b.args.q.now (sym c.in-Accepted.is ∙ (chain t).is)
 
 returns-2 : tie.Need-returns-in-Refused
 returns-2 c =
-    let t = c.before.before in
+    let t = c.before in
     let b = t.before.before.before.before.before in
-    narrow-no (state b) b.args.q.now _ (sym c.enum_told-in-Refused-1.given.1 ∙ (chain t).is)
+    narrow-no (state b) b.args.q.now _ (sym c.in-Refused.is ∙ (chain t).is)
 
 pub is_narrow_spec : {M : Type 1} → statement M
 is_narrow_spec =

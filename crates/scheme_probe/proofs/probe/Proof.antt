@@ -33,10 +33,10 @@ tested c =
 
 -- once they have passed
 abbrev begin : tie.In-Accepted → tie.Start
-begin c = c.before.before.before.before.before.before
+begin c = c.before.before.before.before.before
 
 accepted : (c : tie.In-Accepted) → let b = begin c in Accepted ≡ answer_of (probe_test (state b) b.args.q.now b.args.cell)
-accepted c = sym c.enum_told-1.given.1 ∙ tested c.before.before
+accepted c = sym c.in-Accepted.is ∙ tested c.before
 
 inside : (c : tie.In-Accepted) → let b = begin c in Ready (state b) b.args.q.now × (b.args.cell < cells (state b))
 inside c = let b = begin c in probe-passed (state b) b.args.q.now b.args.cell (accepted c)
@@ -56,10 +56,9 @@ returns c =
 
 returns-2 : tie.Need-returns-in-Refused
 returns-2 c =
-    let k = c.before in
-    let t = k.before.before in
+    let t = c.before in
     let b = t.before.before.before.before in
-    probe-refused (state b) b.args.q.now b.args.cell _ (sym k.refusal-1.given.1 ∙ tested t)
+    probe-refused (state b) b.args.q.now b.args.cell _ (sym c.in-Refused.is ∙ tested t)
 
 pub probe_spec : {M : Type 1} → statement M
 probe_spec =

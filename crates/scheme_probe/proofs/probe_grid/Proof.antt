@@ -37,12 +37,12 @@ tested c =
 
 -- once they have passed
 abbrev begin : tie.In-Accepted → tie.Start
-begin c = entry c.before.before
+begin c = entry c.before
 
 accepted : (c : tie.In-Accepted)
     → let b = begin c in let a = b.args in
     Accepted ≡ answer_of (tendencies_test (state b) a.q.now (length a.dh.now) (length a.du.now) (length a.dv.now))
-accepted c = sym c.enum_told-1.given.1 ∙ tested c.before.before
+accepted c = sym c.in-Accepted.is ∙ tested c.before
 
 inside : (c : tie.In-Accepted) → let b = begin c in let a = b.args in Ready (state b) a.q.now × Room (cells (state b)) a.dh.now a.du.now a.dv.now
 inside c =
@@ -66,11 +66,10 @@ done c =
 
 refused : tie.Need-returns-in-Refused
 refused c =
-    let k = c.before in
-    let t = k.before.before in
+    let t = c.before in
     let b = entry t in
     let s = state b in
-    fill-refused (probe_grid_answer (narrow s b.args.q.now)) told_probe_grid (cells s) (fillings b) _ (refused-some _ _ (sym k.refusal-1.given.1 ∙ tested t)) refl
+    fill-refused (probe_grid_answer (narrow s b.args.q.now)) told_probe_grid (cells s) (fillings b) _ (refused-some _ _ (sym c.in-Refused.is ∙ tested t)) refl
 
 pub probe_grid_spec : {M : Type 1} → statement M
 probe_grid_spec =
