@@ -1,3 +1,2 @@
 // The theorems of the model, proved: specs/Theorems.antt lists them all. No function.
 #![tactic(auto)]
-

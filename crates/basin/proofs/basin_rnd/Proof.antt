@@ -28,12 +28,12 @@ answered : (c : tie.After-is_roundable) → c.is_roundable.result ≡ roundable 
 answered c = c.is_roundable.ensures ∙ rw (to_z-of_z c.before.ranges.a, to_z-of_z c.before.ranges.b)
 
 told : (c : tie.Else-not-is_roundable) → roundable c.before.before.args.a c.before.before.args.b ≡ true
-told c = sym (answered c.before) ∙ not-false _ c.if-not-is_roundable.false
+told c = sym (answered c.before) ∙ c.if-not-is_roundable.false
 
 returns : tie.Need-returns-then-not-is_roundable
 returns c =
     let a = c.before.before.args in
-    let t = sym (answered c.before) ∙ not-true _ c.if-not-is_roundable.true in
+    let t = sym (answered c.before) ∙ c.if-not-is_roundable.true in
     record { returns = sym (ap (λ t. cond t 0 4) t); holds = sym (ap (λ t. cond t (rnd a.a a.b) a.rounded.now) t) }
 
 rnd-requires : tie.Need-rnd-requires

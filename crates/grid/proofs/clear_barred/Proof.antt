@@ -38,8 +38,8 @@ loop-again c =
     let s = start t in
     let Next = Clearing s.args.edge s.args.barriers.now s.args.at s.args.f.now (t.before.loop-k.k + 1) in
     elim c.if-is_barred.branch [
-      then-is_barred w ↦ subst Next (sym w.f-is) (clearing-closed inv (sym k.is_barred.ensures ∙ w.if-is_barred.true) (inside t))
-    | else-is_barred w ↦ subst Next (sym w.f-is) (clearing-open inv (sym k.is_barred.ensures ∙ w.if-is_barred.false))
+      | then-is_barred w ↦ subst Next (sym w.f-is) (clearing-closed inv (sym k.is_barred.ensures ∙ w.if-is_barred.true) (inside t))
+      | else-is_barred w ↦ subst Next (sym w.f-is) (clearing-open inv (sym k.is_barred.ensures ∙ w.if-is_barred.false))
     ]
 
 pub clear_barred_spec : {M : Type 1} → statement M

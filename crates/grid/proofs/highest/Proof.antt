@@ -32,11 +32,11 @@ loop-again c =
     let a = i.before.before.args in
     let t = i.before.loop-k in
     elim c.if-most-byte.branch [
-      then-most-byte w ↦ (
+      | then-most-byte w ↦ (
         more a.bytes.now t.k t.most c.if-most-byte.most t.invariant.0 (omega (arith, w.if-most-byte.true, w.most-is)) (omega (arith, w.most-is)),
         (t.k, sym w.most-is),
       )
-    | else-most-byte w ↦ (
+      | else-most-byte w ↦ (
         more a.bytes.now t.k t.most c.if-most-byte.most t.invariant.0 (omega (arith, w.most-is)) (omega (arith, w.if-most-byte.false, w.most-is)),
         (t.invariant.1.0, t.invariant.1.1 ∙ sym w.most-is),
       )
