@@ -19,7 +19,7 @@ abbrev decreases-loop-i : tie.decreases-loop-i
 decreases-loop-i d₀ k f size after₀ i₀ i-end d after i = length f - i
 
 -- number i has its place
-within : (c : tie.In-loop-i invariant-loop-i decreases-loop-i) → let l = c.before in l.loop-i.after + size_of l.before.before.args.size ≤ length l.loop-i.d-1
+within : (c : tie.In-loop-i invariant-loop-i decreases-loop-i) → let l = c.before in l.loop-i.after + size_of l.before.before.args.size ≤ length l.loop-i.d
 within c =
     let l = c.before in
     let s = l.before.before in
