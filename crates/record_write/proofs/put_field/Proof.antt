@@ -21,7 +21,7 @@ put_numbers-requires : tie.Need-put_numbers-requires
 put_numbers-requires c κs =
     let h = c.before.before.before in
     let s = h.before.before.before.before in
-    (omega (arith, s.requires.0, long s, h.put_head-from.ensures.ends, h.put_head-from.auto.0), s.requires.1)
+    (omega (arith, s.requires.0, long s, h.put_head-from.ensures.ends, h.put_head-from.auto.d), s.requires.1)
 
 returns : tie.Need-returns
 returns c =

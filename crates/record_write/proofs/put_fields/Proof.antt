@@ -21,14 +21,14 @@ abbrev from5 : tie.Start → List ℕ
 from5 s = field_of 5 (value_by Four s.args.b.now) ++ from6 s
 
 -- the room that is left for them
-room5 : (c : tie.After-put_field-after_h) → c.put_field-after_h.result + length (from5 c.before.before.before) ≤ length c.put_field-after_h.new.0
+room5 : (c : tie.After-put_field-after_h) → c.put_field-after_h.result + length (from5 c.before.before.before) ≤ length c.put_field-after_h.new.d
 room5 c = let s = c.before.before.before in room-rest (from5 s) c.put_field-after_h.ensures s.requires.1
 
-room6 : (c : tie.After-put_field-after_b) → c.put_field-after_b.result + length (from6 c.before.before.before.before.before.before.before) ≤ length c.put_field-after_b.new.0
+room6 : (c : tie.After-put_field-after_b) → c.put_field-after_b.result + length (from6 c.before.before.before.before.before.before.before) ≤ length c.put_field-after_b.new.d
 room6 c = let h = c.before.before.before.before in room-rest (from6 h.before.before.before) c.put_field-after_b.ensures (room5 h)
 
 room7 : (c : tie.After-put_field-after_u)
-    → c.put_field-after_u.result + length (from7 c.before.before.before.before.before.before.before.before.before.before.before) ≤ length c.put_field-after_u.new.0
+    → c.put_field-after_u.result + length (from7 c.before.before.before.before.before.before.before.before.before.before.before) ≤ length c.put_field-after_u.new.d
 room7 c = let b = c.before.before.before.before in let h = b.before.before.before.before in room-rest (from7 h.before.before.before) c.put_field-after_u.ensures (room6 b)
 
 put_field-requires : tie.Need-put_field-after_h-requires

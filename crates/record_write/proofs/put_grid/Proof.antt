@@ -10,7 +10,7 @@ returns : tie.Need-returns
 returns c =
     let h = c.before.before.before.before in
     let p = h.before.before.before.args.p in
-    field_put 1 refl h.put_head-from.ensures (three-put h.put_head-from.new.0 h.put_head-from.result p.w p.n p.kind)
+    field_put 1 refl h.put_head-from.ensures (three-put h.put_head-from.new.d h.put_head-from.result p.w p.n p.kind)
 
 pub put_grid_spec : {M : Type 1} → statement M
 put_grid_spec =

@@ -13,7 +13,7 @@ same_length : tie.Need-shape_of-d
 same_length c =
     let p = c.before.before in
     let a = p.before.before.before.args in
-    p.put_unsigned.auto.0 ∙ length-set a.d.now a.k a.tag
+    p.put_unsigned.auto.d ∙ length-set a.d.now a.k a.tag
 
 returns : tie.Need-returns
 returns c =

@@ -26,10 +26,10 @@ last s = eight s ++ nine s
 room : (s : tie.After-shared_slice_known-1) → let a = s.before.args in 0 + length (joined_fields a.p a.h.now a.b.now a.u.now a.v.now a.barriers.now a.timestamp) ≤ length a.d.now
 room s = let a = s.before.args in record-room a.p a.h.now a.b.now a.u.now a.v.now a.barriers.now a.timestamp s.before.requires
 
-room4 : (c : tie.After-put_scalars-after_scalars) → let s = c.before.before.before in c.put_scalars-after_scalars.result + length (fields s ++ last s) ≤ length c.put_scalars-after_scalars.new.0
+room4 : (c : tie.After-put_scalars-after_scalars) → let s = c.before.before.before in c.put_scalars-after_scalars.result + length (fields s ++ last s) ≤ length c.put_scalars-after_scalars.new.d
 room4 c = let s = c.before.before.before in room-rest (fields s ++ last s) c.put_scalars-after_scalars.ensures (room s)
 
-room8 : (c : tie.After-put_fields-after_fields) → let s = c.before.before.before.before.before.before.before in c.put_fields-after_fields.result + length (last s) ≤ length c.put_fields-after_fields.new.0
+room8 : (c : tie.After-put_fields-after_fields) → let s = c.before.before.before.before.before.before.before in c.put_fields-after_fields.result + length (last s) ≤ length c.put_fields-after_fields.new.d
 room8 c =
     let q = c.before.before.before.before in
     room-rest (last q.before.before.before) c.put_fields-after_fields.ensures (room4 q)

@@ -21,8 +21,8 @@ returns c =
     let t = c.before.before in
     let f = t.before.before.before.before in
     let g = f.before.before.before.before.before.before in
-    let put = subst (λ l. Puts g.put-grid.new.0 g.put-grid.result (constants_of l) f.put_field-after_constants.result f.put_field-after_constants.new.0) (constants f.before.before) f.put_field-after_constants.ensures in
-    puts_then g.put-grid.ensures (puts_then put t.put_unsigned_field.ensures)
+    let put = subst (λ l. Puts g.put_grid-after_grid.new.d g.put_grid-after_grid.result (constants_of l) f.put_field-after_constants.result f.put_field-after_constants.new.d) (constants f.before.before) f.put_field-after_constants.ensures in
+    puts_then g.put_grid-after_grid.ensures (puts_then put t.put_unsigned_field.ensures)
 
 pub put_scalars_spec : {M : Type 1} → statement M
 put_scalars_spec = tie.close (tie.spec (λ c κs. search rules) (λ c. search rules) (λ c κs. search rules) (λ c κs. search rules) (λ c. search rules) returns)

@@ -17,7 +17,7 @@ put_unsigned-requires : tie.Need-put_unsigned-requires
 put_unsigned-requires c κs =
     let h = c.before.before.before in
     let s = h.before.before.before in
-    omega (arith, s.requires, long s, h.put_head-from.ensures.ends, h.put_head-from.auto.0)
+    omega (arith, s.requires, long s, h.put_head-from.ensures.ends, h.put_head-from.auto.d)
 
 returns : tie.Need-returns
 returns c =
