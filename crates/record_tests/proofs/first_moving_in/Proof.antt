@@ -1,7 +1,6 @@
 -- `record_tests::first_moving_in` meets its contract: the loops have passed the cells before (i, j). Assumes nothing.
 use mathlib.Core.Path.{◌≡◌, refl, sym, ap, ap₂, subst, ◌∙◌}
 use mathlib.Core.Bool.{Bool, true, false, not, ◌&&◌, and-false}
-use mathlib.Core.Logic.{⊎_elim}
 use mathlib.Core.List.{List}
 use Prim.Native.Nat.{ℕ, ◌+◌, ◌*◌, ◌-◌, ◌≤◌, ◌<◌, zero-le}
 use native.Mathlib.Nat.{zero-mul}
@@ -10,7 +9,7 @@ use lib.Dec.{eqb}
 use lib.IntN.{ℤ, pos}
 use lib.ListN.{length, get_or, take, drop}
 use mir.Syntax.{w64}
-use mir.Val.{of_z}
+use mir.Val.{of_z, SFits}
 use borrow.Author.Rules.{rules}
 use borrow.Author.Tests.{ne_eqb}
 use Rattle.model.specs.Numbers.{eqℤ}
@@ -25,6 +24,7 @@ use Rattle.record_bytes.specs.NumberSizes.{size_of, signed_by, numbers_by}
 use Rattle.record_bytes.specs.ByteLoops.{number-within, number_is, place-least}
 use Rattle.record_tests.proofs.first_moving_in.Statement.{statement}
 use Rattle.record_tests.proofs.first_moving_in.Tie as tie
+use Rattle.record_tests.proofs.first_moving_in.Lts.{then-is_closed+else-number_at-ne0, else-is_closed}
 
 abbrev invariant-loop-i : tie.invariant-loop-i
 invariant-loop-i p value barriers size edge each found₀ j i₀ j-end i-end found i =
@@ -90,17 +90,21 @@ told : (c : tie.After-is_closed invariant-loop-i decreases-loop-i invariant-scan
     → let i = turn c in c.is_closed.result ≡ closed_at (edges i) (start i).args.edge i.before.loop-i.i i.before.before.before.scan.j
 told c = c.is_closed.ensures (edges (turn c)) refl (sym c.before.barrier_at-barrier.ensures)
 
-number : (c : tie.After-number_at invariant-loop-i decreases-loop-i invariant-scan decreases-scan) → let i = turn c.before.before in c.number_at.result ≡ get_or (numbers i) (index i) (pos 0)
-number c =
-    let i = turn c.before.before in
+-- what was read there, as the call tells it
+abbrev read : tie.After-is_closed invariant-loop-i decreases-loop-i invariant-scan decreases-scan → ℤ
+read k = let i = turn k in let a = (start i).args in signed_by a.size (take (size_of a.size) (drop (index i * i.before.before.before.before.bytes_of-each.result) a.value.now))
+
+number : (k : tie.After-is_closed invariant-loop-i decreases-loop-i invariant-scan decreases-scan) {x : ℤ} → x ≡ read k → let i = turn k in x ≡ get_or (numbers i) (index i) (pos 0)
+number k e =
+    let i = turn k in
     let a = (start i).args in
-    c.number_at.ensures
+    e
     ∙ ap (λ n. signed_by a.size (take (size_of a.size) (drop (index i * n) a.value.now))) i.before.before.before.before.bytes_of-each.ensures
     ∙ sym (number_is a.size (a.p.w * a.p.n) a.value.now (index i) (below i))
 
-zero : (c : tie.After-number_at invariant-loop-i decreases-loop-i invariant-scan decreases-scan)
-    → let i = turn c.before.before in eqb (of_z w64 c.number_at.result) 0 ≡ eqℤ (get_or (numbers i) (index i) (pos 0)) (pos 0)
-zero c = zero_bits c.number_at.result (record { sfits = c.number_at.type_inv }) ∙ ap (λ x. eqℤ x (pos 0)) (number c)
+zero : (k : tie.After-is_closed invariant-loop-i decreases-loop-i invariant-scan decreases-scan) {x : ℤ} → SFits w64 x → x ≡ read k
+    → let i = turn k in eqb (of_z w64 x) 0 ≡ eqℤ (get_or (numbers i) (index i) (pos 0)) (pos 0)
+zero k {x} f e = zero_bits x f ∙ ap (λ x. eqℤ x (pos 0)) (number k e)
 
 -- an open edge, or a velocity of 0
 still : (c : tie.Joined-is_closed invariant-loop-i decreases-loop-i invariant-scan decreases-scan) → bad (turn c.before) ≡ false
@@ -109,12 +113,11 @@ still c =
     let i = turn k in
     let closed = closed_at (edges i) (start i).args.edge i.before.loop-i.i i.before.before.before.scan.j in
     bad-is i
-    ∙ ⊎_elim
-    (λ w.
-    let n : tie.After-number_at invariant-loop-i decreases-loop-i invariant-scan decreases-scan = record { before = record { before = k; if1 = w.0 }; number_at = w.1 } in
-    ap (λ z. closed && not z) (sym (zero n) ∙ ap (λ x. eqb x 0) w.2.left) ∙ and-false closed)
-    (λ w. ap (λ t. t && not (eqℤ (get_or (numbers i) (index i) (pos 0)) (pos 0))) (sym (told k) ∙ w.left))
-    c.if-is_closed.branch
+    ∙ elim c.if-is_closed.branch [
+      | then-is_closed+else-number_at-ne0 w ↦
+          ap (λ z. closed && not z) (sym (zero k (record { sfits = w.number_at.type_inv }) w.number_at.ensures) ∙ ap (λ x. eqb x 0) w.if-number_at-ne0.false) ∙ and-false closed
+      | else-is_closed w ↦ ap (λ t. t && not (eqℤ (get_or (numbers i) (index i) (pos 0)) (pos 0))) (sym (told k) ∙ w.if-is_closed.false)
+    ]
 
 -- a velocity on a closed edge
 moving : (c : tie.Then-number_at-ne0 invariant-loop-i decreases-loop-i invariant-scan decreases-scan) → bad (turn c.before.before.before) ≡ true
@@ -122,7 +125,8 @@ moving c =
     let n = c.before in
     let k = n.before.before in
     bad-is (turn k)
-    ∙ ap₂ (λ t z. t && not z) (sym (told k) ∙ n.before.if-is_closed.true) (sym (zero n) ∙ ne_eqb (of_z w64 n.number_at.result) 0 c.if-number_at-ne0.true)
+    ∙ ap₂ (λ t z. t && not z) (sym (told k) ∙ n.before.if-is_closed.true)
+    (sym (zero k (record { sfits = n.number_at.type_inv }) n.number_at.ensures) ∙ ne_eqb (of_z w64 n.number_at.result) 0 c.if-number_at-ne0.true)
 
 loop-again : tie.Need-loop-i-preserved invariant-loop-i decreases-loop-i invariant-scan decreases-scan
 loop-again c =

@@ -58,13 +58,13 @@ returns : tie.Need-returns-then-not-within invariant-loop-k decreases-loop-k
 returns c =
     let w = c.before in
     let i = w.before.before in
-    sym (ap found_by (scanned-bad i.before.loop-k.invariant (below i) (ap not (sym (told w)) ∙ c.if-not-within.true)))
+    sym (ap found_by (scanned-bad i.before.loop-k.invariant (below i) (ap not (sym (told w) ∙ c.if-not-within.true))))
 
 loop-again : tie.Need-loop-k-preserved invariant-loop-k decreases-loop-k
 loop-again c =
     let w = c.before in
     let i = w.before.before in
-    scanned-more i.before.loop-k.invariant (below i) (ap not (sym (told w)) ∙ c.if-not-within.false)
+    scanned-more i.before.loop-k.invariant (below i) (ap not (sym (told w) ∙ c.if-not-within.false))
 
 returns-2 : tie.Need-returns invariant-loop-k decreases-loop-k
 returns-2 c = sym (ap found_by (scanned-all c.before.loop-k.invariant c.loop-k-test.false))
