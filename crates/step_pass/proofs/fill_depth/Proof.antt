@@ -43,7 +43,7 @@ abbrev begin : Turn → Start
 begin c = c.before.before.before.before.before
 
 abbrev turn : tie.After-struct_known-in-loop-i-1 invariant-loop-i decreases-loop-i invariant-loop-j decreases-loop-j → Turn
-turn c = c.before.before.before
+turn c = c.before.before
 
 abbrev cell : Turn → ℕ
 cell c = c.before.before.before.loop-j.j * (begin c).args.p.w + c.before.loop-i.i
@@ -75,7 +75,7 @@ loop2-again c =
     let inv = i.before.loop-i.invariant in
     let l = below i in
     let same = ap (λ (f : ℕ → ℕ → ℤ). f i.before.loop-i.i i.before.before.before.loop-j.j) (depths-kept p inv.1 a.inflow.now (ready-row i).long) in (
-      bank-more _ _ _ inv.0 i.loop-i-test.taken i.before.before.loop-j-test.taken (held-is w64 n.new_depth-depth.type_inv (n.new_depth-depth.ensures ∙ same)) (part-set (3 * m) m _ k _ l),
+      bank-more _ _ _ inv.0 i.loop-i-test.true i.before.before.loop-j-test.true (held-is w64 n.new_depth-depth.type_inv (n.new_depth-depth.ensures ∙ same)) (part-set (3 * m) m _ k _ l),
       elsewhere-set (3 * m + k) _ inv.1 (omega arith) (omega arith),
     )
 
@@ -116,7 +116,7 @@ fill_depth_spec =
     (λ c. omega (arith, few c.before))
     (λ c. (zero-le, rows_none _ _ _, elsewhere-none))
     (λ c. (row-none _ _ _ c.before.loop-j.j, elsewhere-none))
-    (λ c κs. let i = c.before in (ready i, i.loop-i-test.true, i.before.before.loop-j-test.true))
+    (λ c κs. let i = c in (ready i, i.loop-i-test.true, i.before.before.loop-j-test.true))
     (λ c. omega (arith, below (turn c), few (begin (turn c))))
     (λ c. omega (arith, below (turn c), few (begin (turn c))))
     (λ c. omega (arith, few (begin (turn c))))

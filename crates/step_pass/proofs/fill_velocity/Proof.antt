@@ -66,7 +66,7 @@ velocity_row-requires c κs =
 
 -- what goes by the base as the row begins goes by the one at first
 module _ (c : Turn) (P : State → Type 0) where
-  at_first : let s = begin c in P (base_in s.args.p s.args.b.now [] c.before.loop-j.work-1) → P (base_in s.args.p s.args.b.now [] s.args.work.now)
+  at_first : let s = begin c in P (base_in s.args.p s.args.b.now [] c.before.loop-j.work) → P (base_in s.args.p s.args.b.now [] s.args.work.now)
   at_first = let s = begin c in subst P (base_kept (state s) c.before.loop-j.invariant.5 s.requires.long)
 
 loop-again : tie.Need-loop-j-preserved invariant-loop-j decreases-loop-j
@@ -78,10 +78,9 @@ loop-again c =
     let m = cells s in
     let inv = i.before.loop-j.invariant in
     let j = i.before.loop-j.j in
-    let d = i.before.loop-j.work-1 in
+    let d = i.before.loop-j.work in
     let e = f.velocity_row.ensures in
-    let after = f.velocity_row.new.1.1.1.1.1.1.1 in
-    let d' = after.1.0 in
+    let d' = f.velocity_row.new.work in
     let room : (a : ℕ) → a + m ≤ 8 * m → 0 + p.w * p.n ≤ length (part a m s.args.work.now) = λ a h. omega (arith, length_part a m s.args.work.now (omega (arith, s.requires.long))) in (
       omega arith,
       row_done _ _ _ j (at_first i (λ b. RowWriting p.w p.n (new_u (state s) b s.args.q.now) 0 j (part (4 * m) m d) p.w (part (4 * m) m d')) e.0) (omega arith) (room (4 * m) (omega arith)) inv.1,

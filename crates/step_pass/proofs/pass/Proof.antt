@@ -27,7 +27,7 @@ abbrev flows : tie.After-fill_depth → tie.After-fill_flows
 flows c = c.before.before.before
 
 abbrev depths : tie.After-part_of → tie.After-fill_depth
-depths c = c.before.before.before.before
+depths c = c.before.before.before
 
 abbrev lent : tie.After-fill_velocity → tie.After-part_of
 lent c = c.before.before
@@ -43,7 +43,7 @@ few c = let l = c.requires.given in cells-most l.columns l.rows
 
 -- what the potential vorticity loop has left in its slice
 abbrev left : tie.After-fill_vorticity → List ℤ
-left c = c.fill_vorticity.new.1.1.1.1.0
+left c = c.fill_vorticity.new.d
 
 -- what is lent on is the state's own potential vorticity
 abbrev q : tie.After-part_of → List ℤ
@@ -53,7 +53,7 @@ q-is : (c : tie.After-part_of) → q c ≡ vorticity (state (start c))
 q-is c =
     let v = corners (flows (depths c)) in
     let s = begin v in
-    vorticity-is (state s) s.args.q.now v.fill_vorticity.ensures (c.part_of.ensures ∙ ap (λ (m : ℕ). part 0 m (left v)) c.before.before.corner_count-corners.ensures.0)
+    vorticity-is (state s) s.args.q.now v.fill_vorticity.ensures (c.part_of.ensures ∙ ap (λ (m : ℕ). part 0 m (left v)) c.before.corner_count-corners.ensures.0)
 
 fill_vorticity-requires : tie.Need-fill_vorticity-requires
 fill_vorticity-requires c κs =
@@ -78,7 +78,7 @@ corner_count-requires c κs = let l = (begin (corners (flows c.before))).require
 
 part_of-requires : tie.Need-part_of-requires
 part_of-requires c κs =
-    let k = c.before in
+    let k = c in
     let after = (flows k.before.before).before.before in
     omega (arith, (begin after.before).requires.fits, k.corner_count-corners.ensures.0, after.q-1.given)
 

@@ -72,7 +72,7 @@ loop-holds : tie.Need-loop-i-init invariant-loop-i decreases-loop-i
 loop-holds c =
     let s = c.before.before in
     let j = s.args.j in
-    let x = c.from_west-bits in
+    let x = c.from_west-from_west in
     (row-none _ _ _ j, row-none _ _ _ j, handing-none s.requires.2, subst (FromWest (state s) (vorticity s) 0 j) (sym (held-is w64 x.type_inv refl)) x.ensures, elsewhere-none)
 
 -- ---- a turn
@@ -150,7 +150,7 @@ moved_velocity-requires c κs =
     let i = turn t in
     let s = begin i in (
       subst (Within velocity_limits) (sym (old-u i)) (s.requires.0.us.each (cell i) (below i)),
-      abs-as (u-is t) (tendency_u-size (ready s) i.loop-i-test.taken s.requires.1),
+      abs-as (u-is t) (tendency_u-size (ready s) i.loop-i-test.true s.requires.1),
       ratio-within s,
     )
 
@@ -160,7 +160,7 @@ moved_velocity-requires-2 c κs =
     let i = turn t in
     let s = begin i in (
       subst (Within velocity_limits) (sym (old-v i)) (s.requires.0.vs.each (cell i) (below i)),
-      abs-as (v-is t) (tendency_v-size (ready s) i.loop-i-test.taken s.requires.1),
+      abs-as (v-is t) (tendency_v-size (ready s) i.loop-i-test.true s.requires.1),
       ratio-within s,
     )
 
@@ -179,7 +179,7 @@ unfolding new_u
 new-u-is c =
     let m = first c in
     let t = worked c in
-    held-is w64 m.moved_velocity-new_u.ok (m.moved_velocity-new_u.ensures ∙ moved_by (old-u (turn t)) (u-is t) (ratio-is (begin (turn t))))
+    held-is w64 m.moved_velocity-new_u.type_inv (m.moved_velocity-new_u.ensures ∙ moved_by (old-u (turn t)) (u-is t) (ratio-is (begin (turn t))))
 
 new-v-is : (c : tie.After-moved_velocity-new_v invariant-loop-i decreases-loop-i)
     → let s = begin (turn (worked c)) in held w64 c.moved_velocity-new_v.result ≡ new_v (state s) (base_in s.args.p s.args.b.now [] s.args.work.now) (vorticity s) (turn (worked c)).before.loop-i.i s.args.j
@@ -198,7 +198,7 @@ loop-again c =
     let k = cell i in
     let d = i.before.loop-i.work in
     let inv = i.before.loop-i.invariant in
-    let p = i.loop-i-test.taken in
+    let p = i.loop-i-test.true in
     let r = s.requires.1 in
     let l = below i in
     let fit = fit-in (ready s) p r in
@@ -259,7 +259,7 @@ velocity_row_spec =
     (λ c. omega (arith, below (turn (worked c)), few (begin (turn (worked c)))))
     (λ c. in-handed (turn (worked c)))
     (λ c. omega (arith, below (turn (worked c)), few (begin (turn (worked c)))))
-    (λ c. omega (arith, (turn (worked c)).loop-i-test.taken))
+    (λ c. omega (arith, (turn (worked c)).loop-i-test.true))
     loop-again
     (λ c. c.before.loop-i.invariant.2.long)
     (λ c. c.before.loop-i.invariant.4.long)
