@@ -4,7 +4,7 @@
 #![tactic(auto)]
 
 ghost use Rattle.std.specs.Prelude.{◌≡◌, List, [], ◌∷◌, ℕ, ◌+◌, ◌*◌, ◌≤◌, ℤ, length};
-ghost use Rattle.model.specs.State.{Side, lent, before, after};
+ghost use Rattle.model.specs.State.{Side, state_of};
 ghost use Rattle.model.specs.Step.{leaves, two_pass, second};
 ghost use Rattle.grid.specs.Parts.{part};
 ghost use Rattle.grid.specs.Banks.{Elsewhere};
@@ -110,9 +110,9 @@ fn second_pass(
     q: &mut [i64],
     work: &mut [i64],
 ) -> Outcome
-    requires { PassReady (lent p h b u v barriers) inflow.now (length q.old) work.old }
+    requires { PassReady (state_of p h.old b.now u.old v.old barriers.now) inflow.now (length q.old) work.old }
     ensures { let base = base_in p b.now barriers.now work.old in
-        Stepped base (second base (before p h b u v barriers) inflow.now) result (after p h b u v barriers)
+        Stepped base (second base (state_of p h.old b.now u.old v.old barriers.now) inflow.now) result (state_of p h.new b.now u.new v.new barriers.now)
         × Rest (p.w * p.n) work.old work.new }
 {
     let m = p.w * p.n;
@@ -146,9 +146,9 @@ pub fn two_pass(
     q: &mut [i64],
     work: &mut [i64],
 ) -> Outcome
-    requires { StepReady (lent p h b u v barriers) inflow.now (length q.old) work.old }
-    ensures { let s = before p h b u v barriers in
-        Stepped s (two_pass s inflow.now) result (after p h b u v barriers)
+    requires { StepReady (state_of p h.old b.now u.old v.old barriers.now) inflow.now (length q.old) work.old }
+    ensures { let s = state_of p h.old b.now u.old v.old barriers.now in
+        Stepped s (two_pass s inflow.now) result (state_of p h.new b.now u.new v.new barriers.now)
         × Rest (p.w * p.n) work.old work.new }
 {
     let cells = p.w * p.n;

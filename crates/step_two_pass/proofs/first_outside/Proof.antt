@@ -46,7 +46,7 @@ returns c b barriers =
     (scans (field_test Depth m h₀ ∷ []) (field_test VelocityU m u₀ ∷ [])
     (of Kept Depth x.then_bounds-first.ensures h.part_of-h.ensures (bank s (3 * m) (omega (arith, s.requires.2))))
     (of x.then_bounds-first.result VelocityU y.then_bounds-second.ensures u.part_of-u.ensures (bank s (4 * m) (omega (arith, s.requires.2)))))
-    (of y.then_bounds-second.result VelocityV c.then_bounds-first.ensures v.part_of-v.ensures (bank s (5 * m) (omega (arith, s.requires.2))))
+    (of y.then_bounds-second.result VelocityV c.then_bounds.ensures v.part_of-v.ensures (bank s (5 * m) (omega (arith, s.requires.2))))
   where
     of : (e : Bounds) (field : Field) {r : Bounds} {f g : List ℤ} {m : ℕ} → r ≡ after_scan e (field_test field (length f) f ∷ []) → f ≡ g → length g ≡ m → r ≡ after_scan e (field_test field m g ∷ [])
     of e field {g = g} p q l = p ∙ ap (λ f. after_scan e (field_test field (length f) f ∷ [])) q ∙ ap (λ m. after_scan e (field_test field m g ∷ [])) l
