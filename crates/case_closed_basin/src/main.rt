@@ -1,6 +1,8 @@
 // A closed basin: walls all round, with a shoal.
 #![tactic(auto)]
 
-fn main() {
-    program::run();
+use std::io;
+
+fn main(rt: HostRuntime) -> io::Result<()> {
+    program::run(&rt)
 }

@@ -2,12 +2,16 @@
 // output.
 #![tactic(auto)]
 
-ghost use Rattle.std.specs.Prelude.{◌≡◌, [], ◌≤◌, length, take};
+ghost use Rattle.std.specs.Prelude.{◌≡◌, [], ◌≤◌, ◌<◌, length, take, IfOk};
+ghost use Rattle.std.specs.Io.{ReadsAtMost};
+ghost use Rattle.std.specs.Io.KnownBytes.{Consumes, IsAtEnd};
 ghost use Rattle.model.specs.State.{WithinLimits, state_of, lent, before, after, slices, slices_before, slices_after};
 ghost use Rattle.model.specs.Program.{state_lines, program_output, Printed, ProgramPromise};
 ghost use Rattle.program.specs.Stepped.{Printable, Ready, Stepped, SteppedParts};
 
 use model::{Parameters, ReadAnswer, StepAnswer};
+use std::io;
+use std::io::Read;
 
 // Prints a state: its total depth, then each cell. Bottom and barriers do not enter: in the contract they have no cells.
 fn print_state(p: Parameters, h: &[i64], u: &[i64], v: &[i64], out: &mut [u8]) -> usize
@@ -142,11 +146,30 @@ fn whole_output(input: &[u8], out: &mut [u8; 32768]) -> usize
     output(input, out)
 }
 
-// Reads standard input, up to the byte that makes it too long, and writes what the program prints.
-pub fn run() {
-    let mut input = io::large_buffer();
-    let count = io::read_full(libc::STDIN_FILENO, &mut input);
+// Reads until buf is full or the input ends, and answers how many bytes of buf it has filled. It rules out, for instance: an input cut
+// after its first read; a byte lost between two reads.
+fn read_full<R: Read>(reader: &mut R, buf: &mut [u8]) -> io::Result<usize>
+    ensures bound { ReadsAtMost result buf.new }
+    ensures bytes { IfOk result (λ n. Consumes (R.remaining reader.old) (R.remaining reader.new) (take n buf.new)) }
+    ensures end { IfOk result (λ n. n < length buf.new → IsAtEnd (R.remaining reader.new)) }
+{
+    let mut count = 0;
+    while count < buf.len() {
+        let n = reader.read(&mut buf[count..])?;
+        if n == 0 {
+            return Ok(count);
+        }
+        count += n;
+    }
+    Ok(count)
+}
+
+// Reads standard input, up to the byte that makes it too long, and writes what the program prints. Where a read fails, nothing is
+// written.
+pub fn run(rt: &(impl Input + Print)) -> io::Result<()> {
+    let mut input = [0u8; 65536];
+    let count = read_full(&mut rt.reader(), &mut input)?;
     let mut out = [0u8; 32768];
     let printed = whole_output(&input[..count], &mut out);
-    io::write_all(libc::STDOUT_FILENO, &out[..printed]);
+    rt.write_all(&out[..printed])
 }

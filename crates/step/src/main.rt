@@ -2,6 +2,8 @@
 // output.
 #![tactic(auto)]
 
-fn main() {
-    program::run();
+use std::io;
+
+fn main(rt: HostRuntime) -> io::Result<()> {
+    program::run(&rt)
 }
