@@ -94,8 +94,8 @@ pub record Corner (kind w n x y : ℕ) : Type 0 where
   pub row : y < corners_of (wall_south (boundary_of kind) 0) n
 
 -- whether it is on a wall
-abbrev pub on_aWall : (kind w n x y : ℕ) → Bool
-on_aWall kind w n x y = on_wall (wall_west (boundary_of kind) 0) w x || on_wall (wall_south (boundary_of kind) 0) n y
+abbrev pub on_a_wall : (kind w n x y : ℕ) → Bool
+on_a_wall kind w n x y = on_wall (wall_west (boundary_of kind) 0) w x || on_wall (wall_south (boundary_of kind) 0) n y
 
 pub corners-most : (a b : Bool) {w n : ℕ} → Side w → Side n → corners_of a w * corners_of b n ≤ 4225
 corners-most a b p q = mul-le-mul (side-most a p) (side-most b q)

@@ -9,7 +9,7 @@ ghost use Rattle.model.specs.Grid.{filled, corners_of, lower, upper};
 ghost use Rattle.model.specs.State.{State, Side, boundary_of, wall_west, wall_south, barrier_at, closed_west, closed_south};
 ghost use Rattle.grid.specs.Cells.{Cell};
 ghost use Rattle.grid.specs.Stencils.{IsAround};
-ghost use Rattle.grid.specs.Corners.{Corner, on_aWall, AreCells, AreCorners};
+ghost use Rattle.grid.specs.Corners.{Corner, on_a_wall, AreCells, AreCorners};
 ghost use Rattle.grid.specs.Parts.{part, replaced};
 ghost use Rattle.grid.specs.Barred.{bars, closed_at, Cleared};
 
@@ -273,7 +273,7 @@ fn on_wall(walled: bool, w: usize, x: usize) -> bool
 
 // Whether corner (x, y) is on a wall. It rules out, for instance: the walls of row 0 and column 0 alone; a wall corner in a periodic grid.
 pub fn is_on_wall(kind: u8, w: usize, n: usize, x: usize, y: usize) -> bool
-    ensures { result ≡ on_aWall kind w n x y }
+    ensures { result ≡ on_a_wall kind w n x y }
 {
     on_wall(walled_west(kind, 0), w, x) || on_wall(walled_south(kind, 0), n, y)
 }

@@ -14,7 +14,7 @@ use Rattle.grid.specs.Stencils.{IsAround}
 use Rattle.integers.specs.Order.{≤_trans}
 use Rattle.integers.specs.Bounds.{Abs, abs-as}
 use Rattle.integers.specs.Magnitudes.{depths-size, depths-least}
-use Rattle.grid.specs.Corners.{Corner, on_aWall, Below4, AreCells, AreCorners, neither, inner}
+use Rattle.grid.specs.Corners.{Corner, on_a_wall, Below4, AreCells, AreCorners, neither, inner}
 use Rattle.grid.specs.declared.Stencil.{Stencil}
 use Rattle.grid.specs.declared.Four.{Four}
 use Rattle.scheme.specs.Shares.{flux_at, squares_at, geopotential_at, weighted_by, weights_in, fluxes_in}
@@ -41,12 +41,12 @@ divides f b e =
 
 module _ (s : State) {x y : ℕ} {a : Four} (c : Corner s.kind s.w s.n x y) (r : AreCells s.kind s.w s.n x y a) where
   pub absolute-vorticity-around :
-      cond (on_aWall s.kind s.w s.n x y) s.c
+      cond (on_a_wall s.kind s.w s.n x y) s.c
       (s.c +ℤ get_or s.v a.ne (pos 0) -ℤ get_or s.v a.nw (pos 0) +ℤ get_or s.u a.se (pos 0) -ℤ get_or s.u a.ne (pos 0))
       ≡ Z s x y
   unfolding Z
   absolute-vorticity-around =
-      masked (on_aWall s.kind s.w s.n x y) s.c (λ o.
+      masked (on_a_wall s.kind s.w s.n x y) s.c (λ o.
       let n = neither (on_wall (walled_west s) s.w x) (on_wall (walled_south s) s.n y) o in
       let p = inner (walled_west s) c.column n.0 in
       let q = inner (walled_south s) c.row n.1 in

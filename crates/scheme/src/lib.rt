@@ -16,7 +16,7 @@ ghost use Rattle.model.specs.Weights.{weight_at};
 ghost use Rattle.model.specs.Scheme.{vorticity_at, vorticity};
 ghost use Rattle.model.specs.Step.{X, Y};
 ghost use Rattle.integers.specs.Bounds.{Abs};
-ghost use Rattle.grid.specs.Corners.{Corner, on_aWall};
+ghost use Rattle.grid.specs.Corners.{Corner, on_a_wall};
 ghost use Rattle.grid.specs.WritingLoops.{RowWriting};
 ghost use Rattle.scheme.specs.Ready.{ReadsAt, VorticityReady, FlowReady, Flow, TendenciesReady, walled, walled_before};
 ghost use Rattle.scheme.specs.Shares.{most_flux, most_bernoulli, most_share, most_tendency, weighted_by, CornersWithin, squares_at, flux_at};
@@ -98,7 +98,7 @@ fn vorticity_at(p: Parameters, h: &[i64], u: &[i64], v: &[i64], x: usize, y: usi
 // The same at a corner on a wall, where velocities do not enter.
 fn wall_vorticity_at(p: Parameters, h: &[i64], x: usize, y: usize) -> i64
     requires { Corner p.kind p.w p.n x y
-        × (on_aWall p.kind p.w p.n x y ≡ true)
+        × (on_a_wall p.kind p.w p.n x y ≡ true)
         × Within coriolis_limits p.c
         × FieldWithin depth_limits (p.w * p.n) h.now }
     ensures { (u v : List ℤ) → result ≡ vorticity_at (state_of p h.now [] u v []) x y }
