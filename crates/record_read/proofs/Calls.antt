@@ -7,7 +7,7 @@ use Prim.Native.Nat.{ℕ}
 use contract.Lifetimes.{Lfts}
 use denote.Triple.Clauses.{AtExit}
 use borrow.Fn.Kinds.{Dens, res_t, ended_of}
-use Rattle.model.specs.State.{State, Fields, state_of, slices}
+use Rattle.model.specs.State.{State, Fields, state_of}
 use Rattle.model.specs.Promises.{WritePromise, ReadPromise}
 use Rattle.model.specs.declared.Timestamp.{Timestamp}
 use Rattle.model.specs.declared.ReadAnswer.{ReadAnswer}
@@ -31,7 +31,7 @@ module _ (κs : Lfts 6) (a : Dens κs read-kinds.ps) (answer : (res_t read-kinds
   read_call told =
       let (rec, (h, (b, (u, (v, (barriers, _)))))) = a in
       let (_, (h', (b', (u', (v', (barriers', _)))))) = e in
-      record { rec = rec.now; d = slices h b u v barriers; d' = slices h' b' u' v' barriers'; answer = answer; promise = told }
+      record { rec = rec.now; d = record { h = h.now; b = b.now; u = u.now; v = v.now; barriers = barriers.now }; d' = record { h = h'.now; b = b'.now; u = u'.now; v = v'.now; barriers = barriers'.now }; answer = answer; promise = told }
 
 -- ---- `write`
 
