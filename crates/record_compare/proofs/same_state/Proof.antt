@@ -1,18 +1,17 @@
 -- `record_compare::same_state` meets its contract: the loop has found the tags before `tag`, 3 left out, to have the same values. Where a
 -- value differs the states do, since each number has one form in bytes; where none does, the barriers decide. Assumes nothing.
 use mathlib.Core.Path.{sym, ap, subst, ◌∙◌}
-use mathlib.Core.Logic.{⊎_elim}
 use Prim.Native.Nat.{◌+◌, ◌-◌, ◌*◌}
 use native.Mathlib.Omega.{arith}
 use lib.Dec.{T, lit≤}
 use borrow.Author.Rules.{rules}
-use borrow.Author.Tests.{not-true, not-false}
 use Rattle.model.specs.Refusals.{grid_known}
 use Rattle.model.specs.declared.Parameters.{Parameters}
 use Rattle.theorems.specs.TagLaws.{last_required}
 use Rattle.record_compare.specs.SameLaws.{SameTo, same_none, same_more, same_read, other-read, known-grid}
 use Rattle.record_compare.proofs.same_state.Statement.{statement}
 use Rattle.record_compare.proofs.same_state.Tie as tie
+use Rattle.record_compare.proofs.same_state.Lts.{then-tag-ne3+else-not-same_value, else-tag-ne3}
 
 abbrev invariant-loop-tag : tie.invariant-loop-tag
 invariant-loop-tag first p second q tag₀ tag = SameTo first second tag
@@ -33,12 +32,15 @@ returns c =
     let second = l.before in
     let first = second.before in
     other-read (λ k. (first.shared_slice_known-1.given k).fits) (λ k. (second.shared_slice_known-2-1.given k).fits) first.before.requires l.loop-tag.tag l.loop-tag.invariant.some (omega arith)
-    v.before.if-tag-ne3.true (sym v.same_value.ensures ∙ not-true v.same_value.result c.if-not-same_value.true)
+    v.before.if-tag-ne3.true (sym v.same_value.ensures ∙ c.if-not-same_value.true)
 
 loop-again : tie.Need-loop-tag-preserved invariant-loop-tag decreases-loop-tag
 loop-again c =
     same_more c.before.before.loop-tag.invariant (λ o.
-    ⊎_elim (λ w. sym w.1.ensures ∙ not-false w.1.result w.2.left) (λ w. absurd (o w.left)) c.if-tag-ne3.branch)
+    elim c.if-tag-ne3.branch [
+      | then-tag-ne3+else-not-same_value w ↦ sym w.same_value.ensures ∙ w.if-not-same_value.false
+      | else-tag-ne3 w ↦ absurd (o w.if-tag-ne3.false)
+    ])
 
 -- the tags that are required have the same values: the barriers decide, over the cells of the first record
 returns-2 : tie.Need-returns invariant-loop-tag decreases-loop-tag
