@@ -20,7 +20,6 @@ use Rattle.model.specs.declared.Refusal.{Refusal}
 use Rattle.model.specs.declared.Answer.TheVariants.{Accepted, Refused}
 use Rattle.model.specs.declared.StepAnswer.{StepAnswer}
 use Rattle.model.specs.declared.RunAnswer.{RunAnswer}
-use Rattle.model.specs.declared.RunAnswer.TheVariants as RunAnswer
 use Rattle.theorems.specs.Truth.{le_iff, differ}
 use Rattle.theorems.specs.TestLaws.{passes, found-append, Only, EachOnly, found-only}
 use Rattle.theorems.specs.Limits.{known-iff, run-taken}

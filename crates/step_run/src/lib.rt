@@ -4,7 +4,7 @@
 ghost use Rattle.std.specs.Prelude.{◌≡◌, false, List, ℕ, ◌*◌, ◌≤◌, ℤ, pos, length, replicate};
 ghost use Rattle.std.proofs.Math.Option.{some};
 ghost use Rattle.model.specs.Grid.{filled};
-ghost use Rattle.model.specs.State.{Side, WithinLimits, state_of, lent, before, after};
+ghost use Rattle.model.specs.State.{Side, WithinLimits, state_of, before};
 ghost use Rattle.model.specs.Tests.{first_found};
 ghost use Rattle.model.specs.Step.{run_from, run_test, leaves_all, work_left};
 ghost use Rattle.model.specs.Promises.{answer_of, StepPromise, RunPromise};
@@ -92,10 +92,10 @@ fn run_steps(
     q: &mut [i64],
     work: &mut [i64],
 ) -> RunAnswer
-    requires { StepReady (lent p h b u v barriers) inflow.now (length q.old) work.old }
-    ensures { let ran = run_from steps 0 (before p h b u v barriers) inflow.now in
+    requires { StepReady (state_of p h.old b.now u.old v.old barriers.now) inflow.now (length q.old) work.old }
+    ensures { let ran = run_from steps 0 (state_of p h.old b.now u.old v.old barriers.now) inflow.now in
         (result ≡ ran.answer)
-        × (after p h b u v barriers ≡ ran.state)
+        × (state_of p h.new b.now u.new v.new barriers.now ≡ ran.state)
         × Rest (p.w * p.n) work.old work.new }
 {
     for done in 0..steps {
@@ -127,10 +127,10 @@ fn run_in_room(
     steps: u64,
     work: &mut [i64],
 ) -> RunAnswer
-    requires { StepTaken (lent p h b u v barriers) inflow.now (length work.old) }
-    ensures { let ran = run_from steps 0 (before p h b u v barriers) inflow.now in
+    requires { StepTaken (state_of p h.old b.now u.old v.old barriers.now) inflow.now (length work.old) }
+    ensures { let ran = run_from steps 0 (state_of p h.old b.now u.old v.old barriers.now) inflow.now in
         (result ≡ ran.answer)
-        × (after p h b u v barriers ≡ ran.state)
+        × (state_of p h.new b.now u.new v.new barriers.now ≡ ran.state)
         × Rest (p.w * p.n) work.old work.new }
 {
     let corners = grid::corner_count(p.kind, p.w, p.n);
@@ -159,9 +159,9 @@ fn run_tested(
     steps: u64,
     work: &mut [i64],
 ) -> RunAnswer
-    requires { tested ≡ answer_of (run_test (lent p h b u v barriers) inflow.now steps (length work.old)) }
-    ensures { let s = before p h b u v barriers in
-        RunPromise s inflow.now steps work.old result (after p h b u v barriers) work.new }
+    requires { tested ≡ answer_of (run_test (state_of p h.old b.now u.old v.old barriers.now) inflow.now steps (length work.old)) }
+    ensures { let s = state_of p h.old b.now u.old v.old barriers.now in
+        RunPromise s inflow.now steps work.old result (state_of p h.new b.now u.new v.new barriers.now) work.new }
 {
     match tested {
         Answer::Accepted => {
@@ -189,8 +189,8 @@ pub fn run(
     steps: u64,
     work: &mut [i64],
 ) -> RunAnswer
-    ensures { let s = before p h b u v barriers in
-        RunPromise s inflow.now steps work.old result (after p h b u v barriers) work.new }
+    ensures { let s = state_of p h.old b.now u.old v.old barriers.now in
+        RunPromise s inflow.now steps work.old result (state_of p h.new b.now u.new v.new barriers.now) work.new }
 {
     let tested = test_run(p, h, b, u, v, barriers, inflow, steps, work.len());
     run_tested(tested, p, h, b, u, v, barriers, inflow, steps, work)
@@ -226,8 +226,8 @@ pub fn step(
     inflow: &[i64],
     work: &mut [i64],
 ) -> StepAnswer
-    ensures { let s = before p h b u v barriers in
-        StepPromise s inflow.now work.old result (after p h b u v barriers) work.new }
+    ensures { let s = state_of p h.old b.now u.old v.old barriers.now in
+        StepPromise s inflow.now work.old result (state_of p h.new b.now u.new v.new barriers.now) work.new }
 {
     as_step(run(p, h, b, u, v, barriers, inflow, 1, work))
 }
@@ -257,9 +257,9 @@ pub fn step_within(
     inflow: &[i64],
     work: &mut [i64],
 ) -> StepAnswer
-    requires { WithinLimits (lent p h b u v barriers) }
-    ensures { let s = before p h b u v barriers in
-        StepPromise s inflow.now work.old result (after p h b u v barriers) work.new }
+    requires { WithinLimits (state_of p h.old b.now u.old v.old barriers.now) }
+    ensures { let s = state_of p h.old b.now u.old v.old barriers.now in
+        StepPromise s inflow.now work.old result (state_of p h.new b.now u.new v.new barriers.now) work.new }
 {
     let tested = test_beside(p, inflow, work.len());
     as_step(run_tested(tested, p, h, b, u, v, barriers, inflow, 1, work))

@@ -34,7 +34,7 @@ sized c =
     let m = g.before in
     let a = m.before.before.args in
     let known = m.cells_of-m.ensures.0 in
-    let one = more (run_length_test a.steps ∷ []) (start Accepted (grid_test a.p ∷ []) g.then-grid.ensures) r.then_run_length-length.ensures in
+    let one = more (run_length_test a.steps ∷ []) (start Accepted (grid_test a.p ∷ []) g.then_grid-grid.ensures) r.then_run_length-length.ensures in
     let two = counted (own_lengths a.h.now a.b.now a.u.now a.v.now a.barriers.now) one (λ h. known (passed one h).0) own.then_lengths-own.ensures in
     let all = counted (λ k. length_test k (length a.inflow.now) ∷ []) two (λ h. known (passed two h).0) i.then_length-lengths.ensures in
     counted (λ k. work_test k a.room ∷ []) all (λ h. known (passed all h).0) c.then_work-work.ensures

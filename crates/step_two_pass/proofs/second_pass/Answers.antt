@@ -1,6 +1,6 @@
 -- `step_two_pass::second_pass` meets its contract. Assumes nothing.
 use mathlib.Core.Path.{◌≡◌, sym, ap, ◌∙◌}
-use Prim.Native.Nat.{ℕ, ◌*◌, ◌≤◌}
+use Prim.Native.Nat.{◌*◌}
 use native.Mathlib.Omega.{arith}
 use Rattle.model.specs.State.{State, state_of}
 use Rattle.model.specs.Step.{pass, leaves}
