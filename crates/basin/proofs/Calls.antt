@@ -9,7 +9,7 @@ use denote.Triple.Clauses.{AtExit}
 use borrow.Fn.Kinds.{Dens, res_t, ended_of}
 use lib.IntN.{ℤ}
 use lib.Ieee.{Float}
-use Rattle.model.specs.State.{State, Fields, state_of, slices}
+use Rattle.model.specs.State.{State, Fields, state_of}
 use Rattle.model.specs.Promises.{TotalDepthPromise}
 use Rattle.model.specs.declared.Timestamp.{Timestamp}
 use Rattle.basin.specs.FromC.{parameters, timestamp, TendenciesFromC, ProbeFromC, ProbeGridFromC, StepFromC, RunFromC, TotalFromC, WriteFromC, ReadFromC, CompareFromC}
@@ -186,7 +186,7 @@ module _ (κs : Lfts 8) (a : Dens κs read-kinds.ps) (returned : (res_t read-kin
   read_call told =
       let (bytes, (h, (b, (u, (v, (barriers, (constants, (_, _)))))))) = a in
       let (_, (h', (b', (u', (v', (barriers', (constants', (answer', _)))))))) = e in
-      record { bytes = bytes.now; d = slices h b u v barriers; d' = slices h' b' u' v' barriers'; constants = constants.now; constants' = constants'.now; returned = returned; answer = answer'.now; told = told }
+      record { bytes = bytes.now; d = record { h = h.now; b = b.now; u = u.now; v = v.now; barriers = barriers.now }; d' = record { h = h'.now; b = b'.now; u = u'.now; v = v'.now; barriers = barriers'.now }; constants = constants.now; constants' = constants'.now; returned = returned; answer = answer'.now; told = told }
 
 -- ---- `basin_compare`
 

@@ -5,7 +5,7 @@
 ghost use Rattle.std.specs.Prelude.{◌≡◌, [], ◌≤◌, ◌<◌, length, take, IfOk};
 ghost use Rattle.std.specs.Io.{ReadsAtMost};
 ghost use Rattle.std.specs.Io.KnownBytes.{Consumes, IsAtEnd};
-ghost use Rattle.model.specs.State.{WithinLimits, state_of, lent, before, after, slices, slices_before, slices_after};
+ghost use Rattle.model.specs.State.{WithinLimits, state_of};
 ghost use Rattle.model.specs.Program.{state_lines, program_output, Printed, ProgramPromise};
 ghost use Rattle.program.specs.Stepped.{Printable, Ready, Stepped, SteppedParts};
 
@@ -35,9 +35,9 @@ fn step_state(
     work: &mut [i64],
     out: &mut [u8],
 ) -> usize
-    requires { WithinLimits (lent p h b u v barriers) }
-    ensures { let s = before p h b u v barriers in
-        Stepped s inflow.now work.old (after p h b u v barriers) work.new
+    requires { WithinLimits (state_of p h.old b.now u.old v.old barriers.now) }
+    ensures { let s = state_of p h.old b.now u.old v.old barriers.now in
+        Stepped s inflow.now work.old (state_of p h.new b.now u.new v.new barriers.now) work.new
         out.old result out.new }
 {
     match step_run::step_within(p, h, b, u, v, barriers, inflow, work) {
@@ -63,8 +63,8 @@ fn step_parts(
     work: &mut [i64],
     out: &mut [u8],
 ) -> usize
-    requires { Ready p (slices h b u v barriers) }
-    ensures { SteppedParts p (slices_before h b u v barriers) inflow.now work.old
+    requires { Ready p (record { h = h.old; b = b.now; u = u.old; v = v.old; barriers = barriers.now }) }
+    ensures { SteppedParts p (record { h = h.old; b = b.now; u = u.old; v = v.old; barriers = barriers.now }) inflow.now work.old
         out.old result h.new u.new v.new work.new
         out.new }
 {
@@ -97,8 +97,8 @@ pub fn print_step(
     work: &mut [i64],
     out: &mut [u8],
 ) -> usize
-    ensures { ProgramPromise input.now (slices_before h b u v barriers) inflow.now
-        work.old out.old result (slices_after h b u v barriers) work.new
+    ensures { ProgramPromise input.now (record { h = h.old; b = b.old; u = u.old; v = v.old; barriers = barriers.old }) inflow.now
+        work.old out.old result (record { h = h.new; b = b.new; u = u.new; v = v.new; barriers = barriers.new }) work.new
         out.new }
 {
     if input.len() >= 65536 {
