@@ -1,7 +1,7 @@
 -- `record_read::read` meets its contract. Assumes nothing.
 use mathlib.Core.Path.{◌≡◌, sym, ap, ap₂, subst, ◌∙◌}
 use mathlib.Core.List.{List}
-use Prim.Native.Nat.{ℕ, ◌*◌, ◌≤◌, min}
+use Prim.Native.Nat.{ℕ, ◌*◌, min}
 use native.Mathlib.Omega.{arith}
 use lib.ListN.{length}
 use Rattle.model.specs.State.{Fields, parameters_of, cells}
@@ -9,7 +9,7 @@ use Rattle.model.specs.Promises.{rooms_in}
 use Rattle.model.specs.Claims.{EachRoom, BytesOf}
 use Rattle.model.specs.declared.Parameters.{Parameters}
 use Rattle.record_tags.specs.Places.{parts_in}
-use Rattle.record_tests.specs.RecordTested.{state_read, Accepted}
+use Rattle.record_tests.specs.RecordTested.{state_read}
 use Rattle.record_read.proofs.ReadLaws.{least, bytes_of, cells-most, read-refused, read-room, read_done}
 use Rattle.record_read.proofs.read.Goals as goal
 

@@ -3,11 +3,9 @@ use mathlib.Core.Path.{◌≡◌, refl, sym, subst}
 use mathlib.Core.Option.{none}
 use mathlib.Core.List.{List}
 use Prim.Native.Nat.{ℕ, ◌+◌, ◌<◌}
-use native.Mathlib.Omega.{arith}
 use lib.ListN.{length, set}
 use Rattle.model.specs.Record.{tag_at, size_at, tag_test}
 use Rattle.model.specs.Promises.{answer_of}
-use Rattle.model.specs.declared.Answer.{Answer}
 use Rattle.model.specs.declared.Answer.TheVariants.{Accepted}
 use Rattle.theorems.specs.Walks.{Sound, sound-iff}
 use Rattle.record_tags.specs.Places.{places}

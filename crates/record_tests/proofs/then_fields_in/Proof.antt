@@ -7,7 +7,6 @@ use borrow.Author.Rules.{rules}
 use Rattle.model.specs.State.{State, cells, barrier_numbers}
 use Rattle.model.specs.Refusals.{taken_of, taken, value_tests}
 use Rattle.model.specs.declared.Answer.{Answer}
-use Rattle.model.specs.declared.Answer.TheVariants.{Accepted}
 use Rattle.model.specs.declared.Field.{Field}
 use Rattle.model.specs.declared.Field.TheVariants.{Depth, Bottom, VelocityU, VelocityV, Barriers}
 use Rattle.model.specs.declared.Refusal.TheVariants.{Value}
