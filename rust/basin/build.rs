@@ -1,5 +1,5 @@
 //! Links the proved core, `libbasin.a`. It is looked for in the repository's
-//! `target/staticlib`, where `rt staticlib basin` writes it, or in the folder
+//! `target/staticlib`, where `install/build basin` writes it, or in the folder
 //! that the environment variable `BASIN_LIB_DIR` names (a relative one is
 //! taken from this package's own folder).
 
@@ -23,7 +23,7 @@ fn main() {
     println!("cargo::rerun-if-changed={}", archive.display());
     if !archive.is_file() {
         panic!(
-            "{} is missing: run `rt staticlib basin` first, \
+            "{} is missing: run `install/build basin` first, \
              or set BASIN_LIB_DIR to the folder that holds libbasin.a",
             archive.display()
         );
