@@ -8,13 +8,10 @@ use lib.ListN.{get_or}
 use lib.Ieee.{Float, nan}
 use Rattle.model.specs.State.{cells}
 use Rattle.model.specs.Answers.{probe_numbers, doubles_in, probe_grid_numbers}
-use Rattle.model.specs.Promises.{TendenciesPromise, ProbePromise, ProbeGridPromise}
+use Rattle.model.specs.Promises.{ProbePromise, ProbeGridPromise}
 use Rattle.model.specs.Claims.{Equal, Close}
-use Rattle.model.specs.declared.Answer.TheVariants.{Accepted}
 use Rattle.model.specs.declared.ProbeAnswer.{ProbeAnswer}
-use Rattle.model.specs.declared.ProbeAnswer.TheVariants as ProbeAnswer
 use Rattle.model.specs.declared.ProbeGridAnswer.{ProbeGridAnswer}
-use Rattle.model.specs.declared.ProbeGridAnswer.TheVariants as ProbeGridAnswer
 use Rattle.answers.specs.Told.{Told, or_kept}
 use Rattle.theorems.specs.Theorems.{theorems}
 use Rattle.basin.proofs.Applied.{from_one, promised}

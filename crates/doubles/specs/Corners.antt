@@ -1,5 +1,5 @@
 -- The weights of a cell in doubles: each sum of corners (02, U4) is its row of the table, bit by bit. Assumes nothing.
-use Rattle.std.specs.Prelude.{◌≡◌, List, [], ◌∷◌, ℕ, ℤ}
+use Rattle.std.specs.Prelude.{◌≡◌, [], ◌∷◌, ℕ, ℤ}
 use Rattle.std.specs.Float.Ieee.{size, span, climb}
 use Rattle.model.specs.Weights.{weights, weight_at, weighted}
 use Rattle.integers.specs.Bounds.{Sizes, valued}

@@ -1,6 +1,6 @@
 -- A loop that writes the elements of a list, one a turn, from a place of a lent slice on: it fills a field (place 0) or a part of a
 -- work space. Assumes nothing.
-use Rattle.std.specs.Prelude.{◌≡◌, refl, List, ◌++◌, ℕ, ◌+◌, ◌-◌, ◌*◌, ◌≤◌, ◌<◌, length, take, drop, get_or, set}
+use Rattle.std.specs.Prelude.{◌≡◌, refl, List, ◌++◌, ℕ, ◌+◌, ◌*◌, ◌≤◌, ◌<◌, length, take, drop, get_or, set}
 use Rattle.std.proofs.Common.{sym, ap, subst, ◌∙◌, append_assoc, zero-le, le_antisymm, zero-add, zero-mul, mul_comm, mul-le-mul_right, add-one, arith, length-set, length-take-le, drop_at}
 use Rattle.std.proofs.Math.Seq.{take-append_seam, paste, paste-zero, paste-suc, take-length}
 use Rattle.model.specs.Grid.{by_cell, filled}

@@ -32,14 +32,6 @@ use Rattle.model.specs.declared.TotalAnswer.{TotalAnswer}
 use Rattle.model.specs.declared.WriteAnswer.{WriteAnswer}
 use Rattle.model.specs.declared.ReadAnswer.{ReadAnswer}
 use Rattle.model.specs.declared.CompareAnswer.{CompareAnswer}
-use Rattle.model.specs.declared.Answer.TheVariants as Answer
-use Rattle.model.specs.declared.ProbeAnswer.TheVariants as ProbeAnswer
-use Rattle.model.specs.declared.ProbeGridAnswer.TheVariants as ProbeGridAnswer
-use Rattle.model.specs.declared.StepAnswer.TheVariants as StepAnswer
-use Rattle.model.specs.declared.RunAnswer.TheVariants as RunAnswer
-use Rattle.model.specs.declared.TotalAnswer.TheVariants as TotalAnswer
-use Rattle.model.specs.declared.WriteAnswer.TheVariants as WriteAnswer
-use Rattle.model.specs.declared.ReadAnswer.TheVariants as ReadAnswer
 use Rattle.model.specs.declared.CompareAnswer.TheVariants.{Same, FirstNewer, SecondNewer, Conflict, FirstRefused, SecondRefused}
 
 -- ==== demand 1: the full result, or a refusal where its cause holds and only there

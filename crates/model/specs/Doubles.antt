@@ -12,7 +12,6 @@ use Rattle.model.specs.Refusals.{Taken, narrowed, value_tests}
 use Rattle.model.specs.Weights.{weight_at}
 use Rattle.model.specs.Scheme.{to_east, to_west, to_north, to_south}
 use Rattle.model.specs.declared.Field.TheVariants.{Depth, Bottom, VelocityU, VelocityV, Vorticity}
-use Rattle.model.specs.declared.Refusal.{Refusal}
 use Rattle.model.specs.declared.Refusal.TheVariants.{Value}
 
 -- ---- a double and a whole number

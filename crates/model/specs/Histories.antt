@@ -5,9 +5,7 @@ use Rattle.model.specs.State.{State}
 use Rattle.model.specs.Step.{step_answer, step_state, run_of}
 use Rattle.model.specs.Promises.{StepPromise, RunPromise}
 use Rattle.model.specs.declared.StepAnswer.{StepAnswer}
-use Rattle.model.specs.declared.StepAnswer.TheVariants as StepAnswer
 use Rattle.model.specs.declared.RunAnswer.{RunAnswer}
-use Rattle.model.specs.declared.RunAnswer.TheVariants as RunAnswer
 
 -- a call with its own inflow, run length and work space, which may be ones that are refused
 pub data Call : Type 0 where

@@ -12,7 +12,6 @@ use Rattle.model.specs.Record.{Decoded, accepted, refused, decode}
 use Rattle.model.specs.Promises.{rooms_in, put}
 use Rattle.model.specs.declared.Refusal.TheVariants.{Record}
 use Rattle.model.specs.declared.StepAnswer.{StepAnswer}
-use Rattle.model.specs.declared.StepAnswer.TheVariants as StepAnswer
 
 -- ---- text, as bytes
 

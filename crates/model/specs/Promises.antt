@@ -28,12 +28,6 @@ use Rattle.model.specs.declared.TotalAnswer.{TotalAnswer}
 use Rattle.model.specs.declared.WriteAnswer.{WriteAnswer}
 use Rattle.model.specs.declared.ReadAnswer.{ReadAnswer}
 use Rattle.model.specs.declared.CompareAnswer.{CompareAnswer}
-use Rattle.model.specs.declared.Answer.TheVariants as Answer
-use Rattle.model.specs.declared.ProbeAnswer.TheVariants as ProbeAnswer
-use Rattle.model.specs.declared.ProbeGridAnswer.TheVariants as ProbeGridAnswer
-use Rattle.model.specs.declared.TotalAnswer.TheVariants as TotalAnswer
-use Rattle.model.specs.declared.WriteAnswer.TheVariants as WriteAnswer
-use Rattle.model.specs.declared.ReadAnswer.TheVariants as ReadAnswer
 
 -- a refusal leaves a destination as it was
 abbrev pub left_by : {A : Type 0} → Option Refusal → List A → List A → List A

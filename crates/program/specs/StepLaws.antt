@@ -12,7 +12,6 @@ use Rattle.model.specs.declared.Parameters.{Parameters}
 use Rattle.model.specs.declared.Field.{Field}
 use Rattle.model.specs.declared.Refusal.{Refusal}
 use Rattle.model.specs.declared.StepAnswer.{StepAnswer}
-use Rattle.model.specs.declared.StepAnswer.TheVariants as StepAnswer
 use Rattle.grid.specs.Cells.{cells-most}
 use Rattle.theorems.specs.Stepping.{step-leaves}
 use Rattle.text.specs.Sink.{sink, puts, follows, printed}

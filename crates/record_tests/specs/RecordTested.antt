@@ -5,7 +5,6 @@ use Rattle.model.specs.State.{State, parameters_of}
 use Rattle.model.specs.Record.{state_in, timestamp_in, record_test, refused, decode}
 use Rattle.model.specs.declared.Parameters.{Parameters}
 use Rattle.model.specs.declared.Answer.{Answer}
-use Rattle.model.specs.declared.Answer.TheVariants as Answer
 use Rattle.record_tags.specs.Places.{parts_in, Placed}
 
 -- the state that the fields of a record mean

@@ -1,6 +1,6 @@
 -- What a cell needs of the cells to its west and south, and what a row hands on to the row to its north. Assumes nothing.
 use Rattle.std.specs.Prelude.{◌≡◌, refl, Bool, true, false, cond, List, ℕ, ◌+◌, ◌≤◌, ◌<◌, eqb, ℤ, pos, length, get_or, set}
-use Rattle.std.proofs.Common.{sym, ap, subst, ◌∙◌, zero-le, arith, length-set, eqb-true}
+use Rattle.std.proofs.Common.{sym, ap, ◌∙◌, arith, length-set, eqb-true}
 use Rattle.std.specs.Int.{w64}
 use Rattle.std.proofs.lemmas.Bool.{eqb-false}
 use Rattle.model.specs.Grid.{previous}

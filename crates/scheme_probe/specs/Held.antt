@@ -1,6 +1,6 @@
 -- Numbers that a double holds whole, and the doubles that stand in the code. Assumes nothing.
 use Rattle.std.specs.Prelude.{◌≡◌, refl, List, [], ◌∷◌, ℕ, ◌^◌, ◌<◌, ◌≤◌, T, ℤ, pos, negsuc, nat_abs, length, get_or}
-use Rattle.std.proofs.Common.{sym, subst, le_trans, le→leb, lt→ltb, lit≤}
+use Rattle.std.proofs.Common.{sym, subst, le_trans, le→leb, lt→ltb}
 use Rattle.std.specs.Int.Count.{count_trailing_zeros}
 use Rattle.std.specs.Float.{binary64}
 use Rattle.std.specs.Float.Ieee.{in_float, of_bits, of_fields, odd, of_int, round, size, span, climb, units}

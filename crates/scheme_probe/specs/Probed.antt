@@ -2,7 +2,7 @@
 use Rattle.std.specs.Prelude.{◌≡◌, Bool, true, false, List, ℕ, ◌/◌, ◌%◌, ◌<◌, ℤ}
 use Rattle.std.proofs.Math.Path.{refl, sym, ap}
 use Rattle.std.proofs.Common.{◌∙◌}
-use Rattle.std.proofs.Math.Option.{Option, none, some}
+use Rattle.std.proofs.Math.Option.{Option, none}
 use Rattle.model.specs.State.{State, cells}
 use Rattle.model.specs.Answers.{told_probe}
 use Rattle.model.specs.Tests.{first_found}
@@ -11,7 +11,6 @@ use Rattle.model.specs.Doubles.{tendency_h, tendency_u, tendency_v, narrow_field
 use Rattle.model.specs.Promises.{answer_of, marked, probe_answer, probe_test, probe_of, ProbePromise}
 use Rattle.model.specs.declared.Answer.TheVariants.{Accepted, Refused}
 use Rattle.model.specs.declared.ProbeAnswer.{ProbeAnswer}
-use Rattle.model.specs.declared.ProbeAnswer.TheVariants as ProbeAnswer
 use Rattle.model.specs.declared.Refusal.{Refusal}
 use Rattle.model.specs.declared.Refusal.TheVariants.{Value}
 use Rattle.theorems.specs.Limits.{probe-taken}

@@ -1,6 +1,6 @@
 -- What a row needs of the row to its south, whose places it takes over for the row to its north. Assumes nothing.
-use Rattle.std.specs.Prelude.{◌≡◌, refl, List, ℕ, ◌+◌, ◌≤◌, ◌<◌, ℤ, length, get_or, set}
-use Rattle.std.proofs.Common.{sym, subst, zero-le, arith, length-set}
+use Rattle.std.specs.Prelude.{List, ℕ, ◌+◌, ◌≤◌, ◌<◌, ℤ, length, get_or, set}
+use Rattle.std.proofs.Common.{sym, subst, arith, length-set}
 use Rattle.model.specs.State.{State}
 use Rattle.grid.specs.Cells.{previous-after}
 use Rattle.grid.specs.Places.{Each, each_none, each_more, each-past, each_all}

@@ -1,8 +1,6 @@
 -- A step is a run of one: what it answers, by what that run answers. Assumes nothing.
 use Rattle.model.specs.declared.StepAnswer.{StepAnswer}
-use Rattle.model.specs.declared.StepAnswer.TheVariants as StepAnswer
 use Rattle.model.specs.declared.RunAnswer.{RunAnswer}
-use Rattle.model.specs.declared.RunAnswer.TheVariants as RunAnswer
 
 abbrev pub as_step : RunAnswer → StepAnswer
 as_step (RunAnswer.Finished m) = StepAnswer.Done

@@ -7,7 +7,6 @@ use Rattle.model.specs.Tests.{Test, seeks}
 use Rattle.model.specs.Refusals.{taken_of, value_test, edge_tests}
 use Rattle.model.specs.declared.Parameters.{Parameters}
 use Rattle.model.specs.declared.Answer.{Answer}
-use Rattle.model.specs.declared.Answer.TheVariants as Answer
 use Rattle.model.specs.declared.Field.{Field}
 use Rattle.model.specs.declared.Field.TheVariants.{VelocityU, VelocityV, Barriers}
 use Rattle.model.specs.declared.Refusal.{Refusal}

@@ -19,7 +19,6 @@ use Rattle.model.specs.declared.ProbeGridAnswer.TheVariants as ProbeGridAnswer
 use Rattle.model.specs.declared.WriteAnswer.TheVariants as WriteAnswer
 use Rattle.model.specs.declared.TotalAnswer.TheVariants as TotalAnswer
 use Rattle.model.specs.declared.StepAnswer.{StepAnswer}
-use Rattle.model.specs.declared.StepAnswer.TheVariants as StepAnswer
 use Rattle.model.specs.declared.RunAnswer.TheVariants as RunAnswer
 use Rattle.theorems.specs.Truth.{◌⟫◌, differ, some≢}
 use Rattle.theorems.specs.TestLaws.{finds}

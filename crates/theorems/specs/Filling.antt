@@ -3,7 +3,7 @@ use Rattle.std.specs.Prelude.{◌≡◌, refl, ◌↔◌, List, [], ◌∷◌, �
 use Rattle.std.proofs.Common.{sym, ap, ◌∙◌}
 use Rattle.std.proofs.Math.Option.{Option, none, some}
 use Rattle.model.specs.Grid.{at, filled, by_cell}
-use Rattle.model.specs.State.{State, cells, corner_columns, corner_rows, corners, WithinLimits}
+use Rattle.model.specs.State.{State, corner_columns, corner_rows, corners, WithinLimits}
 use Rattle.model.specs.Scheme.{D, tendency_u, tendency_v, h_tendencies, u_tendencies, v_tendencies, vorticity_at, vorticity}
 use Rattle.model.specs.Promises.{left_by, answer_of, vorticity_tests, vorticity_test, VorticityPromise, tendencies_test, TendenciesPromise}
 use Rattle.model.specs.Claims.{HoldsCorners, TendenciesAcceptedClaim, TendenciesClaim}

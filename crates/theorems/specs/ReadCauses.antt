@@ -1,5 +1,5 @@
 -- A record is refused exactly where a cause holds, in the order 7, 1, 2, 8, 3, 9, 4, 5, and accepted exactly where none does. Assumes nothing.
-use Rattle.std.specs.Prelude.{◌≡◌, refl, ◌↔◌, ◌⊎◌, List, [], ◌∷◌, ℕ}
+use Rattle.std.specs.Prelude.{◌≡◌, refl, ◌↔◌, ◌⊎◌, List, ℕ}
 use Rattle.std.proofs.Common.{sym, ap₂, subst₂, ◌∙◌, inl, inr, ⊎_elim}
 use Rattle.std.proofs.Math.Path.{ap, subst}
 use Rattle.std.proofs.Math.Option.{Option, none, some}

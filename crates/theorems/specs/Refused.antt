@@ -17,7 +17,6 @@ use Rattle.model.specs.declared.Refusal.{Refusal}
 use Rattle.model.specs.declared.Refusal.TheVariants.{Grid, Lengths, Constants, Value, ClosedEdge, Record, Destination, Milliseconds, NoSuchCell}
 use Rattle.model.specs.declared.RunAnswer.{RunAnswer}
 use Rattle.model.specs.declared.StepAnswer.TheVariants as StepAnswer
-use Rattle.model.specs.declared.RunAnswer.TheVariants as RunAnswer
 use Rattle.model.specs.declared.ReadAnswer.TheVariants as ReadAnswer
 use Rattle.theorems.specs.Truth.{differ}
 use Rattle.theorems.specs.TestLaws.{Only, EachOnly, only-append, found-only}

@@ -11,7 +11,6 @@ use Rattle.model.specs.Claims.{Steps, start, onward, RunEndsClaim}
 use Rattle.model.specs.declared.Field.{Field}
 use Rattle.model.specs.declared.Refusal.{Refusal}
 use Rattle.model.specs.declared.RunAnswer.{RunAnswer}
-use Rattle.model.specs.declared.RunAnswer.TheVariants as RunAnswer
 use Rattle.theorems.specs.Truth.{differ}
 use Rattle.theorems.specs.Limits.{run-taken}
 use Rattle.theorems.specs.Runs.{run-counts}

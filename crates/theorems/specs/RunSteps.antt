@@ -13,7 +13,6 @@ use Rattle.model.specs.Histories.{step, History, nothing, stepped, run_count}
 use Rattle.model.specs.Claims.{StepTaken, Steps, start, onward, Ended, NextStep, RunStepsClaim}
 use Rattle.model.specs.declared.Refusal.{Refusal}
 use Rattle.model.specs.declared.RunAnswer.{RunAnswer}
-use Rattle.model.specs.declared.RunAnswer.TheVariants as RunAnswer
 use Rattle.model.specs.declared.StepAnswer.TheVariants as StepAnswer
 use Rattle.theorems.specs.Limits.{step-taken, run-taken}
 use Rattle.theorems.specs.Stepping.{step-within, step-cells}

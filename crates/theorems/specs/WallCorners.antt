@@ -1,10 +1,9 @@
 -- Corners on a wall (02, U5) in the request's words, and the corners that each cell uses. Assumes nothing.
-use Rattle.std.specs.Prelude.{◌≡◌, refl, Bool, true, false, cond, ◌||◌, List, ℕ, ◌+◌, ◌-◌, ◌*◌, ◌≤◌, ◌<◌, min, eqb, ℤ, pos, ◌+ℤ◌, ◌*ℤ◌}
-use Rattle.std.proofs.Common.{sym, ap, ap₂, ◌∙◌, arith, eq-eqb, ne_eqb}
+use Rattle.std.specs.Prelude.{◌≡◌, refl, Bool, true, false, ◌||◌, ℕ, ◌+◌, ◌-◌, ◌≤◌, ◌<◌, ℤ, pos, ◌+ℤ◌, ◌*ℤ◌}
+use Rattle.std.proofs.Common.{sym, ap, ◌∙◌, arith, eq-eqb, ne_eqb}
 use Rattle.model.specs.Numbers.{rnd}
-use Rattle.model.specs.Grid.{at, next, lower, upper, on_wall}
+use Rattle.model.specs.Grid.{at, lower, upper, on_wall}
 use Rattle.model.specs.State.{State, boundary_of, walled_west, walled_south}
-use Rattle.model.specs.Weights.{weighted}
 use Rattle.model.specs.Scheme.{Z, H, vorticity_at, to_west, to_south, corner_weight}
 use Rattle.model.specs.Claims.{beside_two, beside_one, ordinary, WallCornerClaim, CellCornersClaim}
 use Rattle.integers.specs.Ring.{con, ◌⊕◌, ◌⊗◌, ◌⊜◌, Identity, ring}

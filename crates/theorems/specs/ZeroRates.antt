@@ -6,7 +6,7 @@ use Rattle.grid.specs.Cells.{previous-lt}
 use Rattle.grid.specs.Corners.{neither}
 use Rattle.grid.specs.CellFields.{same_at, at-by_cell}
 use Rattle.model.specs.Grid.{at, previous, sum_grid, corners_of}
-use Rattle.model.specs.State.{State, cells, boundary_of, walled_west, walled_south, corner_columns, corner_rows, barrier_at, closed_west, closed_south, WithinLimits, OpenEverywhere}
+use Rattle.model.specs.State.{State, cells, boundary_of, walled_west, walled_south, barrier_at, closed_west, closed_south, WithinLimits, OpenEverywhere}
 use Rattle.model.specs.Scheme.{divergence, momentum_u, momentum_v, corner_weight, to_west, to_south, flux_u, flux_v, D, B, corner, Tu, Tv, tendency_u, tendency_v, h_tendencies, u_tendencies, v_tendencies}
 use Rattle.model.specs.Rates.{energy_rate, vorticity_tendency, D4, enstrophy_rate}
 use Rattle.model.specs.Claims.{Holds, EnergyClaim, AnyCornersEnergyClaim, EnstrophyClaim, PeriodicEnstrophyClaim}

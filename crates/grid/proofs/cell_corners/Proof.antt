@@ -1,9 +1,6 @@
 -- `grid::cell_corners` meets its contract. Assumes nothing.
-use mathlib.Core.Path.{◌≡◌, sym, subst}
-use Prim.Native.Nat.{ℕ, ◌≤◌, ◌<◌}
-use borrow.Author.Rules.{rules}
 use Rattle.model.specs.State.{boundary_of, wall_west, wall_south}
-use Rattle.grid.specs.Corners.{side-most, corners-more, AreCorners}
+use Rattle.grid.specs.Corners.{side-most, corners-more}
 use Rattle.grid.proofs.cell_corners.Statement.{statement}
 use Rattle.grid.proofs.cell_corners.Tie as tie
 

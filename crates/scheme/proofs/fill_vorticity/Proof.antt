@@ -1,9 +1,8 @@
 -- `scheme::fill_vorticity` meets its contract: row by row, over the grid of corners. Assumes nothing.
-use mathlib.Core.Path.{◌≡◌, sym, subst}
+use mathlib.Core.Path.{sym, subst}
 use mathlib.Core.List.{[]}
-use Prim.Native.Nat.{ℕ, ◌+◌, ◌-◌, ◌*◌, ◌≤◌, ◌<◌, zero-le}
+use Prim.Native.Nat.{ℕ, ◌-◌, ◌*◌, ◌≤◌, ◌<◌, zero-le}
 use native.Mathlib.Omega.{arith}
-use lib.ListN.{length}
 use Rattle.model.specs.State.{State, state_of, walled_south, corner_columns, corner_rows}
 use Rattle.model.specs.Scheme.{vorticity_at, vorticity}
 use Rattle.grid.specs.Corners.{side-most}

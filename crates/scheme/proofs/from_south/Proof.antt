@@ -1,5 +1,5 @@
 -- `scheme::from_south` meets its contract. Assumes nothing.
-use mathlib.Core.Path.{refl, sym, ap, ◌∙◌}
+use mathlib.Core.Path.{sym, ap, ◌∙◌}
 use mathlib.Core.List.{[]}
 use mathlib.Core.Bool.{true≢false}
 use native.Mathlib.Omega.{arith}

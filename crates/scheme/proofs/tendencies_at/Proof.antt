@@ -1,5 +1,5 @@
 -- `scheme::tendencies_at` meets its contract. Assumes nothing.
-use mathlib.Core.Path.{◌≡◌, refl, sym, ap₂, ◌∙◌}
+use mathlib.Core.Path.{◌≡◌, sym, ap₂, ◌∙◌}
 use mathlib.Core.List.{[]}
 use mathlib.Core.Bool.{false, cond}
 use lib.Dec.{eqb}

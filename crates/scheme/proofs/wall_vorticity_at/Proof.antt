@@ -1,5 +1,5 @@
 -- `scheme::wall_vorticity_at` meets its contract: on a wall Z is c, whatever the velocities are. Assumes nothing.
-use mathlib.Core.Path.{◌≡◌, sym, ap₂, subst, ◌∙◌}
+use mathlib.Core.Path.{◌≡◌, ap₂, ◌∙◌}
 use mathlib.Core.List.{List, []}
 use Prim.Native.Nat.{◌*◌}
 use lib.IntN.{ℤ, pos, ◌*ℤ◌}

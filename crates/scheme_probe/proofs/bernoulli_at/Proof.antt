@@ -1,11 +1,8 @@
 -- `scheme_probe::bernoulli_at` meets its contract. Assumes nothing.
-use mathlib.Core.Path.{◌≡◌, ap, ◌∙◌}
 use Prim.Native.Nat.{◌^◌, ◌≤◌}
 use native.Mathlib.Nat.{le_trans}
 use lib.Dec.{lit≤}
 use lib.IntN.{nat_abs}
-use lib.Ieee.{binary64, of_int}
-use borrow.Author.Rules.{rules}
 use Rattle.integers.specs.Magnitudes.{gravity-size}
 use Rattle.scheme_probe.specs.Held.{kept, converts, four}
 use Rattle.scheme_probe.proofs.bernoulli_at.Statement.{statement}

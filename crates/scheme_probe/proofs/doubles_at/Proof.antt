@@ -2,7 +2,6 @@
 use mathlib.Core.Path.{refl, subst}
 use Prim.Native.Nat.{◌+◌, ◌*◌, ◌<◌}
 use native.Mathlib.Omega.{arith}
-use lib.ListN.{length}
 use borrow.Author.Rules.{rules}
 use Rattle.model.specs.State.{State, state_of}
 use Rattle.grid.specs.Cells.{cells-most, cell-lt}

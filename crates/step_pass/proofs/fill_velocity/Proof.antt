@@ -1,10 +1,9 @@
 -- `step_pass::fill_velocity` meets its contract: j rows are stored, and the shares that the row before gives to row j are at hand. The loop
 -- writes only banks 4 and 5, so each velocity is made of what the work space held at first. Assumes nothing.
 use mathlib.Core.Path.{◌≡◌, refl, sym, subst}
-use mathlib.Core.List.{List, []}
+use mathlib.Core.List.{[]}
 use Prim.Native.Nat.{ℕ, ◌+◌, ◌-◌, ◌*◌, ◌≤◌, zero-le}
 use native.Mathlib.Omega.{arith}
-use lib.IntN.{ℤ}
 use lib.ListN.{length}
 use Rattle.model.specs.State.{State, state_of}
 use Rattle.model.specs.Step.{new_u, new_v}

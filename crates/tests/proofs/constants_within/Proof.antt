@@ -1,7 +1,6 @@
 -- `tests::constants_within` meets its contract. Assumes nothing.
 use mathlib.Core.Path.{◌≡◌, sym, ap, ◌∙◌}
 use borrow.Author.Rules.{rules}
-use borrow.Author.Tests.{not-true, not-false}
 use mir.Facts.{to_z-of_z}
 use mir.Syntax.{w64}
 use Rattle.model.specs.Numbers.{within, gravity_limits, coriolis_limits, ratio_limits}

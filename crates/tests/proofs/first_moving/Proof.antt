@@ -6,7 +6,6 @@ use native.Mathlib.Omega.{arith}
 use lib.IntN.{ℤ, pos}
 use lib.ListN.{length, get_or}
 use mir.Syntax.{w64}
-use borrow.Author.Rules.{rules}
 use Rattle.integers.specs.Bounds.{held, held-is}
 use Rattle.grid.specs.Cells.{cell-lt, row-end, by_index}
 use Rattle.grid.specs.Scanning.{Scanned, scanned-none, scanned-at, scanned-more, scanned-bad, rows-scanned}

@@ -1,7 +1,6 @@
 -- `tests::grid_known` meets its contract. Assumes nothing.
 use mathlib.Core.Path.{sym, ap, ◌∙◌}
 use borrow.Author.Rules.{rules}
-use borrow.Author.Tests.{not-true, not-false}
 use Rattle.model.specs.State.{known}
 use Rattle.model.specs.Refusals.{grid_known}
 use Rattle.tests.proofs.grid_known.Statement.{statement}
