@@ -2,7 +2,7 @@
  * Tendencies in double precision, and how far to trust them. It probes cells of
  * three states and prints -D, Tu and Tv as doubles with the word exact or near,
  * and beside them how far they are from the whole numbers; then all cells of a
- * grid, and what is refused. From the repository, after `rt staticlib basin`:
+ * grid, and what is refused. From the repository, after `install/build basin`:
  *
  *   gcc -std=c99 -Wall -Wextra -Werror -Iinclude examples/probe.c \
  *       target/staticlib/libbasin.a -o target/probe

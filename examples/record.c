@@ -2,7 +2,7 @@
  * Writes the record of worked example 10 of document 01 with the proved core,
  * reads it back, compares it with others, in one second and with barriers too,
  * and shows how milliseconds above 999, a barrier above 3 and a damaged record
- * are refused. From the repository, after `rt staticlib basin`:
+ * are refused. From the repository, after `install/build basin`:
  *
  *   gcc -std=c99 -Wall -Wextra -Werror -Iinclude examples/record.c \
  *       target/staticlib/libbasin.a -o target/record

@@ -2,7 +2,7 @@
  * The same core by way of the struct of a state and the functions over it, and
  * by the names that the header has for its numbers. It steps a small dock with
  * a jetty, prints what is kept and what is refused, writes a record and reads
- * it back. From the repository, after `rt staticlib basin`:
+ * it back. From the repository, after `install/build basin`:
  *
  *   gcc -std=c99 -Wall -Wextra -Werror -Iinclude examples/state.c \
  *       target/staticlib/libbasin.a -o target/state

@@ -2,7 +2,7 @@
  * Takes steps and runs of states of document 01 with the proved core, and
  * prints what is left cell by cell, the number of steps done, total depth, or
  * the number of the refusal and what is told with it. From the repository,
- * after `rt staticlib basin`:
+ * after `install/build basin`:
  *
  *   gcc -std=c99 -Wall -Wextra -Werror -Iinclude examples/step.c \
  *       target/staticlib/libbasin.a -o target/step

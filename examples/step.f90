@@ -1,5 +1,5 @@
 ! Steps and runs of states of document 01 with the proved core, from Fortran: it prints the same as step.c.
-! From the repository, after `rt staticlib basin`:
+! From the repository, after `install/build basin`:
 !
 !   gfortran -std=f2018 -Wall -Wextra -Werror -J target examples/step.f90 \
 !       target/staticlib/libbasin.a -o target/step_f90

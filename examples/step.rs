@@ -1,7 +1,7 @@
 //! Takes steps and runs of states of document 01 with the proved core, and
 //! prints what is left cell by cell, the number of steps done, total depth, or
 //! the number of the refusal and what is told with it. From the repository,
-//! after `rt staticlib basin`:
+//! after `install/build basin`:
 //!
 //! ```sh
 //! cargo run -q --offline --manifest-path rust/Cargo.toml -p basin --example step |

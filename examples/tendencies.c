@@ -2,7 +2,8 @@
  * Works out the potential vorticity and the tendencies of four states of
  * document 01, of one with a barrier and of one between walls, with the proved
  * core. It prints q corner by corner and the tendencies cell by cell, or the
- * number of the refusal and with 4 and 5 the field and the cell. From the repository, after `rt staticlib basin`:
+ * number of the refusal and with 4 and 5 the field and the cell. From the
+ * repository, after `install/build basin`:
  *
  *   gcc -std=c99 -Wall -Wextra -Werror -Iinclude examples/tendencies.c \
  *       target/staticlib/libbasin.a -o target/tendencies

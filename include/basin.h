@@ -1,7 +1,7 @@
 /*
  * The proved basin core (document 01, and requests U1, U2, U3 and U5 of document
- * 02), for C and C++ on x86-64. Link target/staticlib/libbasin.a, which `rt
- * staticlib basin` writes: the step of a state and runs of it, totals,
+ * 02), for C and C++ on x86-64. Link target/staticlib/libbasin.a, which
+ * `install/build basin` writes: the step of a state and runs of it, totals,
  * potential vorticity and tendencies, these in double precision too, the record
  * of a state (writer, reader, comparison), and rounding. `./forecast install
  * PREFIX` puts it, and a shared library of the same functions, into PREFIX/lib.

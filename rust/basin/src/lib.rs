@@ -1,7 +1,7 @@
 //! The proved basin core (document 01, and requests U1, U2, U3 and U5 of document
 //! 02), called from safe Rust.
 //!
-//! The library behind these calls is `libbasin.a`, which `rt staticlib basin`
+//! The library behind these calls is `libbasin.a`, which `install/build basin`
 //! writes once every function is proved to meet its contract; the calls here
 //! only pass slices on and put names to the numbers that come back. They take
 //! any numbers and any lengths: what is refused is returned as a [`Refusal`].

@@ -3,7 +3,7 @@
 //! cases, every refusal, random records of every size, damaged ones, and inputs
 //! about as long as it takes and longer, however the input arrives.
 //!
-//! The program is the repository's `target/bin/step`, which `rt check step`
+//! The program is the repository's `target/bin/step`, which `install/build step`
 //! makes, or the one that the environment variable `STEP_PROGRAM` names.
 
 use std::ffi::{OsStr, OsString};
@@ -39,7 +39,7 @@ fn start(input: Stdio) -> Child {
         .spawn()
         .unwrap_or_else(|error| {
             panic!(
-                "{}: {error}. Run `rt check step` first, or set STEP_PROGRAM to the program",
+                "{}: {error}. Run `install/build step` first, or set STEP_PROGRAM to the program",
                 program.display()
             )
         })

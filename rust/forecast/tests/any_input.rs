@@ -67,7 +67,7 @@ fn by_the_program(record: &[u8]) -> Result<String, String> {
         .stdin(Stdio::piped())
         .stdout(Stdio::piped())
         .spawn()
-        .expect("`rt check step` makes it");
+        .expect("`install/build step` makes it");
     child.stdin.take().unwrap().write_all(record).unwrap();
     let output = child.wait_with_output().unwrap();
     told(&String::from_utf8(output.stdout).unwrap())

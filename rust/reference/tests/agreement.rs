@@ -80,7 +80,7 @@ impl Nine {
 
     /// The vorticity that is lent, and its name.
     fn lent(&self) -> (&'static str, &'static [i64]) {
-        let name = ["lent", "lentChannel", "lentBasin"][usize::from(self.p.kind)];
+        let name = ["lent", "lent_channel", "lent_basin"][usize::from(self.p.kind)];
         (name, &LENT[..self.p.corners()])
     }
 
@@ -149,7 +149,7 @@ impl Nine {
         let told = probe_grid(p, h, b, u, v, &OPEN, q, &mut dh, &mut du, &mut dv).told();
         let told: Vec<i64> = told.iter().map(|&x| x as i64).collect();
         format!(
-            "probesGrid {name} {lent} (zeros 9) (zeros 9) (zeros 9) {} {} {} {}",
+            "probes_grid {name} {lent} (zeros 9) (zeros 9) (zeros 9) {} {} {} {}",
             list(&told),
             bits(&dh),
             bits(&du),
@@ -184,7 +184,7 @@ impl Nine {
             format!("({sign} {})", x.unsigned_abs())
         };
         format!(
-            "rates {0} {name} inflow ({0} .b) lent {1} {2}",
+            "rates {0} {name} inflow {0}.b lent {1} {2}",
             self.name,
             number(energy),
             number(enstrophy)
@@ -284,7 +284,7 @@ fn shallow(w: usize, n: usize) -> String {
         barriers: vec![0; w * n],
     };
     let printed = step_program(&record_of(&state, 0));
-    format!("prints (encode (shallow {w} {n}) (timeOf 0 0)) {printed:?}")
+    format!("prints (encode (shallow {w} {n}) (time_of 0 0)) {printed:?}")
 }
 
 /// The same for worked example 10's record, which has neither tag 8 nor tag 9,
@@ -391,7 +391,7 @@ fn the_model_is_held_to_these_numbers() {
         rows.extend([nine.energy(), nine.steps(), nine.probes(nine.lent())]);
     }
     rows.push(Nine::new(2).runs(12));
-    rows.push(Nine::wide().probes(("wideVorticity", &WIDE)));
+    rows.push(Nine::wide().probes(("wide_vorticity", &WIDE)));
     rows.extend(steep());
     rows.extend([shallow(32, 32), shallow(41, 25)]);
     rows.extend([lengthened(65_483), lengthened(65_484)]);
@@ -406,7 +406,7 @@ fn the_model_is_held_to_these_numbers() {
     let calls = [
         "vorticities",
         "tends",
-        "probesGrid",
+        "probes_grid",
         "rates",
         "energy",
         "steps",
