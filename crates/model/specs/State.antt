@@ -30,7 +30,8 @@ abbrev pub state_of : Parameters → (h b u v : List ℤ) (barriers : List ℕ) 
 state_of p h b u v barriers =
     record { w = p.w; n = p.n; kind = p.kind; G = p.g; c = p.c; R = p.r; h = h; b = b; u = u; v = v; barriers = barriers }
 
--- the same of references: as a `requires` names them; at entry, as an `ensures` does; and at exit, of a call that steps h, u and v
+-- the same of slices that are only read: as a `requires` names their references, and as an `ensures` does, at entry and at exit. A slice that
+-- a call changes is a reference of another type: its clauses write the state out, by what the slice was and is
 abbrev pub lent : Parameters → (h b u v : Bor (List ℤ)) (barriers : Bor (List ℕ)) → State
 lent p h b u v barriers = state_of p h.now b.now u.now v.now barriers.now
 
@@ -62,7 +63,7 @@ pub record Fields : Type 0 where
   pub v : List ℤ
   pub barriers : List ℕ
 
--- the same of references, as `lent` and `before` are; and at exit, where the call fills all five
+-- the same of slices that are only read, as `lent`, `before` and `after` are
 abbrev pub slices : (h b u v : Bor (List ℤ)) (barriers : Bor (List ℕ)) → Fields
 slices h b u v barriers = record { h = h.now; b = b.now; u = u.now; v = v.now; barriers = barriers.now }
 
