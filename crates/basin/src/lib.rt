@@ -5,7 +5,7 @@
 #![tactic(auto)]
 
 ghost use Rattle.std.specs.Prelude.{◌≡◌};
-ghost use Rattle.model.specs.State.{state_of, before};
+ghost use Rattle.model.specs.State.{state_of, before, after, slices_before, slices_after};
 ghost use Rattle.model.specs.Promises.{TotalDepthPromise, TotalEnergyPromise};
 ghost use Rattle.basin.specs.FromC;
 ghost use Rattle.basin.specs.FromC.{VorticityFromC, TendenciesFromC, StepFromC, RunFromC, TotalFromC, WriteFromC};
@@ -167,7 +167,7 @@ pub extern "C" fn basin_step(
     answer: &mut [u64; 8],
 ) -> u64
     ensures { StepFromC (state_of (FromC.parameters w n kind g c r) h.old b.now u.old v.old barriers.now) inflow.now work.old
-        (state_of (FromC.parameters w n kind g c r) h.new b.now u.new v.new barriers.now) work.new result answer.new }
+        (after (FromC.parameters w n kind g c r) h b u v barriers) work.new result answer.new }
 {
     let p = parameters(w, n, kind, g, c, r);
     let x = step_run::step(p, h, b, u, v, barriers, inflow, work);
@@ -193,7 +193,7 @@ pub extern "C" fn basin_run(
     answer: &mut [u64; 8],
 ) -> u64
     ensures { RunFromC (state_of (FromC.parameters w n kind g c r) h.old b.now u.old v.old barriers.now) inflow.now steps work.old
-        (state_of (FromC.parameters w n kind g c r) h.new b.now u.new v.new barriers.now) work.new result answer.new }
+        (after (FromC.parameters w n kind g c r) h b u v barriers) work.new result answer.new }
 {
     let p = parameters(w, n, kind, g, c, r);
     let x = step_run::run(p, h, b, u, v, barriers, inflow, steps, work);
@@ -303,8 +303,8 @@ pub extern "C" fn basin_read(
     constants: &mut [i64; 3],
     answer: &mut [u64; 8],
 ) -> u64
-    ensures { ReadFromC «record».now (record { h = h.old; b = b.old; u = u.old; v = v.old; barriers = barriers.old })
-        (record { h = h.new; b = b.new; u = u.new; v = v.new; barriers = barriers.new })
+    ensures { ReadFromC «record».now (slices_before h b u v barriers)
+        (slices_after h b u v barriers)
         constants.old constants.new result answer.new }
 {
     let x = record_read::read(record, h, b, u, v, barriers);

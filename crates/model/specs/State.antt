@@ -1,6 +1,6 @@
 -- A state, its closed edges, and what it is to be within the limits.
 use Rattle.std.specs.Prelude.{Bool, true, false, cond, ◌||◌, ◌≡◌, List, map, ℕ, ◌+◌, ◌*◌, ◌/◌, ◌%◌, ◌≤◌, ◌<◌, T, eqb, ℤ, pos, length, get_or, take}
-use Rattle.std.specs.Borrow.{Bor}
+use Rattle.std.specs.Borrow.{Bor, MutBor}
 use denote.Triple.Both.{Both}
 use Rattle.model.specs.Numbers.{Limits, Within, depth_limits, bottom_limits, velocity_limits, gravity_limits, coriolis_limits, ratio_limits, barrier_limits, longest_side}
 use Rattle.model.specs.Grid.{at, corners_of}
@@ -30,8 +30,9 @@ abbrev pub state_of : Parameters → (h b u v : List ℤ) (barriers : List ℕ) 
 state_of p h b u v barriers =
     record { w = p.w; n = p.n; kind = p.kind; G = p.g; c = p.c; R = p.r; h = h; b = b; u = u; v = v; barriers = barriers }
 
--- the same of slices that are only read: as a `requires` names their references, and as an `ensures` does, at entry and at exit. A slice that
--- a call changes is a reference of another type: its clauses write the state out, by what the slice was and is
+-- the same of references: as a `requires` names them; at entry, as an `ensures` does; and at exit, of a call that steps h, u and v. The first
+-- two are of slices that a call only reads. A slice that it changes is a reference of another type, a `MutBor`: of it a clause writes out
+-- what it was and is
 abbrev pub lent : Parameters → (h b u v : Bor (List ℤ)) (barriers : Bor (List ℕ)) → State
 lent p h b u v barriers = state_of p h.now b.now u.now v.now barriers.now
 
@@ -39,9 +40,9 @@ abbrev pub before : {H B U W O : Type 0} → Parameters → Both (Bor (List ℤ)
     → Both (Bor (List ℤ)) W → Both (Bor (List ℕ)) O → State
 before p h b u v barriers = lent p h.entry b.entry u.entry v.entry barriers.entry
 
-abbrev pub after : {B O : Type 0} → Parameters → Both (Bor (List ℤ)) (Bor (List ℤ)) → Both (Bor (List ℤ)) B
-    → Both (Bor (List ℤ)) (Bor (List ℤ)) → Both (Bor (List ℤ)) (Bor (List ℤ)) → Both (Bor (List ℕ)) O → State
-after p h b u v barriers = lent p h.exit b.entry u.exit v.exit barriers.entry
+abbrev pub after : {B O : Type 0} → Parameters → Both (MutBor (List ℤ)) (MutBor (List ℤ)) → Both (Bor (List ℤ)) B
+    → Both (MutBor (List ℤ)) (MutBor (List ℤ)) → Both (MutBor (List ℤ)) (MutBor (List ℤ)) → Both (Bor (List ℕ)) O → State
+after p h b u v barriers = state_of p h.exit.now b.entry.now u.exit.now v.exit.now barriers.entry.now
 
 abbrev pub parameters_of : State → Parameters
 parameters_of s = record { w = s.w; n = s.n; kind = s.kind; g = s.G; c = s.c; r = s.R }
@@ -63,15 +64,15 @@ pub record Fields : Type 0 where
   pub v : List ℤ
   pub barriers : List ℕ
 
--- the same of slices that are only read, as `lent`, `before` and `after` are
-abbrev pub slices : (h b u v : Bor (List ℤ)) (barriers : Bor (List ℕ)) → Fields
+-- the same of references, as `lent` and `before` are; and at exit, where the call fills all five
+abbrev pub slices : (h b u v : MutBor (List ℤ)) (barriers : MutBor (List ℕ)) → Fields
 slices h b u v barriers = record { h = h.now; b = b.now; u = u.now; v = v.now; barriers = barriers.now }
 
-abbrev pub slices_before : {H B U W O : Type 0} → Both (Bor (List ℤ)) H → Both (Bor (List ℤ)) B → Both (Bor (List ℤ)) U
-    → Both (Bor (List ℤ)) W → Both (Bor (List ℕ)) O → Fields
+abbrev pub slices_before : {H B U W O : Type 0} → Both (MutBor (List ℤ)) H → Both (MutBor (List ℤ)) B → Both (MutBor (List ℤ)) U
+    → Both (MutBor (List ℤ)) W → Both (MutBor (List ℕ)) O → Fields
 slices_before h b u v barriers = slices h.entry b.entry u.entry v.entry barriers.entry
 
-abbrev pub slices_after : (h b u v : Both (Bor (List ℤ)) (Bor (List ℤ))) (barriers : Both (Bor (List ℕ)) (Bor (List ℕ))) → Fields
+abbrev pub slices_after : (h b u v : Both (MutBor (List ℤ)) (MutBor (List ℤ))) (barriers : Both (MutBor (List ℕ)) (MutBor (List ℕ))) → Fields
 slices_after h b u v barriers = slices h.exit b.exit u.exit v.exit barriers.exit
 
 -- the state in their first w·n places

@@ -5,7 +5,7 @@
 ghost use Rattle.std.specs.Prelude.{◌≡◌, [], ◌≤◌, ◌<◌, length, take, IfOk};
 ghost use Rattle.std.specs.Io.{ReadsAtMost};
 ghost use Rattle.std.specs.Io.KnownBytes.{Consumes, IsAtEnd};
-ghost use Rattle.model.specs.State.{WithinLimits, state_of};
+ghost use Rattle.model.specs.State.{WithinLimits, state_of, after, slices_before, slices_after};
 ghost use Rattle.model.specs.Program.{state_lines, program_output, Printed, ProgramPromise};
 ghost use Rattle.program.specs.Stepped.{Printable, Ready, Stepped, SteppedParts};
 
@@ -37,7 +37,7 @@ fn step_state(
 ) -> usize
     requires { WithinLimits (state_of p h.old b.now u.old v.old barriers.now) }
     ensures { let s = state_of p h.old b.now u.old v.old barriers.now in
-        Stepped s inflow.now work.old (state_of p h.new b.now u.new v.new barriers.now) work.new
+        Stepped s inflow.now work.old (after p h b u v barriers) work.new
         out.old result out.new }
 {
     match step_run::step_within(p, h, b, u, v, barriers, inflow, work) {
@@ -97,8 +97,8 @@ pub fn print_step(
     work: &mut [i64],
     out: &mut [u8],
 ) -> usize
-    ensures { ProgramPromise input.now (record { h = h.old; b = b.old; u = u.old; v = v.old; barriers = barriers.old }) inflow.now
-        work.old out.old result (record { h = h.new; b = b.new; u = u.new; v = v.new; barriers = barriers.new }) work.new
+    ensures { ProgramPromise input.now (slices_before h b u v barriers) inflow.now
+        work.old out.old result (slices_after h b u v barriers) work.new
         out.new }
 {
     if input.len() >= 65536 {

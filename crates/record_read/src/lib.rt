@@ -2,7 +2,7 @@
 #![tactic(auto)]
 
 ghost use Rattle.std.specs.Prelude.{◌≡◌};
-ghost use Rattle.model.specs.State.{cells};
+ghost use Rattle.model.specs.State.{cells, slices, slices_before, slices_after};
 ghost use Rattle.model.specs.Promises.{rooms_in, put, ReadPromise};
 ghost use Rattle.model.specs.Claims.{EachRoom, BytesOf};
 ghost use Rattle.record_tags.specs.Places.{parts_in, Placed};
@@ -26,9 +26,8 @@ fn fill(
     requires { Placed rec.now at.now
         × (cells (state_read rec.now) ≡ m)
         × BytesOf m (parts_in rec.now)
-        × EachRoom m (rooms_in (record { h = h.old; b = b.old; u = u.old; v = v.old; barriers = barriers.old })) }
-    ensures { record { h = h.new; b = b.new; u = u.new; v = v.new; barriers = barriers.new }
-        ≡ put (state_read rec.now) (record { h = h.old; b = b.old; u = u.old; v = v.old; barriers = barriers.old }) }
+        × EachRoom m (rooms_in (slices h b u v barriers)) }
+    ensures { slices_after h b u v barriers ≡ put (state_read rec.now) (slices_before h b u v barriers) }
 {
     record_bytes::read_numbers(record_tags::value_of(rec, at, 4), m, h, Size::Four);
     record_bytes::read_numbers(record_tags::value_of(rec, at, 5), m, b, Size::Four);
@@ -48,8 +47,7 @@ pub fn read(
     v: &mut [i64],
     barriers: &mut [u8],
 ) -> ReadAnswer
-    ensures { ReadPromise rec.now (record { h = h.old; b = b.old; u = u.old; v = v.old; barriers = barriers.old }) result
-        (record { h = h.new; b = b.new; u = u.new; v = v.new; barriers = barriers.new }) }
+    ensures { ReadPromise rec.now (slices_before h b u v barriers) result (slices_after h b u v barriers) }
 {
     let mut at = [rec.len(); record_tags::PLACES];
     // a record that fits the shortest destination fits all five

@@ -4,7 +4,7 @@
 ghost use Rattle.std.specs.Prelude.{◌≡◌, false, List, ℕ, ◌*◌, ◌≤◌, ℤ, pos, length, replicate};
 ghost use Rattle.std.proofs.Math.Option.{some};
 ghost use Rattle.model.specs.Grid.{filled};
-ghost use Rattle.model.specs.State.{Side, WithinLimits, state_of, before};
+ghost use Rattle.model.specs.State.{Side, WithinLimits, state_of, before, after};
 ghost use Rattle.model.specs.Tests.{first_found};
 ghost use Rattle.model.specs.Step.{run_from, run_test, leaves_all, work_left};
 ghost use Rattle.model.specs.Promises.{answer_of, StepPromise, RunPromise};
@@ -95,7 +95,7 @@ fn run_steps(
     requires { StepReady (state_of p h.old b.now u.old v.old barriers.now) inflow.now (length q.old) work.old }
     ensures { let ran = run_from steps 0 (state_of p h.old b.now u.old v.old barriers.now) inflow.now in
         (result ≡ ran.answer)
-        × (state_of p h.new b.now u.new v.new barriers.now ≡ ran.state)
+        × (after p h b u v barriers ≡ ran.state)
         × Rest (p.w * p.n) work.old work.new }
 {
     for done in 0..steps {
@@ -130,7 +130,7 @@ fn run_in_room(
     requires { StepTaken (state_of p h.old b.now u.old v.old barriers.now) inflow.now (length work.old) }
     ensures { let ran = run_from steps 0 (state_of p h.old b.now u.old v.old barriers.now) inflow.now in
         (result ≡ ran.answer)
-        × (state_of p h.new b.now u.new v.new barriers.now ≡ ran.state)
+        × (after p h b u v barriers ≡ ran.state)
         × Rest (p.w * p.n) work.old work.new }
 {
     let corners = grid::corner_count(p.kind, p.w, p.n);
@@ -161,7 +161,7 @@ fn run_tested(
 ) -> RunAnswer
     requires { tested ≡ answer_of (run_test (state_of p h.old b.now u.old v.old barriers.now) inflow.now steps (length work.old)) }
     ensures { let s = state_of p h.old b.now u.old v.old barriers.now in
-        RunPromise s inflow.now steps work.old result (state_of p h.new b.now u.new v.new barriers.now) work.new }
+        RunPromise s inflow.now steps work.old result (after p h b u v barriers) work.new }
 {
     match tested {
         Answer::Accepted => {
@@ -190,7 +190,7 @@ pub fn run(
     work: &mut [i64],
 ) -> RunAnswer
     ensures { let s = state_of p h.old b.now u.old v.old barriers.now in
-        RunPromise s inflow.now steps work.old result (state_of p h.new b.now u.new v.new barriers.now) work.new }
+        RunPromise s inflow.now steps work.old result (after p h b u v barriers) work.new }
 {
     let tested = test_run(p, h, b, u, v, barriers, inflow, steps, work.len());
     run_tested(tested, p, h, b, u, v, barriers, inflow, steps, work)
@@ -227,7 +227,7 @@ pub fn step(
     work: &mut [i64],
 ) -> StepAnswer
     ensures { let s = state_of p h.old b.now u.old v.old barriers.now in
-        StepPromise s inflow.now work.old result (state_of p h.new b.now u.new v.new barriers.now) work.new }
+        StepPromise s inflow.now work.old result (after p h b u v barriers) work.new }
 {
     as_step(run(p, h, b, u, v, barriers, inflow, 1, work))
 }
@@ -259,7 +259,7 @@ pub fn step_within(
 ) -> StepAnswer
     requires { WithinLimits (state_of p h.old b.now u.old v.old barriers.now) }
     ensures { let s = state_of p h.old b.now u.old v.old barriers.now in
-        StepPromise s inflow.now work.old result (state_of p h.new b.now u.new v.new barriers.now) work.new }
+        StepPromise s inflow.now work.old result (after p h b u v barriers) work.new }
 {
     let tested = test_beside(p, inflow, work.len());
     as_step(run_tested(tested, p, h, b, u, v, barriers, inflow, 1, work))

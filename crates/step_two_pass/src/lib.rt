@@ -4,7 +4,7 @@
 #![tactic(auto)]
 
 ghost use Rattle.std.specs.Prelude.{◌≡◌, List, [], ◌∷◌, ℕ, ◌+◌, ◌*◌, ◌≤◌, ℤ, length};
-ghost use Rattle.model.specs.State.{Side, state_of};
+ghost use Rattle.model.specs.State.{Side, state_of, after};
 ghost use Rattle.model.specs.Step.{leaves, two_pass, second};
 ghost use Rattle.grid.specs.Parts.{part};
 ghost use Rattle.grid.specs.Banks.{Elsewhere};
@@ -112,7 +112,7 @@ fn second_pass(
 ) -> Outcome
     requires { PassReady (state_of p h.old b.now u.old v.old barriers.now) inflow.now (length q.old) work.old }
     ensures { let base = base_in p b.now barriers.now work.old in
-        Stepped base (second base (state_of p h.old b.now u.old v.old barriers.now) inflow.now) result (state_of p h.new b.now u.new v.new barriers.now)
+        Stepped base (second base (state_of p h.old b.now u.old v.old barriers.now) inflow.now) result (after p h b u v barriers)
         × Rest (p.w * p.n) work.old work.new }
 {
     let m = p.w * p.n;
@@ -148,7 +148,7 @@ pub fn two_pass(
 ) -> Outcome
     requires { StepReady (state_of p h.old b.now u.old v.old barriers.now) inflow.now (length q.old) work.old }
     ensures { let s = state_of p h.old b.now u.old v.old barriers.now in
-        Stepped s (two_pass s inflow.now) result (state_of p h.new b.now u.new v.new barriers.now)
+        Stepped s (two_pass s inflow.now) result (after p h b u v barriers)
         × Rest (p.w * p.n) work.old work.new }
 {
     let cells = p.w * p.n;
