@@ -16,8 +16,8 @@ use Rattle.model.specs.Rates.{energy_rate, enstrophy_rate}
 use Rattle.model.specs.Promises.{TendenciesPromise}
 use Rattle.model.specs.declared.Refusal.{Refusal}
 use Rattle.model.specs.declared.Refusal.TheVariants.{Grid, Lengths, Constants, Value, ClosedEdge, Record, Destination, Milliseconds, NoSuchCell}
-use Rattle.model.specs.declared.Answer.{Answer}
-use Rattle.model.specs.declared.Answer.TheVariants.{Accepted, Refused}
+use Rattle.std.specs.Prelude.{Ok, Err}
+use Rattle.model.specs.Answers.{Answer}
 use Rattle.theorems.specs.Theorems.{theorems}
 use Rattle.basin.specs.FromC.{parameters}
 use Rattle.basin.proofs.basin_tendencies.Kinds as tendencies-kinds
@@ -36,9 +36,9 @@ from_one Destination = lit≤ tt
 from_one Milliseconds = lit≤ tt
 from_one NoSuchCell = lit≤ tt
 
-done : (a : Answer) → get_or (answer_numbers a) 0 0 ≡ 0 → a ≡ Accepted
-done Accepted e = refl
-done (Refused x) e = absurd (omega (arith, from_one x, e))
+done : (a : Answer) → get_or (answer_numbers a) 0 0 ≡ 0 → a ≡ Ok tt
+done (Ok tt) e = refl
+done (Err x) e = absurd (omega (arith, from_one x, e))
 
 -- a state within the limits, with any q within its bound and destinations that have room
 pub record Taken (call : TendenciesCall) : Type 0 where
@@ -52,7 +52,7 @@ module _ (call : TendenciesCall) where
   abbrev Promised : Answer → Type 0
   Promised x = TendenciesPromise call.state call.q call.dh call.du call.dv x call.dh' call.du' call.dv'
 
-  pub promised : call.returned ≡ 0 → Promised Accepted
+  pub promised : call.returned ≡ 0 → Promised (Ok tt)
   promised z = subst Promised (done call.told.answer (sym call.told.told.returns ∙ z)) call.told.promise
 
   -- such a call is not refused

@@ -13,8 +13,8 @@ use Rattle.model.specs.State.{State, state_of}
 use Rattle.model.specs.Answers.{total_numbers, total_in}
 use Rattle.model.specs.Claims.{raised}
 use Rattle.model.specs.Histories.{Call, step, run, History, stepped, ran, inflow_due}
-use Rattle.model.specs.declared.TotalAnswer.{TotalAnswer}
-use Rattle.model.specs.declared.TotalAnswer.TheVariants.{Total, Refused}
+use Rattle.std.specs.Prelude.{Ok, Err}
+use Rattle.model.specs.Answers.{TotalAnswer}
 use Rattle.theorems.specs.Theorems.{theorems}
 use Rattle.basin.proofs.Applied.{from_one}
 use Rattle.basin.specs.FromC.{parameters}
@@ -33,14 +33,14 @@ pub run-link : (c : RunCall) {calls : List Call} {t : State} → History c.after
 run-link c more = ran c.told.promise more
 
 -- where a call returns 0, its total is there
-given : (c : DepthCall) → c.returned ≡ 0 → c.told.answer ≡ Total c.total'
+given : (c : DepthCall) → c.returned ≡ 0 → c.told.answer ≡ Ok c.total'
 given c z = by c.told.answer c.told.holds (sym c.told.told.returns ∙ z)
   where
-    by : (x : TotalAnswer) → c.total' ≡ get_or (total_in x) 0 c.total → get_or (total_numbers x) 0 0 ≡ 0 → x ≡ Total c.total'
-    by (Total x) h n = ap Total (sym h)
-    by (Refused r) h n = absurd (omega (arith, from_one r, n))
+    by : (x : TotalAnswer) → c.total' ≡ get_or (total_in x) 0 c.total → get_or (total_numbers x) 0 0 ≡ 0 → x ≡ Ok c.total'
+    by (Ok x) h n = ap Ok (sym h)
+    by (Err r) h n = absurd (omega (arith, from_one r, n))
 
-same_total : {x y : ℤ} → Total x ≡ Total y → x ≡ y
+same_total : {x y : ℤ} → ◌≡◌ {A = TotalAnswer} (Ok x) (Ok y) → x ≡ y
 same_total e = cc e
 
 pub depth-balance : (first last : DepthCall) {calls : List Call} → first.returned ≡ 0 → History first.state calls last.state

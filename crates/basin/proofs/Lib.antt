@@ -1,5 +1,3 @@
--- promises of lent states
-pub mod Lent
 -- calls by name, and the theorems of them
 pub mod Calls
 pub mod Applied

@@ -7,17 +7,27 @@ use native.Mathlib.Omega.{arith}
 use lib.ListN.{get_or}
 use lib.Ieee.{Float, nan}
 use Rattle.model.specs.State.{cells}
-use Rattle.model.specs.Answers.{probe_numbers, doubles_in, probe_grid_numbers}
+use Rattle.model.specs.Answers.{precision_numbers, probe_numbers, doubles_in, probe_grid_numbers}
 use Rattle.model.specs.Promises.{ProbePromise, ProbeGridPromise}
 use Rattle.model.specs.Claims.{Equal, Close}
+use Rattle.std.specs.Prelude.{Ok, Err}
 use Rattle.model.specs.declared.ProbeAnswer.{ProbeAnswer}
-use Rattle.model.specs.declared.ProbeGridAnswer.{ProbeGridAnswer}
+use Rattle.model.specs.Answers.{ProbeGridAnswer}
+use Rattle.model.specs.declared.Precision.{Precision}
 use Rattle.answers.specs.Told.{Told, or_kept}
 use Rattle.theorems.specs.Theorems.{theorems}
 use Rattle.basin.proofs.Applied.{from_one, promised}
 use Rattle.basin.proofs.Calls.{TendenciesCall, ProbeCall, ProbeGridCall}
 
 -- ---- what the second number tells, where 0 is returned
+
+exact-precision : (p : Precision) {r : ℕ} {answer : List ℕ} → Told (precision_numbers p) r answer → get_or answer 1 0 ≡ 0 → p ≡ Precision.Exact
+exact-precision Precision.Exact t e = refl
+exact-precision Precision.Near t e = absurd (omega (arith, sym (ap (λ l. get_or l 1 0) t.holds) ∙ e))
+
+near-precision : (p : Precision) {r : ℕ} {answer : List ℕ} → Told (precision_numbers p) r answer → get_or answer 1 0 ≡ 1 → p ≡ Precision.Near
+near-precision Precision.Exact t e = absurd (omega (arith, sym (ap (λ l. get_or l 1 0) t.holds) ∙ e))
+near-precision Precision.Near t e = refl
 
 exact-told : (x : ProbeAnswer) {r : ℕ} {answer : List ℕ} → Told (probe_numbers x) r answer → r ≡ 0 → get_or answer 1 0 ≡ 0
     → (a : Float) × (b : Float) × (c : Float) × (x ≡ ProbeAnswer.Exact a b c)
@@ -31,15 +41,13 @@ near-told (ProbeAnswer.Exact a b c) t z e = absurd (omega (arith, sym (ap (λ l.
 near-told (ProbeAnswer.Near a b c) t z e = (a, b, c, refl)
 near-told (ProbeAnswer.Refused y) t z e = absurd (omega (arith, from_one y, sym t.returns ∙ z))
 
-grid-exact-told : (x : ProbeGridAnswer) {r : ℕ} {answer : List ℕ} → Told (probe_grid_numbers x) r answer → r ≡ 0 → get_or answer 1 0 ≡ 0 → x ≡ ProbeGridAnswer.Exact
-grid-exact-told ProbeGridAnswer.Exact t z e = refl
-grid-exact-told ProbeGridAnswer.Near t z e = absurd (omega (arith, sym (ap (λ l. get_or l 1 0) t.holds) ∙ e))
-grid-exact-told (ProbeGridAnswer.Refused y) t z e = absurd (omega (arith, from_one y, sym t.returns ∙ z))
+grid-exact-told : (x : ProbeGridAnswer) {r : ℕ} {answer : List ℕ} → Told (probe_grid_numbers x) r answer → r ≡ 0 → get_or answer 1 0 ≡ 0 → x ≡ Ok Precision.Exact
+grid-exact-told (Ok x) t z e = ap Ok (exact-precision x t e)
+grid-exact-told (Err y) t z e = absurd (omega (arith, from_one y, sym t.returns ∙ z))
 
-grid-near-told : (x : ProbeGridAnswer) {r : ℕ} {answer : List ℕ} → Told (probe_grid_numbers x) r answer → r ≡ 0 → get_or answer 1 0 ≡ 1 → x ≡ ProbeGridAnswer.Near
-grid-near-told ProbeGridAnswer.Exact t z e = absurd (omega (arith, sym (ap (λ l. get_or l 1 0) t.holds) ∙ e))
-grid-near-told ProbeGridAnswer.Near t z e = refl
-grid-near-told (ProbeGridAnswer.Refused y) t z e = absurd (omega (arith, from_one y, sym t.returns ∙ z))
+grid-near-told : (x : ProbeGridAnswer) {r : ℕ} {answer : List ℕ} → Told (probe_grid_numbers x) r answer → r ≡ 0 → get_or answer 1 0 ≡ 1 → x ≡ Ok Precision.Near
+grid-near-told (Ok x) t z e = ap Ok (near-precision x t e)
+grid-near-told (Err y) t z e = absurd (omega (arith, from_one y, sym t.returns ∙ z))
 
 -- ---- a cell
 

@@ -20,10 +20,10 @@ use Rattle.model.specs.Claims.{EachRoom, Among, WholeIn, Bytes, BothAre, Later, 
 use Rattle.model.specs.declared.Parameters.{Parameters}
 use Rattle.model.specs.declared.Timestamp.{Timestamp}
 use Rattle.model.specs.declared.Refusal.{Refusal}
-use Rattle.model.specs.declared.ReadAnswer.{ReadAnswer}
-use Rattle.model.specs.declared.ReadAnswer.TheVariants.{Read, Refused}
-use Rattle.model.specs.declared.CompareAnswer.{CompareAnswer}
-use Rattle.model.specs.declared.CompareAnswer.TheVariants.{Same, FirstNewer, SecondNewer, Conflict, FirstRefused, SecondRefused}
+use Rattle.std.specs.Prelude.{Ok, Err}
+use Rattle.model.specs.Answers.{CompareAnswer, ReadAnswer, header}
+use Rattle.model.specs.declared.Comparison.TheVariants.{Same, FirstNewer, SecondNewer, Conflict}
+use Rattle.model.specs.declared.CompareError.TheVariants.{First, Second}
 use Rattle.theorems.specs.Theorems.{theorems}
 use Rattle.theorems.specs.Truth.{◌⟫◌}
 use Rattle.answers.specs.Told.{eight, or_kept}
@@ -77,7 +77,7 @@ read_timestamp g = timestamp (get_or g.answer 4 0) (get_or g.answer 5 0)
 record WasRead (g : ReadCall) : Type 0 where
   p : Parameters
   t : Timestamp
-  answers : g.told.answer ≡ Read p t
+  answers : g.told.answer ≡ Ok (header p t)
   stamp : read_timestamp g ≡ t
   state : read_state g ≡ state_from p g.d'
 
@@ -85,11 +85,11 @@ was_read : (g : ReadCall) → g.returned ≡ 0 → WasRead g
 was_read g z = by g.told.answer refl (sym g.told.told.returns ∙ z)
   where
     by : (x : ReadAnswer) → g.told.answer ≡ x → get_or (read_numbers x) 0 0 ≡ 0 → WasRead g
-    by (Read p t) e n =
+    by (Ok x) e n =
         let a = g.told.told.holds ∙ ap (λ x. eight (read_numbers x)) e in
         let k = g.told.holds ∙ ap (λ x. or_kept (constants_in x) g.constants) e in
-        record { p = p; t = t; answers = e; stamp = rw a; state = rw (a, k) }
-    by (Refused r) e n = absurd (omega (arith, from_one r, n))
+        record { p = x.parameters; t = x.timestamp; answers = e; stamp = rw a; state = rw (a, k) }
+    by (Err r) e n = absurd (omega (arith, from_one r, n))
 
 -- an accepted record: the writer makes of what is read its fields by rising tag, and zeros for each that it lacks; where its tags rise,
 -- its own bytes come first, up to the first field that it lacks
@@ -135,13 +135,13 @@ same-means c =
     let means = theorems.compare.same c.first c.second c.told.answer c.told.promise in
     (λ t. means.0 (by c.told.answer (is c refl) t.0 t.1), λ both. let s = is c (means.1 both) in (s.returns, s.tells))
   where
-    by : (a : CompareAnswer) → Is c a → c.returned ≡ 0 → result c ≡ 0 → a ≡ Same
-    by Same s n k = refl
-    by FirstNewer s n k = absurd (omega (arith, s.tells, k))
-    by SecondNewer s n k = absurd (omega (arith, s.tells, k))
-    by Conflict s n k = absurd (omega (arith, s.tells, k))
-    by (FirstRefused r) s n k = absurd (omega (arith, from_one r, s.returns, n))
-    by (SecondRefused r) s n k = absurd (omega (arith, from_one r, s.returns, n))
+    by : (a : CompareAnswer) → Is c a → c.returned ≡ 0 → result c ≡ 0 → a ≡ Ok Same
+    by (Ok Same) s n k = refl
+    by (Ok FirstNewer) s n k = absurd (omega (arith, s.tells, k))
+    by (Ok SecondNewer) s n k = absurd (omega (arith, s.tells, k))
+    by (Ok Conflict) s n k = absurd (omega (arith, s.tells, k))
+    by (Err (First r)) s n k = absurd (omega (arith, from_one r, s.returns, n))
+    by (Err (Second r)) s n k = absurd (omega (arith, from_one r, s.returns, n))
 
 -- an accepted record is not a refused one
 abbrev refusals : Decoded → ℕ
@@ -160,12 +160,12 @@ pub record Ordered (c : CompareCall) (s t : State) (x y : Timestamp) : Type 0 wh
 
 -- the answers apart
 abbrev place : CompareAnswer → ℕ
-place Same = 0
-place FirstNewer = 1
-place SecondNewer = 2
-place Conflict = 3
-place (FirstRefused r) = 4
-place (SecondRefused r) = 5
+place (Ok Same) = 0
+place (Ok FirstNewer) = 1
+place (Ok SecondNewer) = 2
+place (Ok Conflict) = 3
+place (Err (First r)) = 4
+place (Err (Second r)) = 5
 
 pub ordered : (c : CompareCall) {s t : State} {x y : Timestamp} → decode c.first [] ≡ accepted s x → decode c.second [] ≡ accepted t y → Ordered c s t x y
 ordered c {s} {t} {x} {y} one two =
@@ -181,13 +181,13 @@ ordered c {s} {t} {x} {y} one two =
     other : (a b : CompareAnswer) → result c ≡ place a → (place a ≡ place b → ⊥) → (result c ≡ place b) ↔ (a ≡ b)
     other a b tells apart = (λ r. absurd (apart (sym tells ∙ r)), λ q. absurd (apart (ap place q)))
 
-    by : (a : CompareAnswer) → c.told.answer ≡ a → (c.returned ≡ 0) × ((result c ≡ 1) ↔ (a ≡ FirstNewer)) × ((result c ≡ 2) ↔ (a ≡ SecondNewer)) × ((result c ≡ 3) ↔ (a ≡ Conflict))
-    by Same e = let n = is c e in (n.returns, other Same FirstNewer n.tells (λ q. omega (arith, q)), other Same SecondNewer n.tells (λ q. omega (arith, q)), other Same Conflict n.tells (λ q. omega (arith, q)))
-    by FirstNewer e = let n = is c e in (n.returns, (λ r. refl, λ q. n.tells), other FirstNewer SecondNewer n.tells (λ q. omega (arith, q)), other FirstNewer Conflict n.tells (λ q. omega (arith, q)))
-    by SecondNewer e = let n = is c e in (n.returns, other SecondNewer FirstNewer n.tells (λ q. omega (arith, q)), (λ r. refl, λ q. n.tells), other SecondNewer Conflict n.tells (λ q. omega (arith, q)))
-    by Conflict e = let n = is c e in (n.returns, other Conflict FirstNewer n.tells (λ q. omega (arith, q)), other Conflict SecondNewer n.tells (λ q. omega (arith, q)), (λ r. refl, λ q. n.tells))
-    by (FirstRefused r) e = absurd (accepted-not-refused one ((theorems.compare.first-refused c.first c.second c.told.answer r c.told.promise).0 e))
-    by (SecondRefused r) e = absurd (accepted-not-refused two ((theorems.compare.second-refused c.first c.second c.told.answer r s x one c.told.promise).0 e))
+    by : (a : CompareAnswer) → c.told.answer ≡ a → (c.returned ≡ 0) × ((result c ≡ 1) ↔ (a ≡ Ok FirstNewer)) × ((result c ≡ 2) ↔ (a ≡ Ok SecondNewer)) × ((result c ≡ 3) ↔ (a ≡ Ok Conflict))
+    by (Ok Same) e = let n = is c e in (n.returns, other (Ok Same) (Ok FirstNewer) n.tells (λ q. omega (arith, q)), other (Ok Same) (Ok SecondNewer) n.tells (λ q. omega (arith, q)), other (Ok Same) (Ok Conflict) n.tells (λ q. omega (arith, q)))
+    by (Ok FirstNewer) e = let n = is c e in (n.returns, (λ r. refl, λ q. n.tells), other (Ok FirstNewer) (Ok SecondNewer) n.tells (λ q. omega (arith, q)), other (Ok FirstNewer) (Ok Conflict) n.tells (λ q. omega (arith, q)))
+    by (Ok SecondNewer) e = let n = is c e in (n.returns, other (Ok SecondNewer) (Ok FirstNewer) n.tells (λ q. omega (arith, q)), (λ r. refl, λ q. n.tells), other (Ok SecondNewer) (Ok Conflict) n.tells (λ q. omega (arith, q)))
+    by (Ok Conflict) e = let n = is c e in (n.returns, other (Ok Conflict) (Ok FirstNewer) n.tells (λ q. omega (arith, q)), other (Ok Conflict) (Ok SecondNewer) n.tells (λ q. omega (arith, q)), (λ r. refl, λ q. n.tells))
+    by (Err (First r)) e = absurd (accepted-not-refused one ((theorems.compare.first-refused c.first c.second c.told.answer r c.told.promise).0 e))
+    by (Err (Second r)) e = absurd (accepted-not-refused two ((theorems.compare.second-refused c.first c.second c.told.answer r s x one c.told.promise).0 e))
 
 -- and swapped with the records, of two that are accepted: 1 for 2, and 0 and 3 as they are
 pub record Swapped (c d : CompareCall) : Type 0 where
@@ -201,12 +201,12 @@ swapped-result c d p q {s} {t} {i} {j} one two =
     by c.told.answer refl (theorems.compare.swap c.first c.second c.told.answer d.told.answer s t i j one two c.told.promise back)
   where
     by : (a : CompareAnswer) → c.told.answer ≡ a → d.told.answer ≡ swapped c.told.answer → Swapped c d
-    by Same e b = let x = is c e in let y = is d (b ∙ ap swapped e) in record { both = (x.returns, y.returns); results = inl (x.tells, y.tells) }
-    by FirstNewer e b = let x = is c e in let y = is d (b ∙ ap swapped e) in record { both = (x.returns, y.returns); results = inr (inl (x.tells, y.tells)) }
-    by SecondNewer e b = let x = is c e in let y = is d (b ∙ ap swapped e) in record { both = (x.returns, y.returns); results = inr (inr (inl (x.tells, y.tells))) }
-    by Conflict e b = let x = is c e in let y = is d (b ∙ ap swapped e) in record { both = (x.returns, y.returns); results = inr (inr (inr (x.tells, y.tells))) }
-    by (FirstRefused r) e b = absurd (accepted-not-refused one ((theorems.compare.first-refused c.first c.second c.told.answer r c.told.promise).0 e))
-    by (SecondRefused r) e b = absurd (accepted-not-refused two ((theorems.compare.second-refused c.first c.second c.told.answer r s i one c.told.promise).0 e))
+    by (Ok Same) e b = let x = is c e in let y = is d (b ∙ ap swapped e) in record { both = (x.returns, y.returns); results = inl (x.tells, y.tells) }
+    by (Ok FirstNewer) e b = let x = is c e in let y = is d (b ∙ ap swapped e) in record { both = (x.returns, y.returns); results = inr (inl (x.tells, y.tells)) }
+    by (Ok SecondNewer) e b = let x = is c e in let y = is d (b ∙ ap swapped e) in record { both = (x.returns, y.returns); results = inr (inr (inl (x.tells, y.tells))) }
+    by (Ok Conflict) e b = let x = is c e in let y = is d (b ∙ ap swapped e) in record { both = (x.returns, y.returns); results = inr (inr (inr (x.tells, y.tells))) }
+    by (Err (First r)) e b = absurd (accepted-not-refused one ((theorems.compare.first-refused c.first c.second c.told.answer r c.told.promise).0 e))
+    by (Err (Second r)) e b = absurd (accepted-not-refused two ((theorems.compare.second-refused c.first c.second c.told.answer r s i one c.told.promise).0 e))
 
 -- ---- the same of the code itself: from what a caller learns of a call, of its own parameters
 

@@ -11,8 +11,9 @@ ghost use Rattle.basin.specs.FromC;
 ghost use Rattle.basin.specs.FromC.{VorticityFromC, TendenciesFromC, StepFromC, RunFromC, TotalFromC, WriteFromC};
 ghost use Rattle.basin.specs.FromC.{ReadFromC, CompareFromC, ProbeFromC, ProbeGridFromC, roundable, Rounded, version};
 
+use answers::Numbered;
 use integers::Range;
-use model::{Parameters, Timestamp};
+use model::{Lent, LentMut, Parameters, ProbeAnswer, Timestamp};
 
 // The parameters of a state, from the six numbers that a C function takes for them.
 fn parameters(w: usize, n: usize, kind: u8, g: i64, c: i64, r: i64) -> Parameters
@@ -51,9 +52,16 @@ pub extern "C" fn basin_potential_vorticity(
     ensures { VorticityFromC (before (FromC.parameters w n kind g c r) h b u v barriers) q.old q.new result
         answer.new }
 {
-    let p = parameters(w, n, kind, g, c, r);
-    let x = scheme_tendencies::potential_vorticity(p, h, b, u, v, barriers, q);
-    answers::tell(answer, answers::answer_numbers(x))
+    let s = Lent {
+        p: parameters(w, n, kind, g, c, r),
+        h,
+        b,
+        u,
+        v,
+        barriers,
+    };
+    let x = scheme_tendencies::potential_vorticity(&s, q);
+    answers::tell(answer, x.numbers())
 }
 
 #[unsafe(no_mangle)]
@@ -79,9 +87,16 @@ pub extern "C" fn basin_tendencies(
         du.old dv.old dh.new du.new dv.new result
         answer.new }
 {
-    let p = parameters(w, n, kind, g, c, r);
-    let x = scheme_tendencies::tendencies(p, h, b, u, v, barriers, q, dh, du, dv);
-    answers::tell(answer, answers::answer_numbers(x))
+    let s = Lent {
+        p: parameters(w, n, kind, g, c, r),
+        h,
+        b,
+        u,
+        v,
+        barriers,
+    };
+    let x = scheme_tendencies::tendencies(&s, q, dh, du, dv);
+    answers::tell(answer, x.numbers())
 }
 
 // ---- the same in doubles
@@ -110,10 +125,21 @@ pub extern "C" fn basin_probe(
     ensures { ProbeFromC (before (FromC.parameters w n kind g c r) h b u v barriers) q.now cell
         doubles.old doubles.new result answer.new }
 {
-    let p = parameters(w, n, kind, g, c, r);
-    let x = scheme_probe::probe(p, h, b, u, v, barriers, q, cell);
-    *doubles = answers::doubles_or(x, *doubles);
-    answers::tell(answer, answers::probe_numbers(x))
+    let s = Lent {
+        p: parameters(w, n, kind, g, c, r),
+        h,
+        b,
+        u,
+        v,
+        barriers,
+    };
+    let x = scheme_probe::probe(&s, q, cell);
+    match x {
+        ProbeAnswer::Exact(h, u, v) => *doubles = [h, u, v],
+        ProbeAnswer::Near(h, u, v) => *doubles = [h, u, v],
+        ProbeAnswer::Refused(_) => {}
+    }
+    answers::tell(answer, x.numbers())
 }
 
 #[unsafe(no_mangle)]
@@ -139,9 +165,16 @@ pub extern "C" fn basin_probe_grid(
         du.old dv.old dh.new du.new dv.new result
         answer.new }
 {
-    let p = parameters(w, n, kind, g, c, r);
-    let x = scheme_probe::probe_grid(p, h, b, u, v, barriers, q, dh, du, dv);
-    answers::tell(answer, answers::probe_grid_numbers(x))
+    let s = Lent {
+        p: parameters(w, n, kind, g, c, r),
+        h,
+        b,
+        u,
+        v,
+        barriers,
+    };
+    let x = scheme_probe::probe_grid(&s, q, dh, du, dv);
+    answers::tell(answer, x.numbers())
 }
 
 // ---- step and run
@@ -169,9 +202,16 @@ pub extern "C" fn basin_step(
     ensures { StepFromC (state_of (FromC.parameters w n kind g c r) h.old b.now u.old v.old barriers.now) inflow.now work.old
         (after (FromC.parameters w n kind g c r) h b u v barriers) work.new result answer.new }
 {
-    let p = parameters(w, n, kind, g, c, r);
-    let x = step_run::step(p, h, b, u, v, barriers, inflow, work);
-    answers::tell(answer, answers::step_numbers(x))
+    let mut s = LentMut {
+        p: parameters(w, n, kind, g, c, r),
+        h,
+        b,
+        u,
+        v,
+        barriers,
+    };
+    let x = step_run::step(&mut s, inflow, work);
+    answers::tell(answer, x.numbers())
 }
 
 #[unsafe(no_mangle)]
@@ -195,15 +235,22 @@ pub extern "C" fn basin_run(
     ensures { RunFromC (state_of (FromC.parameters w n kind g c r) h.old b.now u.old v.old barriers.now) inflow.now steps work.old
         (after (FromC.parameters w n kind g c r) h b u v barriers) work.new result answer.new }
 {
-    let p = parameters(w, n, kind, g, c, r);
-    let x = step_run::run(p, h, b, u, v, barriers, inflow, steps, work);
-    answers::tell(answer, answers::run_numbers(x))
+    let mut s = LentMut {
+        p: parameters(w, n, kind, g, c, r),
+        h,
+        b,
+        u,
+        v,
+        barriers,
+    };
+    let x = step_run::run(&mut s, inflow, steps, work);
+    answers::tell(answer, x.numbers())
 }
 
 // ---- totals
 
 // Each is the proved call: an accepted total goes into the lent number and 0 is told; a refusal is told in eight numbers, and leaves the
-// lent number. They rule out, for instance: 0 told and no total; the total of b.
+// lent number. They rule out, for instance: 0 told and no total; the total of b; a refusal that clears the number.
 
 #[unsafe(no_mangle)]
 pub extern "C" fn basin_total_depth(
@@ -224,10 +271,17 @@ pub extern "C" fn basin_total_depth(
     ensures { TotalFromC (TotalDepthPromise (before (FromC.parameters w n kind g c r) h b u v barriers)) total.old
         total.new result answer.new }
 {
-    let p = parameters(w, n, kind, g, c, r);
-    let x = scheme_totals::total_depth(p, h, b, u, v, barriers);
-    *total = answers::total_or(x, *total);
-    answers::tell(answer, answers::total_numbers(x))
+    let s = Lent {
+        p: parameters(w, n, kind, g, c, r),
+        h,
+        b,
+        u,
+        v,
+        barriers,
+    };
+    let x = scheme_totals::total_depth(&s);
+    *total = x.unwrap_or(*total);
+    answers::tell(answer, x.numbers())
 }
 
 #[unsafe(no_mangle)]
@@ -249,10 +303,17 @@ pub extern "C" fn basin_total_energy(
     ensures { TotalFromC (TotalEnergyPromise (before (FromC.parameters w n kind g c r) h b u v barriers)) total.old
         total.new result answer.new }
 {
-    let p = parameters(w, n, kind, g, c, r);
-    let x = scheme_totals::total_energy(p, h, b, u, v, barriers);
-    *total = answers::total_or(x, *total);
-    answers::tell(answer, answers::total_numbers(x))
+    let s = Lent {
+        p: parameters(w, n, kind, g, c, r),
+        h,
+        b,
+        u,
+        v,
+        barriers,
+    };
+    let x = scheme_totals::total_energy(&s);
+    *total = x.unwrap_or(*total);
+    answers::tell(answer, x.numbers())
 }
 
 // ---- the record
@@ -260,7 +321,7 @@ pub extern "C" fn basin_total_energy(
 // Each is the proved call, its answer told in eight numbers: the writer's with the number of bytes; the reader's with w, n, kind, seconds
 // and milliseconds, while G, c and R, which have a sign, go into three lent numbers, which a refusal leaves; the comparison's with 0 same,
 // 1 first newer, 2 second newer, 3 conflict, or which record is refused. They rule out, for instance: the fields of a record swapped;
-// the records swapped; G told in the place of c.
+// the records swapped; G told in the place of c; a refusal that clears the three numbers.
 
 #[unsafe(no_mangle)]
 pub extern "C" fn basin_write(
@@ -283,13 +344,20 @@ pub extern "C" fn basin_write(
     ensures { WriteFromC (before (FromC.parameters w n kind g c r) h b u v barriers) (FromC.timestamp seconds milliseconds)
         «record».old «record».new result answer.new }
 {
-    let p = parameters(w, n, kind, g, c, r);
+    let s = Lent {
+        p: parameters(w, n, kind, g, c, r),
+        h,
+        b,
+        u,
+        v,
+        barriers,
+    };
     let timestamp = Timestamp {
         seconds,
         milliseconds,
     };
-    let x = record_write::write(p, h, b, u, v, barriers, timestamp, record);
-    answers::tell(answer, answers::write_numbers(x))
+    let x = record_write::write(&s, timestamp, record);
+    answers::tell(answer, x.numbers())
 }
 
 #[unsafe(no_mangle)]
@@ -308,8 +376,11 @@ pub extern "C" fn basin_read(
         constants.old constants.new result answer.new }
 {
     let x = record_read::read(record, h, b, u, v, barriers);
-    *constants = answers::constants_or(x, *constants);
-    answers::tell(answer, answers::read_numbers(x))
+    if let Ok(header) = x {
+        let p = header.parameters;
+        *constants = [p.g, p.c, p.r];
+    }
+    answers::tell(answer, x.numbers())
 }
 
 #[unsafe(no_mangle)]
@@ -317,7 +388,7 @@ pub extern "C" fn basin_compare(first: &[u8], second: &[u8], answer: &mut [u64; 
     ensures { CompareFromC first.now second.now result answer.new }
 {
     let x = record_compare::compare(first, second);
-    answers::tell(answer, answers::compare_numbers(x))
+    answers::tell(answer, x.numbers())
 }
 
 // ---- rounding
@@ -334,7 +405,7 @@ fn is_roundable(a: i64, b: i64) -> bool
         least: 1,
         most: 8796093022208,
     };
-    integers::within(a, dividend) && integers::within(b, divisor)
+    dividend.contains(a) && divisor.contains(b)
 }
 
 // 01's rnd(a/b), or 4 where the quotient is out of its range. It rules out, for instance: the largest dividend refused; a refusal told

@@ -1,7 +1,8 @@
 -- Distances of whole numbers, of sums and of products. Assumes nothing.
 use Rattle.std.specs.Prelude.{◌≡◌, ℕ, ◌+◌, ◌*◌, ◌≤◌, ℤ, nat_abs, neg_ℤ, ◌+ℤ◌, ◌-ℤ◌, ◌*ℤ◌}
 use Rattle.std.proofs.Common.{subst, le_trans, le_of_eq, mul-le-mul, add-le-add}
-use Rattle.integers.specs.Laws.{abs_neg, abs-add, abs-mul, neg-sub}
+use Rattle.std.proofs.lemmas.Int.{unsigned_abs-mul}
+use Rattle.integers.specs.Laws.{abs_neg, abs-add, neg-sub}
 use Rattle.integers.specs.Ring.{◌⊕◌, ◌⊖◌, ◌⊗◌, ◌⊜◌, Identity, ring}
 
 by_way : Identity 3 (λ a b c. (a ⊖ b) ⊕ (b ⊖ c) ⊜ a ⊖ c)
@@ -21,7 +22,7 @@ by-sum : (x y : ℤ) {z : ℤ} {m n : ℕ} → x +ℤ y ≡ z → nat_abs x ≤ 
 by-sum x y {m = m} {n = n} e h l = subst (λ z. nat_abs z ≤ m + n) e (le_trans (abs-add x y) (add-le-add h l))
 
 pub product-size : (x y : ℤ) {m n : ℕ} → nat_abs x ≤ m → nat_abs y ≤ n → nat_abs (x *ℤ y) ≤ m * n
-product-size x y h l = le_trans (le_of_eq (abs-mul x y)) (mul-le-mul h l)
+product-size x y h l = le_trans (le_of_eq (unsigned_abs-mul x y)) (mul-le-mul h l)
 
 -- a is at most k from p, which is at most m
 pub far : (a p : ℤ) {k m : ℕ} → nat_abs (a -ℤ p) ≤ k → nat_abs p ≤ m → nat_abs a ≤ m + k

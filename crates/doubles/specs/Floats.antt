@@ -1,7 +1,8 @@
 -- Sums and products of doubles that are whole numbers are those numbers' sums and products, rounded once. Assumes nothing.
 use Rattle.std.specs.Prelude.{◌≡◌, refl, Bool, true, false, not, cond, ◌&&◌, ◌⊎◌, ℕ, zero, suc, ◌+◌, ◌-◌, ◌*◌, ◌≤◌, ◌<◌, ltb, ℤ, pos, neg_ℤ, ◌+ℤ◌, ◌*ℤ◌, nat_abs, Float}
-use Rattle.std.proofs.Common.{sym, ap, ap₂, ◌∙◌, inl, inr, mul-one, mul-zero, zero-mul, mul_assoc, mul_comm, mul-pos, add-mul, mul-le-mul_right, mul-lt-mul_of_pos_right, arith, lit<, lt-ltb, le-ltb, ltb-true, ltb-false}
+use Rattle.std.proofs.Common.{sym, ap, ap₂, ◌∙◌, inl, inr, mul-one, mul-zero, zero-mul, mul_assoc, mul_comm, mul-pos, add-mul, mul-le-mul_right, mul-lt-mul_of_pos_right, arith, lit<, lt-ltb, le-ltb}
 use Rattle.std.proofs.Math.Nat.{mul-mul-mul_comm, mul-sub}
+use Rattle.std.proofs.lemmas.Bool.{cases_lt}
 use Rattle.std.proofs.Math.IntN.{neg_ℤ-+ℤ, neg_ℤ-neg_ℤ, +ℤ_comm, +ℤ-neg_ℤ_cancel, pos-*ℤ-negsuc, negsuc-*ℤ-pos, negsuc-*ℤ-negsuc}
 use Rattle.std.specs.Float.{nan, inf, fin, Format}
 use Rattle.std.specs.Float.Ieee.{up, down, unlike, round, sum, add, mul, neg}
@@ -35,13 +36,6 @@ whole_of (inf _) s n v = elim v [ ]
 whole_of (fin t m e) s n v = (n, sym (mul-one (m * up e)) ∙ v.1, ap (λ b. signed b n) (sym v.0))
 
 -- ---- whole numbers with a sign
-
-pub lt-or-le : (a b : ℕ) → (a < b) ⊎ (b ≤ a)
-lt-or-le a b = go (ltb a b) (ltb-true a b) (ltb-false a b)
-  where
-    go : (t : Bool) → (t ≡ true → a < b) → (t ≡ false → b ≤ a) → (a < b) ⊎ (b ≤ a)
-    go true f g = inl (f refl)
-    go false f g = inr (g refl)
 
 pub abs-signed : (s : Bool) (n : ℕ) → nat_abs (signed s n) ≡ n
 abs-signed false n = refl
@@ -156,13 +150,13 @@ sum-rounds : (f : Format) (s t : Bool) (a b c : ℕ) → 0 < c → Rounds f (sum
 unfolding sum
 sum-rounds f false false a b c p = rounds false (a + b) (total f false a b c p) refl (λ z. refl)
 sum-rounds f true true a b c p = rounds true (a + b) (total f true a b c p) (sym (neg_ℤ-+ℤ (pos a) (pos b))) (λ z. refl)
-sum-rounds f false true a b c p = go (lt-or-le a b)
+sum-rounds f false true a b c p = go (cases_lt a b)
   where
     go : (a < b) ⊎ (b ≤ a)
         → Rounds f (cond (ltb (a * c) (b * c)) (round f true (b * c - a * c) c) (round f false (a * c - b * c) c)) (pos a +ℤ neg_ℤ (pos b)) false
     go (inl h) = rounds true (b - a) (rw (scaled-lt a b c p h) (rest f true b a c p)) (under a b (omega arith)) (no_zero h)
     go (inr h) = rounds false (a - b) (rw (scaled-le a b c h) (rest f false a b c p)) (over a b h) (λ z. refl)
-sum-rounds f true false a b c p = go (lt-or-le a b) (lt-or-le b a)
+sum-rounds f true false a b c p = go (cases_lt a b) (cases_lt b a)
   where
     turned : {z : ℤ} → pos b +ℤ neg_ℤ (pos a) ≡ z → neg_ℤ (pos a) +ℤ pos b ≡ z
     turned e = +ℤ_comm (neg_ℤ (pos a)) (pos b) ∙ e

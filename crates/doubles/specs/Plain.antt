@@ -9,7 +9,8 @@ use Rattle.std.proofs.Math.IntN.{neg_ℤ-+ℤ}
 use Rattle.std.specs.Float.{inf, Format, binary64}
 use Rattle.std.specs.Float.Ieee.{prec, low, emax, size, nearest, unlike, round, units, odd, of_int, sub}
 use Rattle.model.specs.Doubles.{signed, IsWhole, double, ◌⊞◌, ◌⊠◌}
-use Rattle.integers.specs.Laws.{abs_neg, abs-mul}
+use Rattle.std.proofs.lemmas.Int.{unsigned_abs-mul}
+use Rattle.integers.specs.Laws.{abs_neg}
 use Rattle.integers.specs.Ring.{◌and◌, and_l, and_r}
 use Rattle.integers.specs.Bounds.{Sizes, valued, sized, split}
 use Rattle.doubles.specs.Near.{is_zero, near-exact}
@@ -98,7 +99,7 @@ product-double c y q h w e =
     above = sign-round binary64 false (suc c) 1
 
     factor : (q : ℤ) → pos (suc c) *ℤ q ≡ pos 0 → q ≡ pos 0
-    factor q z = is_zero q (cut (nat_abs q) (sym (abs-mul (pos (suc c)) q) ∙ ap nat_abs z))
+    factor q z = is_zero q (cut (nat_abs q) (sym (unsigned_abs-mul (pos (suc c)) q) ∙ ap nat_abs z))
       where
         cut : (n : ℕ) → suc c * n ≡ 0 → n ≤ 0
         cut zero z = omega arith

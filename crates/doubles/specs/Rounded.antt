@@ -5,6 +5,7 @@ use Prim.Native.Nat.{ℕ, suc, ◌+◌, ◌-◌, ◌*◌, ◌/◌, ◌%◌, ◌^
 use Rattle.std.proofs.Math.Nat.{eq_of_mul-eq-mul_right}
 use Rattle.std.proofs.Math.Dec.{is_le, compare_is_eq, nleb→lt, eqb_refl}
 use Rattle.std.proofs.Math.Arith.{lt_of_le-ne}
+use Rattle.std.proofs.lemmas.Bool.{cases_lt}
 use Rattle.std.specs.Float.{nan, inf, fin, binary64}
 use Rattle.std.specs.Float.Ieee.{up, down, size, nearest, units, round}
 use Rattle.std.specs.Float.Ieee.Digits.{size-lt, size-le, size_reaches}
@@ -14,7 +15,7 @@ use Rattle.std.specs.Float.Ieee.Nearest.{closest, closest_same}
 use Rattle.std.specs.Float.Ieee.Back.{round_whole}
 use Rattle.model.specs.Doubles.{signed, IsNear}
 use Rattle.integers.specs.Laws.{abs_neg, abs-sub, neg-sub}
-use Rattle.doubles.specs.Floats.{lt-or-le, Rounds, whole_of, abs-signed}
+use Rattle.doubles.specs.Floats.{Rounds, whole_of, abs-signed}
 
 -- half a unit in the last place of the doubles up to n: 0 below 2 ^ 53, then 1, from 2 ^ 54 on 2, from 2 ^ 55 on 4, …
 abbrev pub slip : ℕ → ℕ
@@ -172,7 +173,7 @@ many s n h l =
         cut k l = omega arith
 
 slips : (s : Bool) (n : ℕ) → n < 2 ^ 60 → Slipped s n
-slips s n h = go (lt-or-le 53 (size n))
+slips s n h = go (cases_lt 53 (size n))
   where
     go : (53 < size n) ⊎ (size n ≤ 53) → Slipped s n
     go (inl l) = many s n h l

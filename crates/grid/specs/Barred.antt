@@ -1,12 +1,10 @@
 -- Closed edges, west or south, and a loop that puts 0 on those which barriers close. Assumes nothing.
-use Rattle.std.specs.Prelude.{◌≡◌, refl, Bool, true, false, cond, List, ◌++◌, ℕ, ◌+◌, ◌-◌, ◌*◌, ◌/◌, ◌%◌, ◌≤◌, ◌<◌, eqb, leb, ℤ, pos, length, get_or, take, drop, set}
-use Rattle.std.proofs.Common.{sym, ap, ap₂, subst, ◌∙◌, mod-lt, div-add-mod', arith, length-set, length-drop, length-append, take-append-drop, get_or-set_same, get_or-set_other, ext_get_or, eqb-true, leb-true, leb-false}
+use Rattle.std.specs.Prelude.{◌≡◌, refl, Bool, false, cond, List, ◌++◌, ℕ, ◌+◌, ◌-◌, ◌*◌, ◌/◌, ◌%◌, ◌≤◌, ◌<◌, ℤ, pos, length, get_or, take, drop}
+use Rattle.std.proofs.Common.{sym, ap, ap₂, subst, ◌∙◌, mod-lt, div-add-mod', arith, length-drop, length-append, length-take-le, take-append-drop, get_or-take, get_or-drop, ext_get_or}
 use Rattle.std.proofs.Math.ListN.{get_or-eq_default}
-use Rattle.std.proofs.lemmas.Bool.{eqb-false}
 use Rattle.model.specs.Grid.{by_cell, filled}
-use Rattle.model.specs.State.{State, bars_west, bars_south, closed_west, closed_south}
+use Rattle.model.specs.State.{State, boundary_of, wall_west, wall_south, bars_west, bars_south, closed_west, closed_south}
 use Rattle.grid.specs.Parts.{part}
-use Rattle.grid.specs.Banks.{Elsewhere, kept-rest, length_part, get_d_part}
 use Rattle.grid.specs.CellFields.{get_or-by_cell, length-by_cell, row_lt, take-filled, drop-filled}
 use Rattle.grid.specs.declared.Edge.{Edge}
 use Rattle.grid.specs.declared.Edge.TheVariants.{West, South}
@@ -15,6 +13,11 @@ use Rattle.grid.specs.declared.Edge.TheVariants.{West, South}
 abbrev pub bars : Edge → ℕ → Bool
 bars West x = bars_west x
 bars South x = bars_south x
+
+-- whether a wall closes this edge of the cells at a place: of a column the west edges, of a row the south edges
+abbrev pub wall_on : Edge → ℕ → ℕ → Bool
+wall_on West kind i = wall_west (boundary_of kind) i
+wall_on South kind j = wall_south (boundary_of kind) j
 
 -- whether this edge of cell (i, j) is closed
 abbrev pub closed_at : State → Edge → ℕ → ℕ → Bool
@@ -31,15 +34,6 @@ pub record Cleared (edge : Edge) (barriers : List ℕ) (a : ℕ) (d₀ d : List 
   pub before : (x : ℕ) → x < a → get_or d x (pos 0) ≡ get_or d₀ x (pos 0)
   pub each : (x : ℕ) → get_or d (a + x) (pos 0) ≡ cond (bars edge (get_or barriers x 0)) (pos 0) (get_or d₀ (a + x) (pos 0))
 
--- nothing is to be done where every byte is 0
-pub cleared-none : {edge : Edge} {barriers : List ℕ} {a : ℕ} {d : List ℤ} → ((k : ℕ) → get_or barriers k 0 ≤ 0) → Cleared edge barriers a d d
-cleared-none {edge} {barriers} {a} {d} z =
-    record {
-      long = refl;
-      before = λ x h. refl;
-      each = λ x. let e : get_or barriers x 0 ≡ 0 = omega (arith, z x) in sym (ap (λ b. cond b (pos 0) (get_or d (a + x) (pos 0))) (ap (bars edge) e ∙ none edge));
-    }
-
 -- a loop that does so, and has passed k cells
 pub record Clearing (edge : Edge) (barriers : List ℕ) (a : ℕ) (d₀ : List ℤ) (k : ℕ) (d : List ℤ) : Type 0 where
   pub long : length d ≡ length d₀
@@ -47,72 +41,30 @@ pub record Clearing (edge : Edge) (barriers : List ℕ) (a : ℕ) (d₀ : List �
   pub passed : (x : ℕ) → x < k → get_or d (a + x) (pos 0) ≡ cond (bars edge (get_or barriers x 0)) (pos 0) (get_or d₀ (a + x) (pos 0))
   pub ahead : (x : ℕ) → k ≤ x → get_or d (a + x) (pos 0) ≡ get_or d₀ (a + x) (pos 0)
 
-pub clearing-none : {edge : Edge} {barriers : List ℕ} {a : ℕ} {d : List ℤ} → Clearing edge barriers a d 0 d
-clearing-none = record { long = refl; before = λ x h. refl; passed = λ x h. absurd (omega arith); ahead = λ x h. refl }
+-- ---- a part of a list, and a list that is changed in it alone
 
-module _ {edge : Edge} {barriers : List ℕ} {a : ℕ} {d₀ : List ℤ} {k : ℕ} {d : List ℤ} (h : Clearing edge barriers a d₀ k d) where
-  -- an open edge is left as it is
-  pub clearing-open : bars edge (get_or barriers k 0) ≡ false → Clearing edge barriers a d₀ (k + 1) d
-  clearing-open e = record { long = h.long; before = h.before; passed = λ x l. by x (eqb x k) refl l; ahead = λ x l. h.ahead x (omega arith) }
-    where
-      here : get_or d (a + k) (pos 0) ≡ cond (bars edge (get_or barriers k 0)) (pos 0) (get_or d₀ (a + k) (pos 0))
-      here = h.ahead k (omega arith) ∙ sym (ap (λ b. cond b (pos 0) (get_or d₀ (a + k) (pos 0))) e)
+length_part : (a m : ℕ) (d : List ℤ) → a + m ≤ length d → length (part a m d) ≡ m
+length_part a m d h = length-take-le m (drop a d) (omega (arith, length-drop a d))
 
-      by : (x : ℕ) (same : Bool) → eqb x k ≡ same → x < k + 1 → get_or d (a + x) (pos 0) ≡ cond (bars edge (get_or barriers x 0)) (pos 0) (get_or d₀ (a + x) (pos 0))
-      by x true q l = subst (λ x. get_or d (a + x) (pos 0) ≡ cond (bars edge (get_or barriers x 0)) (pos 0) (get_or d₀ (a + x) (pos 0))) (sym (eqb-true x k q)) here
-      by x false q l = h.passed x (omega (arith, eqb-false x k q))
+get_d_part : (a m : ℕ) (d : List ℤ) (x : ℕ) → x < m → get_or (part a m d) x (pos 0) ≡ get_or d (a + x) (pos 0)
+get_d_part a m d x h = get_or-take m (drop a d) x (pos 0) h ∙ get_or-drop a d x (pos 0)
 
-  -- on a closed one 0 is stored
-  pub clearing-closed : bars edge (get_or barriers k 0) ≡ true → a + k < length d → Clearing edge barriers a d₀ (k + 1) (set d (a + k) (pos 0))
-  clearing-closed e r =
-      record {
-        long = length-set d (a + k) (pos 0) ∙ h.long;
-        before = λ x l. other x (below x l) ∙ h.before x l;
-        passed = λ x l. by x (eqb x k) refl l;
-        ahead = λ x l. other (a + x) (above x l) ∙ h.ahead x (omega arith);
-      }
-    where
-      other : (y : ℕ) → (y ≡ a + k → ⊥) → get_or (set d (a + k) (pos 0)) y (pos 0) ≡ get_or d y (pos 0)
-      other y n = get_or-set_other d (a + k) y (pos 0) (pos 0) n
+-- d is d₀, but for the places from a on that are below e
+record Elsewhere (a e : ℕ) (d₀ d : List ℤ) : Type 0 where
+  long : length d ≡ length d₀
+  before : (x : ℕ) → x < a → get_or d x (pos 0) ≡ get_or d₀ x (pos 0)
+  behind : (x : ℕ) → e ≤ x → get_or d x (pos 0) ≡ get_or d₀ x (pos 0)
 
-      below : (x : ℕ) → x < a → x ≡ a + k → ⊥
-      below x l q = omega arith
-
-      above : (x : ℕ) → k + 1 ≤ x → a + x ≡ a + k → ⊥
-      above x l q = omega arith
-
-      apart : (x : ℕ) → (x ≡ k → ⊥) → a + x ≡ a + k → ⊥
-      apart x n q = n (omega arith)
-
-      here : get_or (set d (a + k) (pos 0)) (a + k) (pos 0) ≡ cond (bars edge (get_or barriers k 0)) (pos 0) (get_or d₀ (a + k) (pos 0))
-      here = get_or-set_same d (a + k) (pos 0) (pos 0) r ∙ sym (ap (λ b. cond b (pos 0) (get_or d₀ (a + k) (pos 0))) e)
-
-      by : (x : ℕ) (same : Bool) → eqb x k ≡ same → x < k + 1
-          → get_or (set d (a + k) (pos 0)) (a + x) (pos 0) ≡ cond (bars edge (get_or barriers x 0)) (pos 0) (get_or d₀ (a + x) (pos 0))
-      by x true q l =
-          subst (λ x. get_or (set d (a + k) (pos 0)) (a + x) (pos 0) ≡ cond (bars edge (get_or barriers x 0)) (pos 0) (get_or d₀ (a + x) (pos 0))) (sym (eqb-true x k q)) here
-      by x false q l = other (a + x) (apart x (eqb-false x k q)) ∙ h.passed x (omega (arith, eqb-false x k q))
-
-  -- all cells have been passed: past the bytes no edge is closed
-  pub clearing-done : length barriers ≤ k → Cleared edge barriers a d₀ d
-  clearing-done p = record { long = h.long; before = h.before; each = λ x. by x (leb (length barriers) x) refl }
-    where
-      by : (x : ℕ) (past : Bool) → leb (length barriers) x ≡ past → get_or d (a + x) (pos 0) ≡ cond (bars edge (get_or barriers x 0)) (pos 0) (get_or d₀ (a + x) (pos 0))
-      by x false q = let l = leb-false (length barriers) x q in h.passed x (omega arith)
-      by x true q =
-          let e = ap (bars edge) (get_or-eq_default barriers 0 (leb-true (length barriers) x q)) ∙ none edge in
-          unbarred x (leb k x) refl e
-        where
-          unbarred : (x : ℕ) (far : Bool) → leb k x ≡ far → bars edge (get_or barriers x 0) ≡ false
-              → get_or d (a + x) (pos 0) ≡ cond (bars edge (get_or barriers x 0)) (pos 0) (get_or d₀ (a + x) (pos 0))
-          unbarred x true q e = h.ahead x (leb-true k x q) ∙ sym (ap (λ b. cond b (pos 0) (get_or d₀ (a + x) (pos 0))) e)
-          unbarred x false q e = let l = leb-false k x q in h.passed x (omega arith)
+kept-rest : {a e : ℕ} {d₀ d : List ℤ} → Elsewhere a e d₀ d → (x : ℕ) → e ≤ x → drop x d ≡ drop x d₀
+kept-rest {d₀ = d₀} {d} h x l =
+    ext_get_or (pos 0) (drop x d) (drop x d₀) (length-drop x d ∙ ap (λ k. k - x) h.long ∙ sym (length-drop x d₀))
+    (λ y q. get_or-drop x d y (pos 0) ∙ h.behind (x + y) (omega arith) ∙ sym (get_or-drop x d₀ y (pos 0)))
 
 -- ---- what that makes of a field
 
 module _ {edge : Edge} {barriers : List ℕ} {a : ℕ} {d₀ d : List ℤ} (h : Cleared edge barriers a d₀ d) where
   -- nothing past m cells is changed, where there are m bytes
-  pub cleared-elsewhere : {m : ℕ} → length barriers ≤ m → Elsewhere a (a + m) d₀ d
+  cleared-elsewhere : {m : ℕ} → length barriers ≤ m → Elsewhere a (a + m) d₀ d
   cleared-elsewhere {m} p = record { long = h.long; before = h.before; behind = λ x l. far x (x - a) (omega arith) (omega arith) }
     where
       far : (x y : ℕ) → x ≡ a + y → length barriers ≤ y → get_or d x (pos 0) ≡ get_or d₀ x (pos 0)
@@ -121,7 +73,7 @@ module _ {edge : Edge} {barriers : List ℕ} {a : ℕ} {d₀ d : List ℤ} (h : 
           (h.each y ∙ ap (λ b. cond b (pos 0) (get_or d₀ (a + y) (pos 0))) (ap (bars edge) (get_or-eq_default barriers 0 l) ∙ none edge))
 
   -- a field of numbers g becomes one of numbers f, which are g's but for 0 at closed edges
-  pub cleared-part : (w n : ℕ) (f g : ℕ → ℕ → ℤ) → 0 < w → a + w * n ≤ length d₀ → part a (w * n) d₀ ≡ by_cell w n g
+  cleared-part : (w n : ℕ) (f g : ℕ → ℕ → ℤ) → 0 < w → a + w * n ≤ length d₀ → part a (w * n) d₀ ≡ by_cell w n g
       → ((i j : ℕ) → i < w → j < n → f i j ≡ cond (bars edge (get_or barriers (j * w + i) 0)) (pos 0) (g i j))
       → part a (w * n) d ≡ by_cell w n f
   cleared-part w n f g z r e same =

@@ -1,7 +1,7 @@
 -- Cells and neighbours, as code finds them: without a division. Assumes nothing.
 use Rattle.std.specs.Prelude.{◌≡◌, ℕ, ◌+◌, ◌-◌, ◌*◌, ◌/◌, ◌%◌, ◌≤◌, ◌<◌}
 use Rattle.std.proofs.Common.{ap, sym, ◌∙◌, mod-eq_of_lt, mod-lt, zero-add, mul_comm, suc-mul, mul-le-mul, add-one, arith}
-use Rattle.std.proofs.Math.Nat.{mod_self, mod-add-mod, add-mod_right}
+use Rattle.std.proofs.Math.Nat.{mod-add-mod, add-mod_right}
 use Rattle.std.proofs.Math.Arith.{digits_lt, digits_div, digits_mod}
 use Rattle.model.specs.Grid.{next, previous}
 use Rattle.model.specs.State.{Side}
@@ -36,9 +36,6 @@ next-lt w i p = mod-lt (i + 1) p
 
 pub previous-lt : (w i : ℕ) → 0 < w → previous w i < w
 previous-lt w i p = mod-lt (i + (w - 1)) p
-
-pub next_last : (w i : ℕ) → i + 1 ≡ w → next w i ≡ 0
-next_last w i e = ap (λ x. x % w) e ∙ mod_self w
 
 pub next-inner : (w i : ℕ) → i + 1 < w → next w i ≡ i + 1
 next-inner w i l = mod-eq_of_lt l

@@ -1,11 +1,11 @@
 -- The corners of a grid, as code finds them: how many a side has, the cells around a corner, and the corners of a cell. Assumes nothing.
-use Rattle.std.specs.Prelude.{◌≡◌, refl, Bool, true, false, ◌||◌, ℕ, ◌+◌, ◌-◌, ◌*◌, ◌≤◌, ◌<◌, T, eqb}
-use Rattle.std.proofs.Common.{sym, subst, mul-le-mul, arith, eq-eqb}
-use Rattle.std.proofs.lemmas.Bool.{eqb-false}
+use Rattle.std.specs.Prelude.{◌≡◌, refl, Bool, true, false, ◌||◌, ℕ, ◌+◌, ◌*◌, ◌≤◌, ◌<◌, eqb}
+use Rattle.std.proofs.Common.{sym, subst, arith}
+use Rattle.std.proofs.lemmas.Bool.{eqb-false, or_parts}
 use Rattle.model.specs.Grid.{next, previous, corners_of, lower, upper, on_wall}
 use Rattle.model.specs.State.{Side, boundary_of, wall_west, wall_south}
-use Rattle.grid.specs.Cells.{cell-lt, next-lt, previous-lt, previous-first, previous-inner}
-use Rattle.grid.specs.declared.Four.{Four}
+use Rattle.grid.specs.Cells.{cell-lt, next-lt, previous-lt, previous-inner}
+use Rattle.grid.specs.declared.Corners.{Corners}
 
 -- ---- a side
 
@@ -21,10 +21,6 @@ pub corners-next : (walled : Bool) (w : ℕ) → corners_of walled w ≤ w + 1
 corners-next false w = omega arith
 corners-next true w = omega arith
 
-pub side-most : (walled : Bool) {w : ℕ} → Side w → corners_of walled w ≤ 65
-side-most false s = omega (arith, s.most)
-side-most true s = omega (arith, s.most)
-
 pub lower-lt : (walled : Bool) {w x : ℕ} → 1 ≤ w → x < corners_of walled w → lower walled w x < w
 lower-lt false {w} {x} h p = previous-lt w x h
 lower-lt true h p = omega arith
@@ -32,30 +28,6 @@ lower-lt true h p = omega arith
 pub upper_lt : (walled : Bool) {w x : ℕ} → 1 ≤ w → x < corners_of walled w → upper walled w x < w
 upper_lt false h p = p
 upper_lt true h p = omega arith
-
--- the same by the corner: past the first one, the place before it; at the first one, and at the last, by the walls
-pub lower-past : (walled : Bool) (w : ℕ) {x : ℕ} → 0 < x → x < corners_of walled w → lower walled w x ≡ x - 1
-lower-past false w {x} h p = previous-inner w x h p
-lower-past true w h p = refl
-
-pub lower-first : {w x : ℕ} → x ≤ 0 → x < w → lower false w x ≡ w - 1
-lower-first {w} {x} h p = previous-first w x (omega arith) p
-
-pub upper-past : (walled : Bool) {w x : ℕ} → 1 ≤ w → x < corners_of walled w → (x ≡ w → ⊥) → upper walled w x ≡ x
-upper-past false h p n = refl
-upper-past true h p n = omega arith
-
-pub upper-last : (walled : Bool) {w x : ℕ} → 1 ≤ w → x < corners_of walled w → x ≡ w → upper walled w x ≡ w - 1
-upper-last false h p e = absurd (none p e)
-  where
-    none : {w x : ℕ} → x < w → x ≡ w → ⊥
-    none p e = omega arith
-upper-last true h p e = omega arith
-
--- where one or the other does not hold, neither does
-pub neither : (a b : Bool) → (a || b) ≡ false → (a ≡ false) × (b ≡ false)
-neither true b e = absurd (subst T e tt)
-neither false b e = (refl, e)
 
 -- a corner on no wall has 01's places beside it
 pub record Inner (walled : Bool) (w x : ℕ) : Type 0 where
@@ -66,23 +38,11 @@ pub record Inner (walled : Bool) (w x : ℕ) : Type 0 where
 pub inner : (walled : Bool) {w x : ℕ} → x < corners_of walled w → on_wall walled w x ≡ false → Inner walled w x
 inner false p h = record { place = p; below = refl; above = refl }
 inner true {w} {x} p h =
-    let n = neither (eqb x 0) (eqb x w) h in
+    let n = or_parts (eqb x 0) (eqb x w) h in
     let a = eqb-false x 0 n.0 in
     let b = eqb-false x w n.1 in
     let l : x < w = omega arith in
     record { place = l; below = sym (previous-inner w x (omega arith) l); above = omega arith }
-
--- a side with a corner past its last place has walls, and that corner is on one
-pub last-on-wall : (walled : Bool) (w : ℕ) → w < corners_of walled w → on_wall walled w w ≡ true
-last-on-wall false w h = absurd (none h)
-  where
-    none : {w : ℕ} → w < w → ⊥
-    none h = omega arith
-last-on-wall true w h = last (eqb w 0) (eq-eqb w w refl)
-  where
-    last : (a : Bool) {b : Bool} → b ≡ true → (a || b) ≡ true
-    last true e = refl
-    last false e = e
 
 -- ---- a corner
 
@@ -97,18 +57,15 @@ pub record Corner (kind w n x y : ℕ) : Type 0 where
 abbrev pub on_a_wall : (kind w n x y : ℕ) → Bool
 on_a_wall kind w n x y = on_wall (wall_west (boundary_of kind) 0) w x || on_wall (wall_south (boundary_of kind) 0) n y
 
-pub corners-most : (a b : Bool) {w n : ℕ} → Side w → Side n → corners_of a w * corners_of b n ≤ 4225
-corners-most a b p q = mul-le-mul (side-most a p) (side-most b q)
-
 -- four indices below m
-pub record Below4 (m : ℕ) (a : Four) : Type 0 where
+pub record Below4 (m : ℕ) (a : Corners ℕ) : Type 0 where
   pub ne : a.ne < m
   pub nw : a.nw < m
   pub sw : a.sw < m
   pub se : a.se < m
 
 -- the cells around corner (x, y): on a wall, the cells inside
-pub record AreCells (kind w n x y : ℕ) (a : Four) : Type 0 where
+pub record AreCells (kind w n x y : ℕ) (a : Corners ℕ) : Type 0 where
   pub ne : a.ne ≡ upper (wall_south (boundary_of kind) 0) n y * w + upper (wall_west (boundary_of kind) 0) w x
   pub nw : a.nw ≡ upper (wall_south (boundary_of kind) 0) n y * w + lower (wall_west (boundary_of kind) 0) w x
   pub sw : a.sw ≡ lower (wall_south (boundary_of kind) 0) n y * w + lower (wall_west (boundary_of kind) 0) w x
@@ -117,7 +74,7 @@ pub record AreCells (kind w n x y : ℕ) (a : Four) : Type 0 where
 at : {w n k l m : ℕ} → k ≡ m * w + l → l < w → m < n → k < w * n
 at {w} {n} e x y = subst (λ (k : ℕ). k < w * n) (sym e) (cell-lt x y)
 
-pub cells-below : {kind w n x y : ℕ} {a : Four} → Corner kind w n x y → AreCells kind w n x y a → Below4 (w * n) a
+pub cells-below : {kind w n x y : ℕ} {a : Corners ℕ} → Corner kind w n x y → AreCells kind w n x y a → Below4 (w * n) a
 cells-below {kind} {w} {n} {x} {y} p r =
     let a = wall_west (boundary_of kind) 0 in
     let b = wall_south (boundary_of kind) 0 in
@@ -129,13 +86,13 @@ cells-below {kind} {w} {n} {x} {y} p r =
 
 -- ---- the corners of cell (i, j), in a grid of corners with so many columns and rows
 
-pub record AreCorners (columns rows i j : ℕ) (a : Four) : Type 0 where
+pub record AreCorners (columns rows i j : ℕ) (a : Corners ℕ) : Type 0 where
   pub ne : a.ne ≡ next rows j * columns + next columns i
   pub nw : a.nw ≡ next rows j * columns + i
   pub sw : a.sw ≡ j * columns + i
   pub se : a.se ≡ j * columns + next columns i
 
-pub corners-below : {columns rows i j : ℕ} {a : Four} → i < columns → j < rows → AreCorners columns rows i j a → Below4 (columns * rows) a
+pub corners-below : {columns rows i j : ℕ} {a : Corners ℕ} → i < columns → j < rows → AreCorners columns rows i j a → Below4 (columns * rows) a
 corners-below {columns} {rows} {i} {j} p q r =
     let east = next-lt columns i (omega arith) in
     let north = next-lt rows j (omega arith) in

@@ -1,8 +1,8 @@
 -- sums over the grid, the shift law, and polynomial sums over the torus by computation
 pub mod Sums
 pub mod Torus
--- cells and neighbours; corners; fields filled cell by cell; loops that write a list, and parts of a work space; loops that scan; and the loop
--- that puts 0 on the edges which barriers close
+-- cells and neighbours; corners; fields filled cell by cell; loops that write a list; loops that scan; and the loop that puts 0
+-- on the edges which barriers close
 pub mod Cells
 pub mod Stencils
 pub mod Corners
@@ -10,6 +10,5 @@ pub mod CellFields
 pub mod Parts
 pub mod Places
 pub mod WritingLoops
-pub mod Banks
 pub mod Scanning
 pub mod Barred

@@ -1,4 +1,4 @@
--- Parts of a work space.
+-- Parts of a list.
 use Rattle.std.specs.Prelude.{List, ◌++◌, ℕ, ◌+◌, length, take, drop}
 
 module _ {A : Type 0} where

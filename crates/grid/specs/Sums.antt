@@ -1,6 +1,6 @@
 -- Sums of integers over a range and over a grid, and their invariance under a cyclic shift. Assumes nothing.
 use Rattle.std.specs.Prelude.{◌≡◌, refl, ℕ, zero, suc, ◌+◌, ◌-◌, ◌*◌, ◌%◌, ◌<◌, ℤ, pos, ◌+ℤ◌, ◌*ℤ◌}
-use Rattle.std.proofs.Common.{sym, ◌∙◌, ap, mod-eq_of_lt, add-zero, add-suc, zero-mul, suc-mul, arith}
+use Rattle.std.proofs.Common.{sym, ◌∙◌, ap, mod-eq_of_lt, add-zero, add-suc, add-one, zero-mul, suc-mul, arith}
 use Rattle.std.proofs.Math.Nat.{mod_self, mod-add-mod, add-mod_right}
 use Rattle.std.proofs.Math.IntN.{+ℤ_assoc, +ℤ_comm, +ℤ_idr, zero-*ℤ, *ℤ_comm}
 pub use Rattle.model.specs.Grid.{sum_to, sum_grid as grid, next as east, previous as west}
@@ -44,13 +44,10 @@ pub shift-east : (w : ℕ) (f : ℕ → ℤ) → sum_to w (λ i. f (east w i)) �
 unfolding sum_to
 shift-east zero f = refl
 shift-east (suc n) f =
-    ap (λ x. sum_to n (λ i. f ((i + 1) % suc n)) +ℤ f x) (ap (λ x. x % suc n) (one_more n) ∙ mod_self (suc n))
-    ∙ ap (λ x. x +ℤ f zero) (sum-cong n (λ i l. ap f (mod-eq_of_lt (below n i l) ∙ one_more i)))
+    ap (λ x. sum_to n (λ i. f ((i + 1) % suc n)) +ℤ f x) (ap (λ x. x % suc n) (add-one n) ∙ mod_self (suc n))
+    ∙ ap (λ x. x +ℤ f zero) (sum-cong n (λ i l. ap f (mod-eq_of_lt (below n i l) ∙ add-one i)))
     ∙ +ℤ_comm (sum_to n (λ i. f (suc i))) (f zero) ∙ sym (sum_head n f)
   where
-    one_more : (n : ℕ) → n + 1 ≡ suc n
-    one_more n = omega arith
-
     below : (n i : ℕ) → i < n → i + 1 < suc n
     below n i l = omega arith
 

@@ -1,12 +1,11 @@
--- A loop that writes the elements of a list, one a turn, from a place of a lent slice on: it fills a field (place 0) or a part of a
--- work space. Assumes nothing.
-use Rattle.std.specs.Prelude.{◌≡◌, refl, List, ◌++◌, ℕ, ◌+◌, ◌*◌, ◌≤◌, ◌<◌, length, take, drop, get_or, set}
-use Rattle.std.proofs.Common.{sym, ap, subst, ◌∙◌, append_assoc, zero-le, le_antisymm, zero-add, zero-mul, mul_comm, mul-le-mul_right, add-one, arith, length-set, length-take-le, drop_at}
-use Rattle.std.proofs.Math.Seq.{take-append_seam, paste, paste-zero, paste-suc, take-length}
+-- A loop that writes the elements of a list, one a turn, from a place of a lent slice on: at place 0 it fills a field. Assumes nothing.
+use Rattle.std.specs.Prelude.{◌≡◌, refl, List, ◌++◌, ℕ, ◌+◌, ◌*◌, ◌≤◌, ◌<◌, length, drop, get_or, set}
+use Rattle.std.proofs.Common.{sym, ap, subst, ◌∙◌, append-nil, zero-le, le_antisymm, zero-add, mul_comm, mul-le-mul_right, add-one, arith, length-set}
+use Rattle.std.proofs.Math.Seq.{paste, paste-suc, take-length, drop-length}
 use Rattle.model.specs.Grid.{by_cell, filled}
 use Rattle.grid.specs.Cells.{cell-lt, row-end, by_index}
 use Rattle.grid.specs.CellFields.{length-by_cell, any-by_cell}
-use Rattle.grid.specs.Parts.{part, replaced}
+use Rattle.grid.specs.Parts.{replaced}
 
 module _ {A : Type 0} where
   -- d is d₀ with the first k elements of l from place a on
@@ -16,9 +15,6 @@ module _ {A : Type 0} where
     pub long : length d ≡ length d₀
 
   module _ {a : ℕ} {l d₀ : List A} where
-    pub writing-none : Writing a l d₀ 0 d₀
-    writing-none = record { so_far = zero-le; holds = paste-zero d₀ a l; long = refl }
-
     pub writing_more : {k : ℕ} {d : List A} {v : A} (z : A) → Writing a l d₀ k d → k < length l → a + length l ≤ length d₀ → v ≡ get_or l k z → Writing a l d₀ (k + 1) (set d (a + k) v)
     writing_more {k} {d} {v} z p h r e =
         record {
@@ -41,6 +37,10 @@ module _ {A : Type 0} where
   pub filling-done : {l d₀ : List A} {k m : ℕ} {d : List A} → Writing 0 l d₀ k d → length l ≡ m → m ≤ k → d ≡ filled m l d₀
   unfolding replaced
   filling-done {l} {d₀} {k} {m} p e h = writing-done p (omega arith) ∙ rw (zero-add, e)
+
+  -- m elements in a slice of m
+  pub filled_whole : (m : ℕ) (l d : List A) → length d ≡ m → filled m l d ≡ l
+  filled_whole m l d r = ap (λ k. l ++ drop k d) (sym r) ∙ ap (λ x. l ++ x) (drop-length d) ∙ append-nil l
 
 -- ---- cell by cell, with no division: a loop over rows j, and in it one over columns i
 
@@ -82,16 +82,9 @@ module _ {A : Type 0} (w n : ℕ) (g : ℕ → ℕ → A) where
   pub row_done : {a i : ℕ} (j : ℕ) {e d₀ d : List A} → RowWriting a j d₀ i d → w ≤ i → a + w * n ≤ length e → Writing a field e (j * w) d₀ → Writing a field e ((j + 1) * w) d
   row_done j {e = e} h l r o = writing-at (h.over e r o) (row-end j (le_antisymm h.so_far l))
 
-  pub rows_none : {a : ℕ} {e : List A} → Writing a field e (0 * w) e
-  rows_none = writing-at writing-none (sym (zero-mul w))
-
   pub rows-filled : {j : ℕ} {e d : List A} → Writing 0 field e (j * w) d → n ≤ j → d ≡ filled (w * n) field e
   rows-filled {j} h l = filling-done h (length-by_cell w n g) (rw (mul_comm w n) (mul-le-mul_right w l))
 
--- the part written, once it is
-pub part-written : {A : Type 0} (a : ℕ) (l d₀ : List A) → a ≤ length d₀ → part a (length l) (replaced a l d₀) ≡ l
-unfolding replaced
-part-written a l d₀ r =
-    ap (λ f. take (length l) (drop a f)) (append_assoc (take a d₀) l (drop (a + length l) d₀))
-    ∙ ap (take (length l)) (drop_at (take a d₀) (l ++ drop (a + length l) d₀) a (length-take-le a d₀ r))
-    ∙ take-append_seam l (drop (a + length l) d₀)
+  -- ... of which the slice has no other places
+  pub field-filled : {j : ℕ} {e d : List A} → Writing 0 field e (j * w) d → n ≤ j → length e ≡ w * n → d ≡ field
+  field-filled {e = e} h l r = rows-filled h l ∙ filled_whole (w * n) field e r

@@ -1,84 +1,30 @@
-// The grid as proved code: the boundary, barriers, neighbours, cells, and parts of a work space. In specs/ the shift law, sums over the
-// torus by computation, and the laws of loops that fill, scan, and write a part.
+// The grid as proved code: the boundary, barriers, neighbours, cells and corners. In specs/ the shift law, sums over the torus by
+// computation, and the laws of loops that fill and scan.
 #![tactic(auto)]
 
-ghost use Rattle.std.specs.Prelude.{◌≡◌, ℕ, ◌+◌, ◌*◌, ◌<◌, ◌≤◌, pos, length, get_or, replicate};
+ghost use Rattle.std.specs.Prelude.{◌≡◌, ℕ, ◌+◌, ◌*◌, ◌<◌, ◌≤◌, length, get_or};
 ghost use Rattle.model.specs.Grid;
-ghost use Rattle.model.specs.State;
-ghost use Rattle.model.specs.Grid.{filled, corners_of, lower, upper};
-ghost use Rattle.model.specs.State.{State, Side, boundary_of, wall_west, wall_south, barrier_at, closed_west, closed_south};
+ghost use Rattle.model.specs.Grid.{corners_of, lower, upper};
+ghost use Rattle.model.specs.State.{State, Side, boundary_of, wall_west, wall_south, barrier_at};
 ghost use Rattle.grid.specs.Cells.{Cell};
 ghost use Rattle.grid.specs.Stencils.{IsAround};
 ghost use Rattle.grid.specs.Corners.{Corner, on_a_wall, AreCells, AreCorners};
-ghost use Rattle.grid.specs.Parts.{part, replaced};
-ghost use Rattle.grid.specs.Barred.{bars, closed_at, Cleared};
+ghost use Rattle.grid.specs.Barred.{bars, wall_on, closed_at, Cleared};
 
-use model::{Boundary, BoundaryByte};
+use model::{Boundary, Parameters};
 
-// The boundary that a byte stands for. It rules out, for instance: kind 2 without its west wall; kind 3 taken for periodic.
+// The boundary that a byte stands for: the one place that reads the byte. It rules out, for instance: kind 2 without its west wall; kind 3 taken
+// for periodic. (A function and no `TryFrom`: an unknown byte is no error here but a case of its own, which `is_walled` matches.)
 #[tactic(auto, unfolding(model::specs::State::boundary_of))]
-pub fn boundary_of(kind: u8) -> BoundaryByte
+pub fn boundary_of(kind: u8) -> Option<Boundary>
     ensures { result ≡ boundary_of kind }
 {
     match kind {
-        0 => BoundaryByte::Known(Boundary::Periodic),
-        1 => BoundaryByte::Known(Boundary::Channel),
-        2 => BoundaryByte::Known(Boundary::Basin),
-        _ => BoundaryByte::Unknown,
+        0 => Some(Boundary::Periodic),
+        1 => Some(Boundary::Channel),
+        2 => Some(Boundary::Basin),
+        _ => None,
     }
-}
-
-// Whether a byte stood for a boundary. It rules out, for instance: an unknown byte taken for known; a basin taken for unknown.
-pub fn known(e: BoundaryByte) -> bool
-    ensures { result ≡ State.known e }
-{
-    match e {
-        BoundaryByte::Known(_) => true,
-        BoundaryByte::Unknown => false,
-    }
-}
-
-// Whether the west edges of column i are closed. It rules out, for instance: a basin without its west wall; a channel with a west
-// wall.
-pub fn wall_west(e: BoundaryByte, i: usize) -> bool
-    ensures { result ≡ wall_west e i }
-{
-    match e {
-        BoundaryByte::Known(b) => match b {
-            Boundary::Periodic => false,
-            Boundary::Channel => false,
-            Boundary::Basin => i == 0,
-        },
-        BoundaryByte::Unknown => false,
-    }
-}
-
-// Whether the south edges of row j are closed. It rules out, for instance: a channel without its wall; the wall along the last row.
-pub fn wall_south(e: BoundaryByte, j: usize) -> bool
-    ensures { result ≡ wall_south e j }
-{
-    match e {
-        BoundaryByte::Known(b) => match b {
-            Boundary::Periodic => false,
-            Boundary::Channel => j == 0,
-            Boundary::Basin => j == 0,
-        },
-        BoundaryByte::Unknown => false,
-    }
-}
-
-// The same of a kind: whether a wall closes the west edges of column i, and the south edges of row j. They rule out, for instance: the walls
-// of an unknown kind; the wall of column 0 along every column.
-pub fn walled_west(kind: u8, i: usize) -> bool
-    ensures { result ≡ wall_west (boundary_of kind) i }
-{
-    wall_west(boundary_of(kind), i)
-}
-
-pub fn walled_south(kind: u8, j: usize) -> bool
-    ensures { result ≡ wall_south (boundary_of kind) j }
-{
-    wall_south(boundary_of(kind), j)
 }
 
 // The byte of barriers (02: piers) of the cell with index k: 0 past the end of them, so that no byte means no barrier. It rules out, for
@@ -86,30 +32,20 @@ pub fn walled_south(kind: u8, j: usize) -> bool
 pub fn barrier_at(barriers: &[u8], k: usize) -> u8
     ensures { result ≡ get_or barriers.now k 0 }
 {
-    if k < barriers.len() {
-        return barriers[k];
-    }
-    0
+    barriers.get(k).copied().unwrap_or(0)
 }
 
-// The highest byte, or 0 where there is none: no byte is above it, and it stands at some place (past the end there is 0). The loop has no
-// exit, so that it is compiled to take many bytes at a time. It rules out, for instance: the last byte left out; 255 for any bytes.
+// The highest byte, or 0 where there is none: no byte is above it, and it stands at some place (past the end there is 0). No byte ends the
+// search, so that it is compiled to take many bytes at a time. It rules out, for instance: the last byte left out; 255 for any bytes.
 pub fn highest(bytes: &[u8]) -> u8
     ensures { ((k : ℕ) → get_or bytes.now k 0 ≤ result)
         × ((k : ℕ) × (get_or bytes.now k 0 ≡ result)) }
 {
-    let mut most = 0;
-    for k in 0..bytes.len() {
-        let byte = bytes[k];
-        if most < byte {
-            most = byte;
-        }
-    }
-    most
+    bytes.iter().copied().max().unwrap_or(0)
 }
 
 // An edge of a cell that has a velocity: u stands on the west edge, v on the south edge.
-#[derive(Clone, Copy)]
+#[derive(Clone, Copy, PartialEq, Eq, Debug)]
 pub enum Edge {
     West,
     South,
@@ -126,28 +62,31 @@ pub fn is_barred(barrier: u8, edge: Edge) -> bool
     }
 }
 
-// Whether the west edge of cell (i, j) is closed, and the south edge, in a state of that kind with that byte of barriers: by a wall or by a
-// barrier. They rule out, for instance: a wall that a barrier opens; the south edge's bit for the west edge; a south wall along every row.
-fn closed_west(kind: u8, barrier: u8, i: usize) -> bool
-    ensures { (s : State) (j : ℕ) → s.kind ≡ kind → barrier_at s i j ≡ barrier → result ≡ closed_west s i j }
+// Whether a wall closes this edge of the cells at a place: for west edges the place is a column, for south edges a row. It rules out, for
+// instance: the walls of an unknown kind; a basin without its west wall; a channel without its wall; the wall along the last row.
+pub fn is_walled(p: Parameters, edge: Edge, place: usize) -> bool
+    ensures { result ≡ wall_on edge p.kind place }
 {
-    walled_west(kind, i) || is_barred(barrier, Edge::West)
+    // each case has its arm, so that none of another boundary could be forgotten
+    match (edge, boundary_of(p.kind)) {
+        (Edge::West, Some(Boundary::Basin)) => place == 0,
+        (Edge::South, Some(Boundary::Channel | Boundary::Basin)) => place == 0,
+        (Edge::West, Some(Boundary::Periodic | Boundary::Channel) | None) => false,
+        (Edge::South, Some(Boundary::Periodic) | None) => false,
+    }
 }
 
-fn closed_south(kind: u8, barrier: u8, j: usize) -> bool
-    ensures { (s : State) (i : ℕ) → s.kind ≡ kind → barrier_at s i j ≡ barrier → result ≡ closed_south s i j }
+// Whether this edge of cell (i, j) is closed, in a state of that kind with that byte of barriers: by a wall or by a barrier. Whoever looks
+// for closed edges asks here. It rules out, for instance: a wall that a barrier opens; the other edge; the column taken for the row; a south
+// wall along every row.
+#[tactic(auto, unfolding(model::specs::State::closed_west, model::specs::State::closed_south))]
+pub fn is_closed(p: Parameters, barrier: u8, edge: Edge, i: usize, j: usize) -> bool
+    ensures { (s : State) → s.kind ≡ p.kind → barrier_at s i j ≡ barrier → result ≡ closed_at s edge i j }
 {
-    walled_south(kind, j) || is_barred(barrier, Edge::South)
-}
-
-// The same of either edge: whoever looks for closed edges asks here. It rules out, for instance: the other edge; the column taken for the
-// row.
-pub fn is_closed(kind: u8, barrier: u8, edge: Edge, i: usize, j: usize) -> bool
-    ensures { (s : State) → s.kind ≡ kind → barrier_at s i j ≡ barrier → result ≡ closed_at s edge i j }
-{
+    // each arm whole: to match for the place first and then to ask would be a line more
     match edge {
-        Edge::West => closed_west(kind, barrier, i),
-        Edge::South => closed_south(kind, barrier, j),
+        Edge::West => is_walled(p, edge, i) || is_barred(barrier, edge),
+        Edge::South => is_walled(p, edge, j) || is_barred(barrier, edge),
     }
 }
 
@@ -167,16 +106,17 @@ pub fn previous(w: usize, i: usize) -> usize
     if i == 0 { w - 1 } else { i - 1 }
 }
 
-// The index of cell (i, j). It rules out, for instance: rows and columns swapped; rows counted by n.
-pub fn cell_index(w: usize, n: usize, i: usize, j: usize) -> usize
-    requires { Cell w n i j }
-    ensures { (result ≡ j * w + i) × (result < w * n) }
+// The index of cell (i, j). It rules out, for instance: rows and columns swapped; rows counted by n. (Column and row go beside the parameters as
+// plain numbers: that they are of this grid, a struct of the two could not say.)
+pub fn cell_index(p: Parameters, i: usize, j: usize) -> usize
+    requires { Cell p.w p.n i j }
+    ensures { (result ≡ j * p.w + i) × (result < p.w * p.n) }
 {
-    j * w + i
+    j * p.w + i
 }
 
 // The indices of a cell and of the cells around it, as far as the scheme reads them.
-#[derive(Clone, Copy)]
+#[derive(Clone, Copy, PartialEq, Eq, Debug)]
 pub struct Stencil {
     pub here: usize,
     pub east: usize,
@@ -188,22 +128,22 @@ pub struct Stencil {
 }
 
 // The cells around cell (i, j). It rules out, for instance: the cell itself for its east neighbour; the south for the north.
-pub fn around(w: usize, n: usize, i: usize, j: usize) -> Stencil
-    requires { Cell w n i j }
-    ensures { IsAround w n i j result }
+pub fn around(p: Parameters, i: usize, j: usize) -> Stencil
+    requires { Cell p.w p.n i j }
+    ensures { IsAround p.w p.n i j result }
 {
-    let east = next(w, i);
-    let west = previous(w, i);
-    let north = next(n, j);
-    let south = previous(n, j);
+    let east = next(p.w, i);
+    let west = previous(p.w, i);
+    let north = next(p.n, j);
+    let south = previous(p.n, j);
     Stencil {
-        here: cell_index(w, n, i, j),
-        east: cell_index(w, n, east, j),
-        west: cell_index(w, n, west, j),
-        north: cell_index(w, n, i, north),
-        south: cell_index(w, n, i, south),
-        northeast: cell_index(w, n, east, north),
-        southwest: cell_index(w, n, west, south),
+        here: cell_index(p, i, j),
+        east: cell_index(p, east, j),
+        west: cell_index(p, west, j),
+        north: cell_index(p, i, north),
+        south: cell_index(p, i, south),
+        northeast: cell_index(p, east, north),
+        southwest: cell_index(p, west, south),
     }
 }
 
@@ -218,40 +158,45 @@ pub fn corners_of(walled: bool, w: usize) -> usize
     if walled { w + 1 } else { w }
 }
 
-// The columns and the rows of the grid of corners. They rule out, for instance: a channel with a column of corners more; a basin without one.
-pub fn corner_columns(kind: u8, w: usize) -> usize
-    requires { w ≤ 64 }
-    ensures { result ≡ corners_of (wall_west (boundary_of kind) 0) w }
+// The columns and the rows of the grid of corners: two functions, as the model has two, since over `Edge` the columns would be asked for by
+// the west edge, in no fewer words. They rule out, for instance: a channel with a column of corners more; a basin without one.
+pub fn corner_columns(p: Parameters) -> usize
+    requires { p.w ≤ 64 }
+    ensures { result ≡ corners_of (wall_west (boundary_of p.kind) 0) p.w }
 {
-    corners_of(walled_west(kind, 0), w)
+    corners_of(is_walled(p, Edge::West, 0), p.w)
 }
 
-pub fn corner_rows(kind: u8, n: usize) -> usize
-    requires { n ≤ 64 }
-    ensures { result ≡ corners_of (wall_south (boundary_of kind) 0) n }
+pub fn corner_rows(p: Parameters) -> usize
+    requires { p.n ≤ 64 }
+    ensures { result ≡ corners_of (wall_south (boundary_of p.kind) 0) p.n }
 {
-    corners_of(walled_south(kind, 0), n)
+    corners_of(is_walled(p, Edge::South, 0), p.n)
 }
 
 // How many corners the grid has. It rules out, for instance: as many as cells in a basin; a column counted for a row.
-pub fn corner_count(kind: u8, w: usize, n: usize) -> usize
-    requires { Side w × Side n }
-    ensures { (result ≡ corners_of (wall_west (boundary_of kind) 0) w * corners_of (wall_south (boundary_of kind) 0) n)
+pub fn corner_count(p: Parameters) -> usize
+    requires { Side p.w × Side p.n }
+    ensures { (result ≡ corners_of (wall_west (boundary_of p.kind) 0) p.w * corners_of (wall_south (boundary_of p.kind) 0) p.n)
         × (result ≤ 4225) }
 {
-    corner_columns(kind, w) * corner_rows(kind, n)
+    corner_columns(p) * corner_rows(p)
 }
 
-// The two places beside corner x of a side of w places: at a wall both are the one inside. They rule out, for instance: the place across the
-// wall; the corner's own number at the last wall.
+// The two places beside corner x of a side of w places: at a wall both are the one inside. They rule out, for instance: the place across the wall;
+// the corner's own number at the last wall. (Whether walls end a side goes beside its places, here, in `corners_of` and in `on_wall`. A struct of
+// both would be built in four functions, for methods of a line or two.)
 fn lower_place(walled: bool, w: usize, x: usize) -> usize
     requires { (1 ≤ w) × (x < corners_of walled w) }
     ensures { (result ≡ lower walled w x) × (result < w) }
 {
     if x > 0 {
-        return x - 1;
+        x - 1
+    } else if walled {
+        0
+    } else {
+        w - 1
     }
-    if walled { 0 } else { w - 1 }
 }
 
 fn upper_place(walled: bool, w: usize, x: usize) -> usize
@@ -265,57 +210,54 @@ fn upper_place(walled: bool, w: usize, x: usize) -> usize
 fn on_wall(walled: bool, w: usize, x: usize) -> bool
     ensures { result ≡ Grid.on_wall walled w x }
 {
-    if !walled {
-        return false;
-    }
-    x == 0 || x == w
+    walled && (x == 0 || x == w)
 }
 
 // Whether corner (x, y) is on a wall. It rules out, for instance: the walls of row 0 and column 0 alone; a wall corner in a periodic grid.
-pub fn is_on_wall(kind: u8, w: usize, n: usize, x: usize, y: usize) -> bool
-    ensures { result ≡ on_a_wall kind w n x y }
+pub fn is_on_wall(p: Parameters, x: usize, y: usize) -> bool
+    ensures { result ≡ on_a_wall p.kind p.w p.n x y }
 {
-    on_wall(walled_west(kind, 0), w, x) || on_wall(walled_south(kind, 0), n, y)
+    on_wall(is_walled(p, Edge::West, 0), p.w, x) || on_wall(is_walled(p, Edge::South, 0), p.n, y)
 }
 
-// Four indices: of the cells around a corner, or of the corners of a cell.
-#[derive(Clone, Copy)]
-pub struct Four {
-    pub ne: usize,
-    pub nw: usize,
-    pub sw: usize,
-    pub se: usize,
+// What stands at the corners of a cell, or in the cells around a corner: indices, or a potential vorticity.
+#[derive(Clone, Copy, PartialEq, Eq, Debug)]
+pub struct Corners<T> {
+    pub ne: T,
+    pub nw: T,
+    pub sw: T,
+    pub se: T,
 }
 
 // The cells around corner (x, y): on a wall the cells inside, each as often as 02 counts it. It rules out, for instance: a cell across the wall;
 // the cells of row 0 for row n.
-pub fn cells_around(kind: u8, w: usize, n: usize, x: usize, y: usize) -> Four
-    requires { Corner kind w n x y }
-    ensures { AreCells kind w n x y result }
+pub fn cells_around(p: Parameters, x: usize, y: usize) -> Corners<usize>
+    requires { Corner p.kind p.w p.n x y }
+    ensures { AreCells p.kind p.w p.n x y result }
 {
-    let wall_west = walled_west(kind, 0);
-    let wall_south = walled_south(kind, 0);
-    let east = upper_place(wall_west, w, x);
-    let west = lower_place(wall_west, w, x);
-    let north = upper_place(wall_south, n, y);
-    let south = lower_place(wall_south, n, y);
-    Four {
-        ne: cell_index(w, n, east, north),
-        nw: cell_index(w, n, west, north),
-        sw: cell_index(w, n, west, south),
-        se: cell_index(w, n, east, south),
+    let wall_west = is_walled(p, Edge::West, 0);
+    let wall_south = is_walled(p, Edge::South, 0);
+    let east = upper_place(wall_west, p.w, x);
+    let west = lower_place(wall_west, p.w, x);
+    let north = upper_place(wall_south, p.n, y);
+    let south = lower_place(wall_south, p.n, y);
+    Corners {
+        ne: cell_index(p, east, north),
+        nw: cell_index(p, west, north),
+        sw: cell_index(p, west, south),
+        se: cell_index(p, east, south),
     }
 }
 
 // The corners of cell (i, j), in a grid of corners with so many columns and rows: they wrap where that grid does.
-fn corners_around(columns: usize, rows: usize, i: usize, j: usize) -> Four
+fn corners_around(columns: usize, rows: usize, i: usize, j: usize) -> Corners<usize>
     requires { (columns ≤ 65) × (rows ≤ 65) × (i < columns) × (j < rows) }
     ensures { AreCorners columns rows i j result }
 {
     let east = next(columns, i);
     let south_row = j * columns;
     let north_row = next(rows, j) * columns;
-    Four {
+    Corners {
         ne: north_row + east,
         nw: north_row + i,
         sw: south_row + i,
@@ -324,57 +266,17 @@ fn corners_around(columns: usize, rows: usize, i: usize, j: usize) -> Four
 }
 
 // The same in a grid of that kind. It rules out, for instance: row 0's corners for the last row of a basin; an index by the columns of cells.
-pub fn cell_corners(kind: u8, w: usize, n: usize, i: usize, j: usize) -> Four
-    requires { Cell w n i j }
-    ensures { AreCorners (corners_of (wall_west (boundary_of kind) 0) w) (corners_of (wall_south (boundary_of kind) 0) n) i j result }
+pub fn cell_corners(p: Parameters, i: usize, j: usize) -> Corners<usize>
+    requires { Cell p.w p.n i j }
+    ensures { AreCorners (corners_of (wall_west (boundary_of p.kind) 0) p.w) (corners_of (wall_south (boundary_of p.kind) 0) p.n) i j result }
 {
-    corners_around(corner_columns(kind, w), corner_rows(kind, n), i, j)
+    corners_around(corner_columns(p), corner_rows(p), i, j)
 }
 
-// ---- parts of a work space
+// ---- closed edges of a field
 
-// The m numbers of a work space from place a on. It rules out, for instance: a part of another length; the part one place on.
-pub fn part_of(work: &[i64], a: usize, m: usize) -> &[i64]
-    requires { a + m ≤ length work.now }
-    ensures { result.now ≡ part a m work.now }
-{
-    let end = a + m;
-    &work[a..end]
-}
-
-// Puts the numbers of src into a work space from place a on. It rules out, for instance: another place; a number changed past the
-// part.
-pub fn copy_into(work: &mut [i64], a: usize, src: &[i64])
-    requires { a + length src.now ≤ length work.old }
-    ensures { work.new ≡ replaced a src.now work.old }
-{
-    for k in 0..src.len() {
-        work[a + k] = src[k];
-    }
-}
-
-// Fills d with the m numbers of a work space from place a on. It rules out, for instance: another part; one number for all.
-pub fn copy_out(work: &[i64], a: usize, m: usize, d: &mut [i64])
-    requires { (a + m ≤ length work.now) × (length d.old ≡ m) }
-    ensures { d.new ≡ part a m work.now }
-{
-    for k in 0..m {
-        d[k] = work[a + k];
-    }
-}
-
-// Makes the first m numbers of a work space zero. It rules out, for instance: each made one; a number past them changed.
-pub fn clear(work: &mut [i64], m: usize)
-    requires { m ≤ length work.old }
-    ensures { work.new ≡ filled m (replicate m (pos 0)) work.old }
-{
-    for k in 0..m {
-        work[k] = 0;
-    }
-}
-
-// Puts 0 on the edges that barriers close: f has, from `at` on, a number for this edge of each cell. It rules out, for instance: a 0 on the
-// other edge; the number of the cell before.
+// Puts 0 on the edges that barriers close: f has, from `at` on, a number for this edge of each cell. (Both callers give 0 for `at`; what is
+// promised of other places stays.) It rules out, for instance: a 0 on the other edge; the number of the cell before.
 pub fn clear_barred(f: &mut [i64], at: usize, barriers: &[u8], edge: Edge)
     requires { at + length barriers.now ≤ length f.old }
     ensures { Cleared edge barriers.now at f.old f.new }
@@ -382,9 +284,22 @@ pub fn clear_barred(f: &mut [i64], at: usize, barriers: &[u8], edge: Edge)
     if highest(barriers) == 0 {
         return;
     }
-    for k in 0..barriers.len() {
-        if is_barred(barriers[k], edge) {
+    // f by k, and not zipped: of a slice that an adapter of `iter_mut` goes over, a proof knows the length alone
+    for (k, &barrier) in barriers.iter().enumerate() {
+        if is_barred(barrier, edge) {
             f[at + k] = 0;
         }
+    }
+}
+
+// Copies a slice over another of its length. It rules out, for instance: the first element at every place; the first place left as it was.
+// (The library's `copy_from_slice` is C's `memmove` when built: what links `libbasin.a` would then have to bring that too, and here it need not.)
+pub fn copy<T: Copy>(from: &[T], to: &mut [T])
+    requires { length from.now ≡ length to.old }
+    ensures { to.new ≡ from.now }
+{
+    // `to` by k, and not zipped: of a slice that an adapter of `iter_mut` goes over, a proof knows the length alone
+    for (k, &x) in from.iter().enumerate() {
+        to[k] = x;
     }
 }

@@ -8,7 +8,8 @@ use Rattle.std.specs.Int.Signed.{mag, non_neg}
 use Rattle.std.specs.Int.{Width, w64}
 use mir.Val.{Fits, SFits, hbits, to_z, of_z}
 use Rattle.model.specs.Numbers.{Limits, ◌to◌, Within, eqℤ}
-use Rattle.integers.specs.Laws.{abs_neg, abs-add, abs-mul}
+use Rattle.std.proofs.lemmas.Int.{unsigned_abs-mul}
+use Rattle.integers.specs.Laws.{abs_neg, abs-add}
 use Rattle.integers.specs.Ring.{Expr, var, con, ◌⊕◌, ◌⊖◌, ◌⊗◌, den, ◌and◌, and_l, and_r}
 
 -- ---- the machine
@@ -65,7 +66,7 @@ module _ (ρ : ℕ → ℤ) (A : ℕ → ℕ) (h : (n : ℕ) → nat_abs (ρ n) 
   bounded (con z) = le_refl (nat_abs z)
   bounded (a ⊕ b) = le_trans (abs-add (den ρ a) (den ρ b)) (add-le-add (bounded a) (bounded b))
   bounded (a ⊖ b) = le_trans (abs-add (den ρ a) (neg_ℤ (den ρ b))) (add-le-add (bounded a) (le_trans (le_of_eq (abs_neg (den ρ b))) (bounded b)))
-  bounded (a ⊗ b) = le_trans (le_of_eq (abs-mul (den ρ a) (den ρ b))) (mul-le-mul (bounded a) (bounded b))
+  bounded (a ⊗ b) = le_trans (le_of_eq (unsigned_abs-mul (den ρ a) (den ρ b))) (mul-le-mul (bounded a) (bounded b))
 
   module _ (w : Width) where
     ok : (e : Expr) → T (small w A e) → SFits w (den ρ e)

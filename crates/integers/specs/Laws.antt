@@ -1,6 +1,6 @@
 -- The laws of ℤ that the kit lacks: those of a commutative ring (distributivity, associativity of the product, the product of a
--- negation), and the sizes of sums and products. Assumes nothing.
-use Rattle.std.specs.Prelude.{◌≡◌, refl, Bool, true, false, cond, ℕ, zero, suc, ◌+◌, ◌-◌, ◌*◌, ◌≤◌, ltb}
+-- negation), and the sizes of sums. Assumes nothing.
+use Rattle.std.specs.Prelude.{◌≡◌, refl, Bool, true, false, cond, ℕ, zero, suc, ◌+◌, ◌-◌, ◌≤◌, ltb}
 use Rattle.std.proofs.Common.{sym, ◌∙◌, ap, le_refl, arith, ltb-true, ltb-false}
 use lib.IntN.{ℤ, pos, negsuc, suc_ℤ, pred_ℤ, neg_ℤ, ◌+ℤ◌, ◌-ℤ◌, ◌*ℤ◌, nat_abs, neg_ℤ-+ℤ, one, +ℤ_assoc, +ℤ_comm, +ℤ_idl, +ℤ_invl, suc_ℤ-+ℤ, pred_ℤ-+ℤ, suc_ℤ-*ℤ, pred_ℤ-*ℤ, zero-*ℤ, *ℤ_comm, *ℤ-one, +ℤ-neg_ℤ_cancel}
 
@@ -73,12 +73,6 @@ abs-add (pos a) (pos b) = le_refl (a + b)
 abs-add (pos a) (negsuc b) = either (ltb a (suc b)) (omega arith) (omega arith)
 abs-add (negsuc a) (pos b) = either (ltb b (suc a)) (omega arith) (omega arith)
 abs-add (negsuc a) (negsuc b) = omega arith
-
-pub abs-mul : (x y : ℤ) → nat_abs (x *ℤ y) ≡ nat_abs x * nat_abs y
-abs-mul (pos a) (pos b) = refl
-abs-mul (pos a) (negsuc b) = abs_neg (pos (a * suc b))
-abs-mul (negsuc a) (pos b) = abs_neg (pos (suc a * b))
-abs-mul (negsuc a) (negsuc b) = refl
 
 -- the distance of two numbers that are not negative
 apart : (x y : ℕ) (t : Bool) → ltb x (suc y) ≡ t → nat_abs (cond t (negsuc (suc y - suc x)) (pos (x - suc y))) ≡ (x - suc y) + (suc y - x)

@@ -1,5 +1,7 @@
 -- Rounding: rnd gives the nearest whole number, halves away from zero; and its laws, which is all that other proofs use of it. Assumes nothing.
-use Rattle.std.specs.Prelude.{◌≡◌, refl, ℕ, zero, suc, ◌+◌, ◌-◌, ◌*◌, ◌/◌, ◌%◌, ◌^◌, ◌≤◌, ◌<◌, ℤ, pos, negsuc, neg_ℤ, nat_abs, ◌-ℤ◌, ◌*ℤ◌, ◌≤ℤ◌}
+use Rattle.std.specs.Prelude.{◌≡◌, refl, true, false, ℕ, zero, suc, ◌+◌, ◌-◌, ◌*◌, ◌/◌, ◌%◌, ◌^◌, ◌≤◌, ◌<◌, ℤ, pos, negsuc, neg_ℤ, nat_abs, ◌-ℤ◌, ◌*ℤ◌, ◌≤ℤ◌}
+use Rattle.std.specs.Int.Signed.{lt_z}
+use Rattle.std.proofs.lemmas.Grind.{common_steps}
 use Rattle.std.proofs.Common.{sym, ap, subst, ◌∙◌, mod-lt, div-add-mod', div-lt_iff_lt-mul, mul_comm, mul_assoc, suc-mul, mul_left_comm, arith, leb→le}
 use Rattle.std.proofs.Math.Nat.{div-eq_of_lt}
 use Rattle.model.specs.Numbers.{rnd}
@@ -25,6 +27,17 @@ pub rnd-abs : (a b : ℤ) → nat_abs (rnd a b) ≡ (2 * nat_abs a + nat_abs b) 
 unfolding rnd
 rnd-abs (pos a) b = refl
 rnd-abs (negsuc a) b = abs_neg (pos ((2 * suc a + nat_abs b) / (2 * nat_abs b)))
+
+-- by the sign, from the size rounded
+pub rnd_negative : (a b : ℤ) (q : ℕ) → lt_z a (pos 0) ≡ true → q ≡ (2 * nat_abs a + nat_abs b) / (2 * nat_abs b) → pos 0 -ℤ pos q ≡ rnd a b
+unfolding rnd
+rnd_negative (pos n) b q h e = grind (arith, common_steps)
+rnd_negative (negsuc n) b q h e = grind (arith, common_steps)
+
+pub rnd_nonnegative : (a b : ℤ) (q : ℕ) → lt_z a (pos 0) ≡ false → q ≡ (2 * nat_abs a + nat_abs b) / (2 * nat_abs b) → pos q ≡ rnd a b
+unfolding rnd
+rnd_nonnegative (pos n) b q h e = grind (arith, common_steps)
+rnd_nonnegative (negsuc n) b q h e = grind (arith, common_steps)
 
 half : (m : ℕ) → (2 * 0 + m) / (2 * m) ≡ 0
 half zero = refl

@@ -4,15 +4,61 @@ use Rattle.std.specs.Prelude.{List, [], ◌∷◌, ◌++◌, map, ℕ, ℤ, pos,
 use Rattle.model.specs.Fields.{field_number}
 use Rattle.model.specs.declared.Refusal.{Refusal}
 use Rattle.model.specs.declared.Refusal.TheVariants.{Grid, Lengths, Constants, Value, ClosedEdge, Record, Destination, Milliseconds, NoSuchCell}
-use Rattle.model.specs.declared.Answer.{Answer}
+use Rattle.std.specs.Prelude.{Result, Ok, Err}
+use Rattle.model.specs.declared.Parameters.{Parameters}
+use Rattle.model.specs.declared.Timestamp.{Timestamp}
+use Rattle.model.specs.declared.Field.{Field}
+use Rattle.model.specs.declared.Breach.{Breach}
+use Rattle.model.specs.declared.Header.{Header}
+use Rattle.model.specs.declared.Comparison.{Comparison}
+use Rattle.model.specs.declared.Comparison.TheVariants.{Same, FirstNewer, SecondNewer, Conflict}
+use Rattle.model.specs.declared.CompareError.{CompareError}
+use Rattle.model.specs.declared.CompareError.TheVariants.{First, Second}
+use Rattle.model.specs.declared.StepError.{StepError}
+use Rattle.model.specs.declared.RunError.{RunError}
 use Rattle.model.specs.declared.ProbeAnswer.{ProbeAnswer}
-use Rattle.model.specs.declared.ProbeGridAnswer.{ProbeGridAnswer}
-use Rattle.model.specs.declared.StepAnswer.{StepAnswer}
-use Rattle.model.specs.declared.RunAnswer.{RunAnswer}
-use Rattle.model.specs.declared.TotalAnswer.{TotalAnswer}
-use Rattle.model.specs.declared.WriteAnswer.{WriteAnswer}
-use Rattle.model.specs.declared.ReadAnswer.{ReadAnswer}
-use Rattle.model.specs.declared.CompareAnswer.{CompareAnswer}
+use Rattle.model.specs.declared.Precision.{Precision}
+
+-- ---- what each call answers
+
+-- of tests, and of a call that fills: nothing, or the first refusal
+abbrev pub Answer : Type 0
+Answer = Result Unit Refusal
+
+abbrev pub ProbeGridAnswer : Type 0
+ProbeGridAnswer = Result Precision Refusal
+
+abbrev pub StepAnswer : Type 0
+StepAnswer = Result Unit StepError
+
+-- the number of steps done
+abbrev pub RunAnswer : Type 0
+RunAnswer = Result ℕ RunError
+
+abbrev pub TotalAnswer : Type 0
+TotalAnswer = Result ℤ Refusal
+
+-- the number of bytes written
+abbrev pub WriteAnswer : Type 0
+WriteAnswer = Result ℕ Refusal
+
+abbrev pub ReadAnswer : Type 0
+ReadAnswer = Result Header Refusal
+
+abbrev pub CompareAnswer : Type 0
+CompareAnswer = Result Comparison CompareError
+
+-- by their parts
+abbrev pub breach : ℕ → Field → ℕ → Breach
+breach p f k = record { pass = p; field = f; cell = k }
+
+abbrev pub header : Parameters → Timestamp → Header
+header p t = record { parameters = p; timestamp = t }
+
+-- a step is a run of one: why it is not done, by why that run is not finished
+abbrev pub step_error : RunError → StepError
+step_error (RunError.Refused r) = StepError.Refused r
+step_error (RunError.Stopped m x) = StepError.OutOfBounds x
 
 -- ---- refusals: the number, then what is told with it; one line for each
 
@@ -44,13 +90,17 @@ told r = whole (refusal_numbers r)
 
 -- of the tests, and of a call that fills
 abbrev pub answer_numbers : Answer → List ℕ
-answer_numbers Answer.Accepted = 0 ∷ []
-answer_numbers (Answer.Refused r) = refusal_numbers r
+answer_numbers (Ok x) = 0 ∷ []
+answer_numbers (Err r) = refusal_numbers r
 
 abbrev pub told_answer : Answer → List ℤ
 told_answer a = whole (answer_numbers a)
 
 -- of a probe: after the 0, 0 for exact and 1 for near. Its doubles stand beside the numbers
+abbrev pub precision_numbers : Precision → List ℕ
+precision_numbers Precision.Exact = 0 ∷ 0 ∷ []
+precision_numbers Precision.Near = 0 ∷ 1 ∷ []
+
 abbrev pub probe_numbers : ProbeAnswer → List ℕ
 probe_numbers (ProbeAnswer.Exact a b c) = 0 ∷ 0 ∷ []
 probe_numbers (ProbeAnswer.Near a b c) = 0 ∷ 1 ∷ []
@@ -65,76 +115,78 @@ abbrev pub told_probe : ProbeAnswer → List ℤ × List Float
 told_probe a = (whole (probe_numbers a), doubles_in a)
 
 abbrev pub probe_grid_numbers : ProbeGridAnswer → List ℕ
-probe_grid_numbers ProbeGridAnswer.Exact = 0 ∷ 0 ∷ []
-probe_grid_numbers ProbeGridAnswer.Near = 0 ∷ 1 ∷ []
-probe_grid_numbers (ProbeGridAnswer.Refused r) = refusal_numbers r
+probe_grid_numbers (Ok x) = precision_numbers x
+probe_grid_numbers (Err r) = refusal_numbers r
 
 abbrev pub told_probe_grid : ProbeGridAnswer → List ℤ
 told_probe_grid a = whole (probe_grid_numbers a)
 
 -- refusal 6: pass, field, cell
 abbrev pub step_numbers : StepAnswer → List ℕ
-step_numbers StepAnswer.Done = 0 ∷ []
-step_numbers (StepAnswer.Refused r) = refusal_numbers r
-step_numbers (StepAnswer.OutOfBounds p f k) = 6 ∷ p ∷ field_number f ∷ k ∷ []
+step_numbers (Ok x) = 0 ∷ []
+step_numbers (Err (StepError.Refused r)) = refusal_numbers r
+step_numbers (Err (StepError.OutOfBounds x)) = 6 ∷ x.pass ∷ field_number x.field ∷ x.cell ∷ []
 
 abbrev pub told_step : StepAnswer → List ℤ
 told_step a = whole (step_numbers a)
 
 -- the number of steps done; beside it the refusal 6 that stopped the run
 abbrev pub run_numbers : RunAnswer → List ℕ
-run_numbers (RunAnswer.Finished m) = 0 ∷ m ∷ []
-run_numbers (RunAnswer.Refused r) = refusal_numbers r
-run_numbers (RunAnswer.Stopped m p f k) = 6 ∷ p ∷ field_number f ∷ k ∷ m ∷ []
+run_numbers (Ok m) = 0 ∷ m ∷ []
+run_numbers (Err (RunError.Refused r)) = refusal_numbers r
+run_numbers (Err (RunError.Stopped m x)) = 6 ∷ x.pass ∷ field_number x.field ∷ x.cell ∷ m ∷ []
 
 abbrev pub told_run : RunAnswer → List ℤ
 told_run a = whole (run_numbers a)
 
 -- a total has a sign, so a caller of the C interface reads it beside the numbers
 abbrev pub total_numbers : TotalAnswer → List ℕ
-total_numbers (TotalAnswer.Total x) = 0 ∷ []
-total_numbers (TotalAnswer.Refused r) = refusal_numbers r
+total_numbers (Ok x) = 0 ∷ []
+total_numbers (Err r) = refusal_numbers r
 
 abbrev pub total_in : TotalAnswer → List ℤ
-total_in (TotalAnswer.Total x) = x ∷ []
-total_in (TotalAnswer.Refused r) = []
+total_in (Ok x) = x ∷ []
+total_in (Err r) = []
 
 abbrev pub told_total : TotalAnswer → List ℤ
 told_total a = whole (total_numbers a) ++ total_in a
 
 abbrev pub write_numbers : WriteAnswer → List ℕ
-write_numbers (WriteAnswer.Written m) = 0 ∷ m ∷ []
-write_numbers (WriteAnswer.Refused r) = refusal_numbers r
+write_numbers (Ok m) = 0 ∷ m ∷ []
+write_numbers (Err r) = refusal_numbers r
 
 abbrev pub told_write : WriteAnswer → List ℤ
 told_write a = whole (write_numbers a)
 
 -- w, n, kind, seconds and milliseconds; G, c and R have a sign, so they stand beside the numbers, as a total does
 abbrev pub read_numbers : ReadAnswer → List ℕ
-read_numbers (ReadAnswer.Read p t) = 0 ∷ p.w ∷ p.n ∷ p.kind ∷ t.seconds ∷ t.milliseconds ∷ []
-read_numbers (ReadAnswer.Refused r) = refusal_numbers r
+read_numbers (Ok x) =
+    0 ∷ x.parameters.w ∷ x.parameters.n ∷ x.parameters.kind ∷ x.timestamp.seconds ∷ x.timestamp.milliseconds ∷ []
+read_numbers (Err r) = refusal_numbers r
 
 abbrev pub constants_in : ReadAnswer → List ℤ
-constants_in (ReadAnswer.Read p t) = p.g ∷ p.c ∷ p.r ∷ []
-constants_in (ReadAnswer.Refused r) = []
+constants_in (Ok x) = x.parameters.g ∷ x.parameters.c ∷ x.parameters.r ∷ []
+constants_in (Err r) = []
 
 -- in 01's order: w, n, kind, G, c, R and the timestamp; its milliseconds come last
 abbrev pub told_read : ReadAnswer → List ℤ
-told_read (ReadAnswer.Read p t) =
+told_read (Ok x) =
+    let p = x.parameters in
+    let t = x.timestamp in
     pos 0 ∷ pos p.w ∷ pos p.n ∷ pos p.kind ∷ p.g ∷ p.c ∷ p.r ∷ pos t.seconds ∷ pos t.milliseconds ∷ []
-told_read (ReadAnswer.Refused r) = told r
+told_read (Err r) = told r
 
 -- which record is refused stands straight after the number
 abbrev pub refusal_numbers_of : ℕ → Refusal → List ℕ
 refusal_numbers_of k r = number r ∷ k ∷ values r
 
 abbrev pub compare_numbers : CompareAnswer → List ℕ
-compare_numbers CompareAnswer.Same = 0 ∷ 0 ∷ []
-compare_numbers CompareAnswer.FirstNewer = 0 ∷ 1 ∷ []
-compare_numbers CompareAnswer.SecondNewer = 0 ∷ 2 ∷ []
-compare_numbers CompareAnswer.Conflict = 0 ∷ 3 ∷ []
-compare_numbers (CompareAnswer.FirstRefused r) = refusal_numbers_of 1 r
-compare_numbers (CompareAnswer.SecondRefused r) = refusal_numbers_of 2 r
+compare_numbers (Ok Same) = 0 ∷ 0 ∷ []
+compare_numbers (Ok FirstNewer) = 0 ∷ 1 ∷ []
+compare_numbers (Ok SecondNewer) = 0 ∷ 2 ∷ []
+compare_numbers (Ok Conflict) = 0 ∷ 3 ∷ []
+compare_numbers (Err (First r)) = refusal_numbers_of 1 r
+compare_numbers (Err (Second r)) = refusal_numbers_of 2 r
 
 abbrev pub told_compare : CompareAnswer → List ℤ
 told_compare a = whole (compare_numbers a)

@@ -1,6 +1,6 @@
 -- The theorems, as statements: of the promises of the public calls, and of the definitions behind them. The crate `theorems` proves each.
 use Rattle.std.specs.Prelude.{◌≡◌, Bool, false, ◌↔◌, ◌⊎◌, List, [], ◌∷◌, ◌++◌, ℕ, zero, suc, ◌+◌, ◌-◌, ◌*◌, ◌^◌, ◌≤◌, ◌<◌, T, ℤ, pos, neg_ℤ, nat_abs, ◌+ℤ◌, ◌-ℤ◌, ◌*ℤ◌, length, get_or, take, drop, replicate, ◌≤ℤ◌, Float}
-use Rattle.std.proofs.Math.Option.{Option, none, some}
+use Rattle.std.specs.Prelude.{Option, None, Some}
 use Rattle.std.specs.Float.{nan}
 use Rattle.model.specs.Numbers.{rnd, vorticity_limits, inflow_limits, longest_run, most_milliseconds, tendency_scale, divergence_scale}
 use Rattle.model.specs.Grid.{at, by_cell, first_from}
@@ -23,16 +23,14 @@ use Rattle.model.specs.declared.Timestamp.{Timestamp}
 use Rattle.model.specs.declared.Field.{Field}
 use Rattle.model.specs.declared.Refusal.{Refusal}
 use Rattle.model.specs.declared.Refusal.TheVariants.{Record}
-use Rattle.model.specs.declared.Answer.{Answer}
+use Rattle.std.specs.Prelude.{Ok, Err}
 use Rattle.model.specs.declared.ProbeAnswer.{ProbeAnswer}
-use Rattle.model.specs.declared.ProbeGridAnswer.{ProbeGridAnswer}
-use Rattle.model.specs.declared.StepAnswer.{StepAnswer}
-use Rattle.model.specs.declared.RunAnswer.{RunAnswer}
-use Rattle.model.specs.declared.TotalAnswer.{TotalAnswer}
-use Rattle.model.specs.declared.WriteAnswer.{WriteAnswer}
-use Rattle.model.specs.declared.ReadAnswer.{ReadAnswer}
-use Rattle.model.specs.declared.CompareAnswer.{CompareAnswer}
-use Rattle.model.specs.declared.CompareAnswer.TheVariants.{Same, FirstNewer, SecondNewer, Conflict, FirstRefused, SecondRefused}
+use Rattle.model.specs.Answers.{Answer, CompareAnswer, ProbeGridAnswer, ReadAnswer, RunAnswer, StepAnswer, TotalAnswer, WriteAnswer, breach, header}
+use Rattle.model.specs.declared.StepError.{StepError}
+use Rattle.model.specs.declared.RunError.{RunError}
+use Rattle.model.specs.declared.Precision.{Precision}
+use Rattle.model.specs.declared.Comparison.TheVariants.{Same, FirstNewer, SecondNewer, Conflict}
+use Rattle.model.specs.declared.CompareError.TheVariants.{First, Second}
 
 -- ==== demand 1: the full result, or a refusal where its cause holds and only there
 
@@ -44,7 +42,7 @@ abbrev pub Clean : (ℕ → Bool) → ℕ → Type 0
 Clean bad m = (i : ℕ) → i < m → bad i ≡ false
 
 abbrev pub ScanClaim : Type 0
-ScanClaim = (bad : ℕ → Bool) (m k : ℕ) → (first_from bad m 0 ≡ some k) ↔ FirstAt bad m k
+ScanClaim = (bad : ℕ → Bool) (m k : ℕ) → (first_from bad m 0 ≡ Some k) ↔ FirstAt bad m k
 
 -- what a test asks, and how it comes to find r: what it asks does not hold, or it names the lowest bad index
 abbrev pub Passes : {R : Type 0} → Test R → Type 0
@@ -67,8 +65,8 @@ Cause (t ∷ l) r = Fails t r ⊎ (Passes t × Cause l r)
 
 -- a list of tests finds nothing exactly where each passes, and r exactly where r's cause holds
 pub record TestClaim (R : Type 0) : Type 0 where
-  pub passes : (l : List (Test R)) → (first_found l ≡ none) ↔ EachPasses l
-  pub finds : (l : List (Test R)) (r : R) → (first_found l ≡ some r) ↔ Cause l r
+  pub passes : (l : List (Test R)) → (first_found l ≡ None) ↔ EachPasses l
+  pub finds : (l : List (Test R)) (r : R) → (first_found l ≡ Some r) ↔ Cause l r
 
 -- tests 1 to 5 pass exactly the states within the limits
 abbrev pub LimitsClaim : Type 0
@@ -97,29 +95,29 @@ StepTaken s inflow room = WithinLimits s × FieldWithin inflow_limits (cells s) 
 -- step is stuck with 6, or done, exactly where the two passes are
 pub record CausesClaim : Type 0 where
   pub vorticity : (s : State) (d d' : List ℤ) (r : Refusal)
-      → VorticityPromise s d (Answer.Refused r) d' ↔ (Cause (vorticity_tests s (length d)) r × (d' ≡ d))
+      → VorticityPromise s d (Err r) d' ↔ (Cause (vorticity_tests s (length d)) r × (d' ≡ d))
   pub tendencies : (s : State) (q dh du dv dh' du' dv' : List ℤ) (r : Refusal)
-      → TendenciesPromise s q dh du dv (Answer.Refused r) dh' du' dv'
+      → TendenciesPromise s q dh du dv (Err r) dh' du' dv'
       ↔ (Cause (tendencies_tests s q (length dh) (length du) (length dv)) r × (dh' ≡ dh) × (du' ≡ du) × (dv' ≡ dv))
   pub probe : (s : State) (q : List ℤ) (k : ℕ) (r : Refusal) → ProbePromise s q k (ProbeAnswer.Refused r) ↔ Cause (probe_tests s q k) r
   pub probe-grid : (s : State) (q : List ℤ) (dh du dv dh' du' dv' : List Float) (r : Refusal)
-      → ProbeGridPromise s q dh du dv (ProbeGridAnswer.Refused r) dh' du' dv'
+      → ProbeGridPromise s q dh du dv (Err r) dh' du' dv'
       ↔ (Cause (tendencies_tests s q (length dh) (length du) (length dv)) r × (dh' ≡ dh) × (du' ≡ du) × (dv' ≡ dv))
   pub write : (s : State) (t : Timestamp) (d d' : List ℕ) (r : Refusal)
-      → WritePromise s t d (WriteAnswer.Refused r) d' ↔ (Cause (write_tests s t (length d)) r × (d' ≡ d))
-  pub depth : (s : State) (r : Refusal) → TotalDepthPromise s (TotalAnswer.Refused r) ↔ Cause (total_tests s) r
-  pub energy : (s : State) (r : Refusal) → TotalEnergyPromise s (TotalAnswer.Refused r) ↔ Cause (total_tests s) r
+      → WritePromise s t d (Err r) d' ↔ (Cause (write_tests s t (length d)) r × (d' ≡ d))
+  pub depth : (s : State) (r : Refusal) → TotalDepthPromise s (Err r) ↔ Cause (total_tests s) r
+  pub energy : (s : State) (r : Refusal) → TotalEnergyPromise s (Err r) ↔ Cause (total_tests s) r
   pub step : (s s' : State) (inflow work work' : List ℤ) (r : Refusal)
-      → StepPromise s inflow work (StepAnswer.Refused r) s' work'
-      ↔ (Cause (step_tests s inflow (length work)) r × (s' ≡ s) × (work' ≡ work_left (some r) s work))
+      → StepPromise s inflow work (Err (StepError.Refused r)) s' work'
+      ↔ (Cause (step_tests s inflow (length work)) r × (s' ≡ s) × (work' ≡ work_left (Some r) s work))
   pub run : (s s' : State) (inflow : List ℤ) (m : ℕ) (work work' : List ℤ) (r : Refusal)
-      → RunPromise s inflow m work (RunAnswer.Refused r) s' work'
-      ↔ (Cause (run_tests s inflow m (length work)) r × (s' ≡ s) × (work' ≡ work_left (some r) s work))
+      → RunPromise s inflow m work (Err (RunError.Refused r)) s' work'
+      ↔ (Cause (run_tests s inflow m (length work)) r × (s' ≡ s) × (work' ≡ work_left (Some r) s work))
   pub step-6 : (s s' : State) (inflow work work' : List ℤ) (p k : ℕ) (f : Field)
-      → StepPromise s inflow work (StepAnswer.OutOfBounds p f k) s' work'
+      → StepPromise s inflow work (Err (StepError.OutOfBounds (breach p f k))) s' work'
       ↔ (StepTaken s inflow (length work) × (two_pass s inflow ≡ stuck p (place f k)) × (s' ≡ s) × (work' ≡ cleared s work))
   pub step-done : (s s' : State) (inflow work work' : List ℤ)
-      → StepPromise s inflow work StepAnswer.Done s' work' ↔ (StepTaken s inflow (length work) × (two_pass s inflow ≡ moved s') × (work' ≡ cleared s work))
+      → StepPromise s inflow work (Ok tt) s' work' ↔ (StepTaken s inflow (length work) × (two_pass s inflow ≡ moved s') × (work' ≡ cleared s work))
 
 -- ---- why a record is refused: 7, then 1, 2, 8, 3, 9, 4, 5
 
@@ -193,9 +191,9 @@ pub record ReadCausesClaim : Type 0 where
   pub refuses : (rec rooms : List ℕ) (r : Refusal) → (decode rec rooms ≡ refused r) ↔ ReadCause rec rooms r
   pub accepts : (rec rooms : List ℕ) (s : State) (t : Timestamp) → (decode rec rooms ≡ accepted s t) ↔ Readable rec rooms s t
   pub read-refuses : (rec : List ℕ) (d d' : Fields) (r : Refusal)
-      → ReadPromise rec d (ReadAnswer.Refused r) d' ↔ (ReadCause rec (rooms_in d) r × (d' ≡ d))
+      → ReadPromise rec d (Err r) d' ↔ (ReadCause rec (rooms_in d) r × (d' ≡ d))
   pub read-accepts : (rec : List ℕ) (d d' : Fields) (p : Parameters) (t : Timestamp)
-      → ReadPromise rec d (ReadAnswer.Read p t) d'
+      → ReadPromise rec d (Ok (header p t)) d'
       ↔ ((s : State) × Readable rec (rooms_in d) s t × (p ≡ parameters_of s) × (d' ≡ put s d))
 
 -- each promise can be met, for any numbers and any lengths; that of a call that fills for any test, count and destinations
@@ -246,18 +244,18 @@ held (d ∷ ds) = d.old ∷ held ds
 
 abbrev pub FillRefused : (B A : Type 0) → Type 0
 FillRefused B A = (by : Option Refusal → B) (tell : B → List ℤ) (test : Option Refusal) (m : ℕ) (ds : List (Filling A)) (a : B) (ds' : List (List A))
-    → (a ≡ by none → ⊥) → Fills by tell test m ds a ds' → ds' ≡ held ds
+    → (a ≡ by None → ⊥) → Fills by tell test m ds a ds' → ds' ≡ held ds
 
 pub record RefusedClaim : Type 0 where
   pub fill : FillRefused Answer ℤ
   pub probe-grid : FillRefused ProbeGridAnswer Float
   pub write : FillRefused WriteAnswer ℕ
-  pub step : (s s' : State) (inflow work work' : List ℤ) (r : Refusal) → StepPromise s inflow work (StepAnswer.Refused r) s' work' → s' ≡ s
+  pub step : (s s' : State) (inflow work work' : List ℤ) (r : Refusal) → StepPromise s inflow work (Err (StepError.Refused r)) s' work' → s' ≡ s
   pub step-6 : (s s' : State) (inflow work work' : List ℤ) (p k : ℕ) (f : Field)
-      → StepPromise s inflow work (StepAnswer.OutOfBounds p f k) s' work' → s' ≡ s
-  pub run : (s s' : State) (inflow work work' : List ℤ) (m : ℕ) (r : Refusal) → RunPromise s inflow m work (RunAnswer.Refused r) s' work'
+      → StepPromise s inflow work (Err (StepError.OutOfBounds (breach p f k))) s' work' → s' ≡ s
+  pub run : (s s' : State) (inflow work work' : List ℤ) (m : ℕ) (r : Refusal) → RunPromise s inflow m work (Err (RunError.Refused r)) s' work'
       → s' ≡ s
-  pub read : (rec : List ℕ) (d d' : Fields) (r : Refusal) → ReadPromise rec d (ReadAnswer.Refused r) d' → d' ≡ d
+  pub read : (rec : List ℕ) (d d' : Fields) (r : Refusal) → ReadPromise rec d (Err r) d' → d' ≡ d
 
 -- step and run refuse with 1 to 6 alone. After 1 and 2 the work space is untouched; in every other outcome its first 8w·n numbers are
 -- zero, and the rest is as it was
@@ -265,14 +263,14 @@ abbrev pub RefusedWork : Refusal → State → List ℤ → List ℤ → Type 0
 RefusedWork r s work work' = (number r ≤ 5) × (number r ≤ 2 → work' ≡ work) × (2 < number r → work' ≡ cleared s work)
 
 abbrev pub StepWork : StepAnswer → State → List ℤ → List ℤ → Type 0
-StepWork StepAnswer.Done s work work' = work' ≡ cleared s work
-StepWork (StepAnswer.Refused r) s work work' = RefusedWork r s work work'
-StepWork (StepAnswer.OutOfBounds p f k) s work work' = work' ≡ cleared s work
+StepWork (Ok x) s work work' = work' ≡ cleared s work
+StepWork (Err (StepError.Refused r)) s work work' = RefusedWork r s work work'
+StepWork (Err (StepError.OutOfBounds x)) s work work' = work' ≡ cleared s work
 
 abbrev pub RunWork : RunAnswer → State → List ℤ → List ℤ → Type 0
-RunWork (RunAnswer.Finished m) s work work' = work' ≡ cleared s work
-RunWork (RunAnswer.Refused r) s work work' = RefusedWork r s work work'
-RunWork (RunAnswer.Stopped m p f k) s work work' = work' ≡ cleared s work
+RunWork (Ok m) s work work' = work' ≡ cleared s work
+RunWork (Err (RunError.Refused r)) s work work' = RefusedWork r s work work'
+RunWork (Err (RunError.Stopped m x)) s work work' = work' ≡ cleared s work
 
 pub record WorkClaim : Type 0 where
   pub step : (s s' : State) (inflow work work' : List ℤ) (answer : StepAnswer) → StepPromise s inflow work answer s' work'
@@ -308,7 +306,7 @@ OwnVorticityClaim = (s : State) → WithinLimits s → FieldWithin vorticity_lim
 
 -- an accepted potential vorticity call fills it in, and it may then be lent to the tendency call
 abbrev pub VorticityClaim : Type 0
-VorticityClaim = (s : State) (d d' : List ℤ) → VorticityPromise s d Answer.Accepted d'
+VorticityClaim = (s : State) (d d' : List ℤ) → VorticityPromise s d (Ok tt) d'
     → HoldsCorners s d' (vorticity_at s) × FieldWithin vorticity_limits (corners s) (take (corners s) d')
     × (drop (corners s) d' ≡ drop (corners s) d)
 
@@ -375,11 +373,11 @@ pub record CellCornersClaim : Type 0 where
 abbrev pub TendenciesAcceptedClaim : Type 0
 TendenciesAcceptedClaim = (s : State) (q dh du dv dh' du' dv' : List ℤ) (answer : Answer)
     → TendenciesPromise s q dh du dv answer dh' du' dv'
-    → (answer ≡ Answer.Accepted) ↔ (WithinLimits s × FieldWithin vorticity_limits (corners s) q × (cells s ≤ length dh) × (cells s ≤ length du) × (cells s ≤ length dv))
+    → (answer ≡ Ok tt) ↔ (WithinLimits s × FieldWithin vorticity_limits (corners s) q × (cells s ≤ length dh) × (cells s ≤ length du) × (cells s ≤ length dv))
 
 -- it then fills in -D, Tu and Tv
 abbrev pub TendenciesClaim : Type 0
-TendenciesClaim = (s : State) (q dh du dv dh' du' dv' : List ℤ) → TendenciesPromise s q dh du dv Answer.Accepted dh' du' dv'
+TendenciesClaim = (s : State) (q dh du dv dh' du' dv' : List ℤ) → TendenciesPromise s q dh du dv (Ok tt) dh' du' dv'
     → Holds s dh' (λ i j. neg_ℤ (D s i j)) × Holds s du' (tendency_u s q) × Holds s dv' (tendency_v s q)
     × (drop (cells s) dh' ≡ drop (cells s) dh) × (drop (cells s) du' ≡ drop (cells s) du) × (drop (cells s) dv' ≡ drop (cells s) dv)
 
@@ -418,10 +416,10 @@ pub record ProbeClaim : Type 0 where
       → ((a : Float) × (b : Float) × (c : Float) × (answer ≡ ProbeAnswer.Near a b c))
       ↔ (ProbeTaken s q × (k < cells s) × (Narrow s q → ⊥))
   pub equal : (s : State) (q dh du dv dh' du' dv' : List ℤ) (k : ℕ) (a b c : Float) → ProbePromise s q k (ProbeAnswer.Exact a b c)
-      → TendenciesPromise s q dh du dv Answer.Accepted dh' du' dv'
+      → TendenciesPromise s q dh du dv (Ok tt) dh' du' dv'
       → Equal k a b c dh' du' dv'
   pub close : (s : State) (q dh du dv dh' du' dv' : List ℤ) (k : ℕ) (a b c : Float) → ProbePromise s q k (ProbeAnswer.Near a b c)
-      → TendenciesPromise s q dh du dv Answer.Accepted dh' du' dv'
+      → TendenciesPromise s q dh du dv (Ok tt) dh' du' dv'
       → Close k a b c dh' du' dv'
 
 -- destinations of doubles: w·n places in each
@@ -433,26 +431,26 @@ DoublesRoom s dh du dv = (cells s ≤ length dh) × (cells s ≤ length du) × (
 pub record ProbeGridClaim : Type 0 where
   pub exact : (s : State) (q : List ℤ) (dh du dv dh' du' dv' : List Float) (answer : ProbeGridAnswer)
       → ProbeGridPromise s q dh du dv answer dh' du' dv'
-      → (answer ≡ ProbeGridAnswer.Exact) ↔ (ProbeTaken s q × DoublesRoom s dh du dv × Narrow s q)
+      → (answer ≡ Ok Precision.Exact) ↔ (ProbeTaken s q × DoublesRoom s dh du dv × Narrow s q)
   pub near : (s : State) (q : List ℤ) (dh du dv dh' du' dv' : List Float) (answer : ProbeGridAnswer)
       → ProbeGridPromise s q dh du dv answer dh' du' dv'
-      → (answer ≡ ProbeGridAnswer.Near) ↔ (ProbeTaken s q × DoublesRoom s dh du dv × (Narrow s q → ⊥))
+      → (answer ≡ Ok Precision.Near) ↔ (ProbeTaken s q × DoublesRoom s dh du dv × (Narrow s q → ⊥))
   pub exact-cell : (s : State) (q : List ℤ) (dh du dv dh' du' dv' : List Float) (k : ℕ) → k < cells s
-      → ProbeGridPromise s q dh du dv ProbeGridAnswer.Exact dh' du' dv'
+      → ProbeGridPromise s q dh du dv (Ok Precision.Exact) dh' du' dv'
       → ProbePromise s q k (ProbeAnswer.Exact (get_or dh' k nan) (get_or du' k nan) (get_or dv' k nan))
   pub near-cell : (s : State) (q : List ℤ) (dh du dv dh' du' dv' : List Float) (k : ℕ) → k < cells s
-      → ProbeGridPromise s q dh du dv ProbeGridAnswer.Near dh' du' dv'
+      → ProbeGridPromise s q dh du dv (Ok Precision.Near) dh' du' dv'
       → ProbePromise s q k (ProbeAnswer.Near (get_or dh' k nan) (get_or du' k nan) (get_or dv' k nan))
   pub rest : (s : State) (q : List ℤ) (dh du dv dh' du' dv' : List Float) (answer : ProbeGridAnswer)
       → ProbeGridPromise s q dh du dv answer dh' du' dv'
       → (drop (cells s) dh' ≡ drop (cells s) dh) × (drop (cells s) du' ≡ drop (cells s) du) × (drop (cells s) dv' ≡ drop (cells s) dv)
   pub equal : (s : State) (q th tu tv th' tu' tv' : List ℤ) (dh du dv dh' du' dv' : List Float) (k : ℕ) → k < cells s
-      → ProbeGridPromise s q dh du dv ProbeGridAnswer.Exact dh' du' dv'
-      → TendenciesPromise s q th tu tv Answer.Accepted th' tu' tv'
+      → ProbeGridPromise s q dh du dv (Ok Precision.Exact) dh' du' dv'
+      → TendenciesPromise s q th tu tv (Ok tt) th' tu' tv'
       → Equal k (get_or dh' k nan) (get_or du' k nan) (get_or dv' k nan) th' tu' tv'
   pub close : (s : State) (q th tu tv th' tu' tv' : List ℤ) (dh du dv dh' du' dv' : List Float) (k : ℕ) → k < cells s
-      → ProbeGridPromise s q dh du dv ProbeGridAnswer.Near dh' du' dv'
-      → TendenciesPromise s q th tu tv Answer.Accepted th' tu' tv'
+      → ProbeGridPromise s q dh du dv (Ok Precision.Near) dh' du' dv'
+      → TendenciesPromise s q th tu tv (Ok tt) th' tu' tv'
       → Close k (get_or dh' k nan) (get_or du' k nan) (get_or dv' k nan) th' tu' tv'
 
 -- a pass moves the velocities of its base by what the calls of potential vorticity and tendencies fill in for the state that it is given: its own q, and the
@@ -464,8 +462,8 @@ pub record Given (s : State) (du dv : List ℤ) : Type 0 where
   pub du₀ : List ℤ
   pub dv₀ : List ℤ
   pub dh : List ℤ
-  pub vorticity : VorticityPromise s d Answer.Accepted q
-  pub tendencies : TendenciesPromise s (take (corners s) q) dh₀ du₀ dv₀ Answer.Accepted dh du dv
+  pub vorticity : VorticityPromise s d (Ok tt) q
+  pub tendencies : TendenciesPromise s (take (corners s) q) dh₀ du₀ dv₀ (Ok tt) dh du dv
 
 abbrev pub PassClaim : Type 0
 PassClaim = (base given : State) (inflow du dv : List ℤ) → given.w ≡ base.w → given.n ≡ base.n → Given given du dv
@@ -477,9 +475,9 @@ PassClaim = (base given : State) (inflow du dv : List ℤ) → given.w ≡ base.
 pub record StepClaim : Type 0 where
   pub moves : (s t : State) (inflow : List ℤ) → WithinLimits s
       → (two_pass s inflow ≡ moved t) ↔ (WithinLimits (pass s s inflow) × WithinLimits t × (t ≡ pass s (pass s s inflow) inflow))
-  pub stuck-1 : (s : State) (inflow : List ℤ) (x : Place) → leaves (pass s s inflow) ≡ some x → two_pass s inflow ≡ stuck 1 x
-  pub stuck-2 : (s : State) (inflow : List ℤ) (x : Place) → leaves (pass s s inflow) ≡ none
-      → leaves (pass s (pass s s inflow) inflow) ≡ some x
+  pub stuck-1 : (s : State) (inflow : List ℤ) (x : Place) → leaves (pass s s inflow) ≡ Some x → two_pass s inflow ≡ stuck 1 x
+  pub stuck-2 : (s : State) (inflow : List ℤ) (x : Place) → leaves (pass s s inflow) ≡ None
+      → leaves (pass s (pass s s inflow) inflow) ≡ Some x
       → two_pass s inflow ≡ stuck 2 x
 
 -- the state after m definition steps, each of which leads on
@@ -489,9 +487,9 @@ pub data Steps (inflow : List ℤ) : ℕ → State → State → Type 0 where
 
 -- why a run of m steps ended at t: it was refused, its length was reached, or the next step is refused with the 6 that it tells
 abbrev pub Ended : List ℤ → ℕ → RunAnswer → State → Type 0
-Ended inflow m (RunAnswer.Refused r) t = Unit
-Ended inflow m (RunAnswer.Finished k) t = k ≡ m
-Ended inflow m (RunAnswer.Stopped k p f c) t = (k < m) × (two_pass t inflow ≡ stuck p (place f c))
+Ended inflow m (Err (RunError.Refused r)) t = Unit
+Ended inflow m (Ok k) t = k ≡ m
+Ended inflow m (Err (RunError.Stopped k x)) t = (k < m) × (two_pass t inflow ≡ stuck x.pass (place x.field x.cell))
 
 -- the number that a run answers is the number of definition steps that lead to the state left
 abbrev pub RunClaim : Type 0
@@ -506,35 +504,35 @@ RunTaken s inflow m room = StepTaken s inflow room × (m ≤ longest_run)
 -- exactly where k steps lead on and the next one is stuck as it tells
 pub record RunEndsClaim : Type 0 where
   pub finished : (s s' : State) (inflow work work' : List ℤ) (m k : ℕ)
-      → RunPromise s inflow m work (RunAnswer.Finished k) s' work'
+      → RunPromise s inflow m work (Ok k) s' work'
       ↔ (RunTaken s inflow m (length work) × (k ≡ m) × Steps inflow m s s' × (work' ≡ cleared s work))
   pub stopped : (s s' : State) (inflow work work' : List ℤ) (m k p c : ℕ) (f : Field)
-      → RunPromise s inflow m work (RunAnswer.Stopped k p f c) s' work'
+      → RunPromise s inflow m work (Err (RunError.Stopped k (breach p f c))) s' work'
       ↔ (RunTaken s inflow m (length work) × (k < m) × Steps inflow k s s' × (two_pass s' inflow ≡ stuck p (place f c))
       × (work' ≡ cleared s work))
 
 -- a run that is not refused leaves what as many public step calls leave; where it stopped, the next one answers the 6 that it tells
 abbrev pub NextStep : List ℤ → (room : ℕ) → RunAnswer → State → Type 0
-NextStep inflow room (RunAnswer.Refused r) t = Unit
-NextStep inflow room (RunAnswer.Finished k) t = Unit
-NextStep inflow room (RunAnswer.Stopped k p f c) t = step_answer t inflow room ≡ StepAnswer.OutOfBounds p f c
+NextStep inflow room (Err (RunError.Refused r)) t = Unit
+NextStep inflow room (Ok k) t = Unit
+NextStep inflow room (Err (RunError.Stopped k x)) t = step_answer t inflow room ≡ Err (StepError.OutOfBounds x)
 
 abbrev pub RunStepsClaim : Type 0
 RunStepsClaim = (s s' : State) (inflow work work' lent : List ℤ) (m : ℕ) (answer : RunAnswer) → RunPromise s inflow m work answer s' work'
-    → ((r : Refusal) → answer ≡ RunAnswer.Refused r → ⊥) → work_length s ≤ length lent
+    → ((r : Refusal) → answer ≡ Err (RunError.Refused r) → ⊥) → work_length s ≤ length lent
     → History s (replicate (run_count answer) (step inflow lent)) s' × NextStep inflow (length lent) answer s'
 
 -- on a state within the limits the totals are the sums that 01 says
 pub record TotalsClaim : Type 0 where
-  pub depth : (s : State) (answer : TotalAnswer) → WithinLimits s → TotalDepthPromise s answer → answer ≡ TotalAnswer.Total (total_depth s)
-  pub energy : (s : State) (answer : TotalAnswer) → WithinLimits s → TotalEnergyPromise s answer → answer ≡ TotalAnswer.Total (energy4 s)
+  pub depth : (s : State) (answer : TotalAnswer) → WithinLimits s → TotalDepthPromise s answer → answer ≡ Ok (total_depth s)
+  pub energy : (s : State) (answer : TotalAnswer) → WithinLimits s → TotalEnergyPromise s answer → answer ≡ Ok (energy4 s)
 
 -- ---- the record
 
 -- the writer accepts any state within the limits, at most 999 milliseconds and a destination that has room, and these alone
 abbrev pub WriteAcceptedClaim : Type 0
 WriteAcceptedClaim = (s : State) (t : Timestamp) (d d' : List ℕ) (answer : WriteAnswer) → WritePromise s t d answer d'
-    → (answer ≡ WriteAnswer.Written (record_length s))
+    → (answer ≡ Ok (record_length s))
     ↔ (WithinLimits s × (t.milliseconds ≤ most_milliseconds) × (record_length s ≤ length d))
 
 -- written, then read into destinations that have room: the same state and timestamp
@@ -543,17 +541,17 @@ RoundTripClaim = (s : State) (t : Timestamp) (d d' : List ℕ) (written : WriteA
     → WithinLimits s → t.seconds < 2 ^ 64 → t.milliseconds ≤ most_milliseconds
     → record_length s ≤ length d → WritePromise s t d written d'
     → EachRoom (cells s) (rooms_in x) → ReadPromise (take (record_length s) d') x answer x'
-    → (written ≡ WriteAnswer.Written (record_length s)) × (answer ≡ ReadAnswer.Read (parameters_of s) t) × (state_from (parameters_of s) x' ≡ s)
+    → (written ≡ Ok (record_length s)) × (answer ≡ Ok (header (parameters_of s) t)) × (state_from (parameters_of s) x' ≡ s)
 
 -- what an accepted read fills in is a state within the limits
 abbrev pub ReadClaim : Type 0
-ReadClaim = (rec : List ℕ) (d d' : Fields) (p : Parameters) (t : Timestamp) → ReadPromise rec d (ReadAnswer.Read p t) d'
+ReadClaim = (rec : List ℕ) (d d' : Fields) (p : Parameters) (t : Timestamp) → ReadPromise rec d (Ok (header p t)) d'
     → WithinLimits (state_from p d')
 
 -- the step program's own step passes every test: it is refused by the reader, or with 6
 abbrev pub ProgramClaim : Type 0
 ProgramClaim = (input : List ℕ) (s : State) (t : Timestamp) → decode input (replicate 5 program_cells) ≡ accepted s t
-    → step_test s (replicate (cells s) (pos 0)) program_work ≡ none
+    → step_test s (replicate (cells s) (pos 0)) program_work ≡ None
 
 -- there is room for all that the step program prints
 abbrev pub OutputClaim : Type 0
@@ -567,9 +565,9 @@ Bytes rec = (k : ℕ) → get_or rec k 0 < 256
 -- return up to the first field that it lacks
 abbrev pub RewriteClaim : Type 0
 RewriteClaim = (rec d d' : List ℕ) (x x' : Fields) (p : Parameters) (t : Timestamp) (written : WriteAnswer)
-    → Bytes rec → ReadPromise rec x (ReadAnswer.Read p t) x' → WritePromise (state_from p x') t d written d'
+    → Bytes rec → ReadPromise rec x (Ok (header p t)) x' → WritePromise (state_from p x') t d written d'
     → length (restored rec) ≤ length d
-    → (written ≡ WriteAnswer.Written (length (restored rec))) × (take (length (restored rec)) d' ≡ restored rec)
+    → (written ≡ Ok (length (restored rec))) × (take (length (restored rec)) d' ≡ restored rec)
     × (T (rising rec) → take (kept rec) d' ≡ take (kept rec) rec)
 
 -- a field of m zeros: tag 8 of no milliseconds has 2, tag 9 without a barrier has w·n
@@ -627,29 +625,29 @@ pub record BothAre (first second : List ℕ) : Type 0 where
 
 -- the answer with the records swapped
 abbrev pub swapped : CompareAnswer → CompareAnswer
-swapped Same = Same
-swapped FirstNewer = SecondNewer
-swapped SecondNewer = FirstNewer
-swapped Conflict = Conflict
-swapped (FirstRefused r) = SecondRefused r
-swapped (SecondRefused r) = FirstRefused r
+swapped (Ok Same) = Ok Same
+swapped (Ok FirstNewer) = Ok SecondNewer
+swapped (Ok SecondNewer) = Ok FirstNewer
+swapped (Ok Conflict) = Ok Conflict
+swapped (Err (First r)) = Err (Second r)
+swapped (Err (Second r)) = Err (First r)
 
 -- x is later than y: by second, then millisecond
 abbrev pub Later : Timestamp → Timestamp → Type 0
 Later x y = (y.seconds < x.seconds) ⊎ ((y.seconds ≡ x.seconds) × (y.milliseconds < x.milliseconds))
 
 pub record CompareClaim : Type 0 where
-  pub same : (first second : List ℕ) (answer : CompareAnswer) → ComparePromise first second answer → (answer ≡ Same) ↔ BothAre first second
+  pub same : (first second : List ℕ) (answer : CompareAnswer) → ComparePromise first second answer → (answer ≡ Ok Same) ↔ BothAre first second
   -- two accepted records: the newer timestamp tells, and under one timestamp different states conflict
   pub newer : (first second : List ℕ) (answer : CompareAnswer) (s t : State) (x y : Timestamp) → decode first [] ≡ accepted s x
       → decode second [] ≡ accepted t y
       → ComparePromise first second answer
-      → ((answer ≡ FirstNewer) ↔ Later x y) × ((answer ≡ SecondNewer) ↔ Later y x) × ((answer ≡ Conflict) ↔ ((x ≡ y) × (s ≡ t → ⊥)))
+      → ((answer ≡ Ok FirstNewer) ↔ Later x y) × ((answer ≡ Ok SecondNewer) ↔ Later y x) × ((answer ≡ Ok Conflict) ↔ ((x ≡ y) × (s ≡ t → ⊥)))
   -- the first record is refused before the second is looked at
   pub first-refused : (first second : List ℕ) (answer : CompareAnswer) (r : Refusal) → ComparePromise first second answer
-      → (answer ≡ FirstRefused r) ↔ (decode first [] ≡ refused r)
+      → (answer ≡ Err (First r)) ↔ (decode first [] ≡ refused r)
   pub second-refused : (first second : List ℕ) (answer : CompareAnswer) (r : Refusal) (s : State) (x : Timestamp) → decode first [] ≡ accepted s x
-      → ComparePromise first second answer → (answer ≡ SecondRefused r) ↔ (decode second [] ≡ refused r)
+      → ComparePromise first second answer → (answer ≡ Err (Second r)) ↔ (decode second [] ≡ refused r)
   pub swap : (first second : List ℕ) (answer back : CompareAnswer) (s t : State) (x y : Timestamp) → decode first [] ≡ accepted s x
       → decode second [] ≡ accepted t y
       → ComparePromise first second answer → ComparePromise second first back → back ≡ swapped answer
@@ -671,7 +669,7 @@ EnergyRateClaim = (s : State) (dh du dv : List ℤ) (e : ℤ)
 
 -- the scaled energy rate is zero, for all three kinds and any barriers, at every accepted tendency call
 abbrev pub EnergyClaim : Type 0
-EnergyClaim = (s : State) (q dh du dv dh' du' dv' : List ℤ) → TendenciesPromise s q dh du dv Answer.Accepted dh' du' dv'
+EnergyClaim = (s : State) (q dh du dv dh' du' dv' : List ℤ) → TendenciesPromise s q dh du dv (Ok tt) dh' du' dv'
     → energy_rate s dh' du' dv' ≡ pos 0
 
 -- and so it is by the definitions with any corners at all (02, U5): q may be any list, of any length and without bounds
@@ -681,20 +679,20 @@ AnyCornersEnergyClaim = (s : State) (q : List ℤ) → WithinLimits s → energy
 -- the scaled enstrophy rate is zero where the grid wraps both ways: no edge is closed
 abbrev pub EnstrophyClaim : Type 0
 EnstrophyClaim = (s : State) (q dh du dv dh' du' dv' : List ℤ) → OpenEverywhere s
-    → TendenciesPromise s q dh du dv Answer.Accepted dh' du' dv'
+    → TendenciesPromise s q dh du dv (Ok tt) dh' du' dv'
     → enstrophy_rate s dh' du' dv' q ≡ pos 0
 
 -- which is kind 0 without barriers
 abbrev pub PeriodicEnstrophyClaim : Type 0
 PeriodicEnstrophyClaim = (s : State) (q dh du dv dh' du' dv' : List ℤ) → s.kind ≡ 0 → s.barriers ≡ replicate (cells s) 0
-    → TendenciesPromise s q dh du dv Answer.Accepted dh' du' dv'
+    → TendenciesPromise s q dh du dv (Ok tt) dh' du' dv'
     → enstrophy_rate s dh' du' dv' q ≡ pos 0
 
 -- over any list of step and run calls from any state, total depth answers after the list what it answered before, plus the inflow
 -- due; a refusal stays the same refusal
 abbrev pub raised : ℤ → TotalAnswer → TotalAnswer
-raised due (TotalAnswer.Total x) = TotalAnswer.Total (x +ℤ due)
-raised due (TotalAnswer.Refused r) = TotalAnswer.Refused r
+raised due (Ok x) = Ok (x +ℤ due)
+raised due (Err r) = Err r
 
 abbrev pub BalanceClaim : Type 0
 BalanceClaim = (s t : State) (calls : List Call) (before after : TotalAnswer) → History s calls t → TotalDepthPromise s before

@@ -1,7 +1,7 @@
 -- 01's tendencies in double precision (02, U3): its formulas, each operation rounded once. A product comes before the sum that it is in, and
 -- a sum goes from left to right: sums round, so another grouping would give other doubles. And when a grid is narrow.
 use Rattle.std.specs.Prelude.{◌≡◌, Bool, true, false, cond, List, [], ◌∷◌, ℕ, ◌*◌, ◌≤◌, ℤ, pos, neg_ℤ, ◌-ℤ◌, nat_abs, Float}
-use Rattle.std.proofs.Math.Option.{Option, none, some}
+use Rattle.std.specs.Prelude.{Option, None, Some}
 use Rattle.std.specs.Float.{nan, inf, fin, binary64}
 use Rattle.std.specs.Float.Ieee.{up, down, of_int, add, sub, mul, neg}
 use Rattle.model.specs.Numbers.{bernoulli_scale}
@@ -150,8 +150,8 @@ narrow_fields s q =
     ∷ []
 
 abbrev pub is_none : {R : Type 0} → Option R → Bool
-is_none none = true
-is_none (some r) = false
+is_none None = true
+is_none (Some r) = false
 
 -- none of their numbers is outside the narrow bounds
 unfoldable pub narrow : State → List ℤ → Bool

@@ -1,7 +1,7 @@
 -- The cells of a grid of w columns and n rows: cell (i, j) has index j·w + i, and indices wrap in both ways. And the corners of a side, which has
 -- its own at a wall (02, U5).
 use Rattle.std.specs.Prelude.{Bool, true, false, ◌||◌, cond, List, [], ◌∷◌, ◌++◌, ℕ, zero, suc, ◌+◌, ◌-◌, ◌*◌, ◌/◌, ◌%◌, min, eqb, ℤ, pos, ◌+ℤ◌, get_or, drop}
-use Rattle.std.proofs.Math.Option.{Option, none, some}
+use Rattle.std.specs.Prelude.{Option, None, Some}
 
 -- the next place on a side of w places, and the one before
 abbrev pub next : ℕ → ℕ → ℕ
@@ -57,5 +57,5 @@ sum_grid w n f = sum_to n (λ j. sum_to w (λ i. f i j))
 
 -- the first of the m indices from k on at which the test holds: a scan that ends at the first one found
 unfoldable pub first_from : (ℕ → Bool) → ℕ → ℕ → Option ℕ
-first_from bad zero k = none
-first_from bad (suc m) k = cond (bad k) (some k) (first_from bad m (suc k))
+first_from bad zero k = None
+first_from bad (suc m) k = cond (bad k) (Some k) (first_from bad m (suc k))

@@ -4,8 +4,10 @@ use Rattle.model.specs.Numbers.{total}
 use Rattle.model.specs.State.{State}
 use Rattle.model.specs.Step.{step_answer, step_state, run_of}
 use Rattle.model.specs.Promises.{StepPromise, RunPromise}
-use Rattle.model.specs.declared.StepAnswer.{StepAnswer}
-use Rattle.model.specs.declared.RunAnswer.{RunAnswer}
+use Rattle.std.specs.Prelude.{Ok, Err}
+use Rattle.model.specs.Answers.{RunAnswer, StepAnswer}
+use Rattle.model.specs.declared.StepError.{StepError}
+use Rattle.model.specs.declared.RunError.{RunError}
 
 -- a call with its own inflow, run length and work space, which may be ones that are refused
 pub data Call : Type 0 where
@@ -20,15 +22,15 @@ inflow_of (run inflow m work) = inflow
 
 -- a refused step does none, any other step one
 abbrev pub step_count : StepAnswer → ℕ
-step_count StepAnswer.Done = 1
-step_count (StepAnswer.Refused r) = 0
-step_count (StepAnswer.OutOfBounds p f k) = 0
+step_count (Ok x) = 1
+step_count (Err (StepError.Refused r)) = 0
+step_count (Err (StepError.OutOfBounds x)) = 0
 
 -- a run refused with a number other than 6 does none; any other run does the steps that it counts
 abbrev pub run_count : RunAnswer → ℕ
-run_count (RunAnswer.Finished m) = m
-run_count (RunAnswer.Refused r) = 0
-run_count (RunAnswer.Stopped m p f k) = m
+run_count (Ok m) = m
+run_count (Err (RunError.Refused r)) = 0
+run_count (Err (RunError.Stopped m x)) = m
 
 abbrev pub steps_done : State → Call → ℕ
 steps_done s (step inflow work) = step_count (step_answer s inflow (length work))

@@ -11,7 +11,9 @@ use Rattle.model.specs.Step.{step_test, step_answer, step_state, work_left}
 use Rattle.model.specs.Record.{Decoded, accepted, refused, decode}
 use Rattle.model.specs.Promises.{rooms_in, put}
 use Rattle.model.specs.declared.Refusal.TheVariants.{Record}
-use Rattle.model.specs.declared.StepAnswer.{StepAnswer}
+use Rattle.std.specs.Prelude.{Ok, Err}
+use Rattle.model.specs.Answers.{StepAnswer}
+use Rattle.model.specs.declared.StepError.{StepError}
 
 -- ---- text, as bytes
 
@@ -56,9 +58,9 @@ abbrev pub state_lines : State → List ℕ
 state_lines s = lines (total_line (total_depth s) ∷ tabulate (cells s) (cell_line s.w s.h s.u s.v))
 
 abbrev pub step_lines : StepAnswer → State → List ℕ
-step_lines StepAnswer.Done s = state_lines s
-step_lines (StepAnswer.Refused r) s = refused_line (number r)
-step_lines (StepAnswer.OutOfBounds p f k) s = refused_line 6
+step_lines (Ok x) s = state_lines s
+step_lines (Err (StepError.Refused r)) s = refused_line (number r)
+step_lines (Err (StepError.OutOfBounds x)) s = refused_line 6
 
 -- ---- a record read and stepped, over any lent arrays
 

@@ -5,7 +5,7 @@
 -- 02. Their promises are here; that of the step program is in Program.antt. Every other `pub fn` serves a crate above it.
 -- A call's tests stand as a list (`…Tests`); its test (`…Test`) is what this list finds first.
 use Rattle.std.specs.Prelude.{◌≡◌, Bool, true, false, List, [], ◌∷◌, ◌++◌, ℕ, ◌/◌, ◌%◌, ℤ, length, Float}
-use Rattle.std.proofs.Math.Option.{Option, none, some}
+use Rattle.std.specs.Prelude.{Option, None, Some}
 use Rattle.model.specs.Grid.{filled}
 use Rattle.model.specs.State.{State, parameters_of, cells, corners, Fields}
 use Rattle.model.specs.Answers.{told_answer, told_probe, told_probe_grid, told_step, told_run, told_total, told_write, told_read, told_compare}
@@ -19,24 +19,19 @@ use Rattle.model.specs.Record.{Decoded, accepted, refused, decode, encode, recor
 use Rattle.model.specs.declared.Timestamp.{Timestamp}
 use Rattle.model.specs.declared.Field.TheVariants.{Vorticity}
 use Rattle.model.specs.declared.Refusal.{Refusal}
-use Rattle.model.specs.declared.Answer.{Answer}
+use Rattle.std.specs.Prelude.{Ok, Err}
 use Rattle.model.specs.declared.ProbeAnswer.{ProbeAnswer}
-use Rattle.model.specs.declared.ProbeGridAnswer.{ProbeGridAnswer}
-use Rattle.model.specs.declared.StepAnswer.{StepAnswer}
-use Rattle.model.specs.declared.RunAnswer.{RunAnswer}
-use Rattle.model.specs.declared.TotalAnswer.{TotalAnswer}
-use Rattle.model.specs.declared.WriteAnswer.{WriteAnswer}
-use Rattle.model.specs.declared.ReadAnswer.{ReadAnswer}
-use Rattle.model.specs.declared.CompareAnswer.{CompareAnswer}
+use Rattle.model.specs.Answers.{Answer, CompareAnswer, ProbeGridAnswer, ReadAnswer, RunAnswer, StepAnswer, TotalAnswer, WriteAnswer, header}
+use Rattle.model.specs.declared.Precision.{Precision}
 
 -- a refusal leaves a destination as it was
 abbrev pub left_by : {A : Type 0} → Option Refusal → List A → List A → List A
-left_by none new old = new
-left_by (some r) new old = old
+left_by None new old = new
+left_by (Some r) new old = old
 
 abbrev pub answer_of : Option Refusal → Answer
-answer_of none = Answer.Accepted
-answer_of (some r) = Answer.Refused r
+answer_of None = Ok tt
+answer_of (Some r) = Err r
 
 -- ---- calls that fill
 
@@ -102,8 +97,8 @@ marked true a b c = ProbeAnswer.Exact a b c
 marked false a b c = ProbeAnswer.Near a b c
 
 abbrev pub probe_answer : Option Refusal → Bool → (a b c : Float) → ProbeAnswer
-probe_answer none exact a b c = marked exact a b c
-probe_answer (some r) exact a b c = ProbeAnswer.Refused r
+probe_answer None exact a b c = marked exact a b c
+probe_answer (Some r) exact a b c = ProbeAnswer.Refused r
 
 unfoldable pub probe_of : State → List ℤ → ℕ → ProbeAnswer
 probe_of s q k =
@@ -117,13 +112,13 @@ pub record ProbePromise (s : State) (q : List ℤ) (k : ℕ) (answer : ProbeAnsw
   pub tells : told_probe answer ≡ told_probe (probe_of s q k)
 
 -- the probe of the grid, into dh, du and dv: 1, 2, 3, 4, 5, 8, as the tendency call
-abbrev pub marked_grid : Bool → ProbeGridAnswer
-marked_grid true = ProbeGridAnswer.Exact
-marked_grid false = ProbeGridAnswer.Near
+abbrev pub precision_of : (narrow : Bool) → Precision
+precision_of true = Precision.Exact
+precision_of false = Precision.Near
 
 abbrev pub probe_grid_answer : Bool → Option Refusal → ProbeGridAnswer
-probe_grid_answer exact none = marked_grid exact
-probe_grid_answer exact (some r) = ProbeGridAnswer.Refused r
+probe_grid_answer exact None = Ok (precision_of exact)
+probe_grid_answer exact (Some r) = Err r
 
 -- It rules out: a closed edge's double that is not 0; near told as exact; 8 told before 4.
 abbrev pub ProbeGridPromise : State → (q : List ℤ) (dh du dv : List Float) (answer : ProbeGridAnswer) (dh' du' dv' : List Float) → Type 0
@@ -156,8 +151,8 @@ unfoldable pub total_test : State → Option Refusal
 total_test s = first_found (total_tests s)
 
 abbrev pub total_answer : Option Refusal → ℤ → TotalAnswer
-total_answer none x = TotalAnswer.Total x
-total_answer (some r) x = TotalAnswer.Refused r
+total_answer None x = Ok x
+total_answer (Some r) x = Err r
 
 -- They rule out: a total that leaves a cell out; the total of a state that is to be refused.
 pub record TotalDepthPromise (s : State) (answer : TotalAnswer) : Type 0 where
@@ -177,8 +172,8 @@ unfoldable pub write_test : State → Timestamp → ℕ → Option Refusal
 write_test s t room = first_found (write_tests s t room)
 
 abbrev pub write_answer : ℕ → Option Refusal → WriteAnswer
-write_answer m none = WriteAnswer.Written m
-write_answer m (some r) = WriteAnswer.Refused r
+write_answer m None = Ok m
+write_answer m (Some r) = Err r
 
 -- It rules out: a field little-endian; a byte written past the record; milliseconds cut to two bytes before test 9.
 abbrev pub WritePromise : State → Timestamp → (d : List ℕ) (answer : WriteAnswer) (d' : List ℕ) → Type 0
@@ -188,8 +183,8 @@ WritePromise s t d answer d' =
 -- ---- record reader, into the five fields d: 7, 1, 2, 8, 3, 9, 4, 5
 
 abbrev pub read_answer : Decoded → ReadAnswer
-read_answer (accepted s t) = ReadAnswer.Read (parameters_of s) t
-read_answer (refused r) = ReadAnswer.Refused r
+read_answer (accepted s t) = Ok (header (parameters_of s) t)
+read_answer (refused r) = Err r
 
 -- the room in the five destinations
 abbrev pub rooms_in : Fields → List ℕ

@@ -1,6 +1,6 @@
 -- The record: fields of a one-byte tag, a two-byte length and the value; numbers big-endian, negative ones two's complement.
 use Rattle.std.specs.Prelude.{Bool, true, false, not, cond, ◌&&◌, ◌||◌, List, [], ◌∷◌, ◌++◌, map, ℕ, zero, suc, ◌+◌, ◌*◌, ◌/◌, ◌%◌, ◌^◌, eqb, leb, ltb, ℤ, length, get_or, take, drop, replicate}
-use Rattle.std.proofs.Math.Option.{Option, none, some}
+use Rattle.std.specs.Prelude.{Option, None, Some}
 use Rattle.std.specs.Int.{w16, w32}
 use Rattle.std.proofs.Common.{to_z, of_z}
 use Rattle.model.specs.Numbers.{all, any, eqℤ, same_by}
@@ -11,8 +11,10 @@ use Rattle.model.specs.Refusals.{fields_of, grid_test, room_tests, timed_content
 use Rattle.model.specs.declared.Timestamp.{Timestamp}
 use Rattle.model.specs.declared.Refusal.{Refusal}
 use Rattle.model.specs.declared.Refusal.TheVariants.{Lengths, Record}
-use Rattle.model.specs.declared.CompareAnswer.{CompareAnswer}
-use Rattle.model.specs.declared.CompareAnswer.TheVariants.{Same, FirstNewer, SecondNewer, Conflict, FirstRefused, SecondRefused}
+use Rattle.std.specs.Prelude.{Ok, Err}
+use Rattle.model.specs.Answers.{CompareAnswer}
+use Rattle.model.specs.declared.Comparison.TheVariants.{Same, FirstNewer, SecondNewer, Conflict}
+use Rattle.model.specs.declared.CompareError.TheVariants.{First, Second}
 
 -- ---- numbers as bytes
 
@@ -161,8 +163,8 @@ pub data Walked : Type 0 where
   whole : List Part → Walked
 
 abbrev pub unless : Option Refusal → Walked → Walked
-unless none more = more
-unless (some r) more = damaged r
+unless None more = more
+unless (Some r) more = damaged r
 
 -- from offset k on; at most m fields more, where m is the record's length and each field has 3 bytes at least
 unfoldable pub walk : List ℕ → ℕ → ℕ → List Part → Walked
@@ -218,8 +220,8 @@ pub data Decoded : Type 0 where
   refused : Refusal → Decoded
 
 abbrev pub judged : Option Refusal → State → Timestamp → Decoded
-judged none s t = accepted s t
-judged (some r) s t = refused r
+judged None s t = accepted s t
+judged (Some r) s t = refused r
 
 abbrev pub record_tests : State → Timestamp → List Part → (rooms : List ℕ) → List (Test Refusal)
 record_tests s t parts rooms =
@@ -298,16 +300,16 @@ same_state s t =
 
 -- the newer timestamp tells; under one timestamp the states do
 unfoldable pub compared : State → Timestamp → State → Timestamp → CompareAnswer
-compared s a t b = cond (newer a b) FirstNewer (cond (newer b a) SecondNewer (cond (same_state s t) Same Conflict))
+compared s a t b = cond (newer a b) (Ok FirstNewer) (cond (newer b a) (Ok SecondNewer) (cond (same_state s t) (Ok Same) (Ok Conflict)))
 
 -- the first record wholly, then the second
 abbrev pub compare_second : State → Timestamp → Decoded → CompareAnswer
 compare_second s a (accepted t b) = compared s a t b
-compare_second s a (refused r) = SecondRefused r
+compare_second s a (refused r) = Err (Second r)
 
 abbrev pub compare_by : Decoded → Decoded → CompareAnswer
 compare_by (accepted s a) second = compare_second s a second
-compare_by (refused r) second = FirstRefused r
+compare_by (refused r) second = Err (First r)
 
 unfoldable pub compare_answer : List ℕ → List ℕ → CompareAnswer
 compare_answer first second = compare_by (decode first []) (decode second [])

@@ -1,13 +1,14 @@
 -- A state, its closed edges, and what it is to be within the limits.
-use Rattle.std.specs.Prelude.{Bool, true, false, cond, ◌||◌, ◌≡◌, List, map, ℕ, ◌+◌, ◌*◌, ◌/◌, ◌%◌, ◌≤◌, ◌<◌, T, eqb, ℤ, pos, length, get_or, take}
+use Rattle.std.specs.Prelude.{Option, Some, None, Bool, true, false, cond, ◌||◌, ◌≡◌, List, map, ℕ, ◌+◌, ◌*◌, ◌/◌, ◌%◌, ◌≤◌, ◌<◌, T, eqb, ℤ, pos, length, get_or, take}
 use Rattle.std.specs.Borrow.{Bor, MutBor}
 use denote.Triple.Both.{Both}
 use Rattle.model.specs.Numbers.{Limits, Within, depth_limits, bottom_limits, velocity_limits, gravity_limits, coriolis_limits, ratio_limits, barrier_limits, longest_side}
 use Rattle.model.specs.Grid.{at, corners_of}
 use Rattle.model.specs.declared.Parameters.{Parameters}
+use Rattle.model.specs.declared.Lent.{Lent}
+use Rattle.model.specs.declared.LentMut.{LentMut}
 use Rattle.model.specs.declared.Boundary.TheVariants.{Periodic, Channel, Basin}
-use Rattle.model.specs.declared.BoundaryByte.{BoundaryByte}
-use Rattle.model.specs.declared.BoundaryByte.TheVariants.{Known, Unknown}
+use Rattle.model.specs.declared.Boundary.{Boundary}
 
 -- 01's state. G is gravity, c the Coriolis parameter times spacing, R the spacing over the time step.
 -- h is the depth and b the bottom height of a cell, u the velocity at its west edge, v that at its south edge. `barriers` (02: piers) are
@@ -43,6 +44,19 @@ before p h b u v barriers = lent p h.entry b.entry u.entry v.entry barriers.entr
 abbrev pub after : {B O : Type 0} → Parameters → Both (MutBor (List ℤ)) (MutBor (List ℤ)) → Both (Bor (List ℤ)) B
     → Both (MutBor (List ℤ)) (MutBor (List ℤ)) → Both (MutBor (List ℤ)) (MutBor (List ℤ)) → Both (Bor (List ℕ)) O → State
 after p h b u v barriers = state_of p h.exit.now b.entry.now u.exit.now v.exit.now barriers.entry.now
+
+abbrev pub lent_state : Lent → State
+lent_state s = state_of s.p s.h.now s.b.now s.u.now s.v.now s.barriers.now
+
+-- the same of one that is lent to be stepped; what a step leaves of that: the same slices, with other numbers in those of h, u and v alone
+abbrev pub state_at : LentMut → State
+state_at s = state_of s.p s.h.now s.b.now s.u.now s.v.now s.barriers.now
+
+abbrev pub written : LentMut → (h u v : List ℤ) → LentMut
+written s h u v = record s { h = record s.h { now = h }; u = record s.u { now = u }; v = record s.v { now = v } }
+
+abbrev pub SameSlices : LentMut → LentMut → Type 0
+SameSlices s t = t ≡ written s t.h.now t.u.now t.v.now
 
 abbrev pub parameters_of : State → Parameters
 parameters_of s = record { w = s.w; n = s.n; kind = s.kind; g = s.G; c = s.c; r = s.R }
@@ -83,26 +97,26 @@ state_from p d =
 
 -- ---- the boundary (01: seam)
 
--- the boundary that a kind's number stands for
-unfoldable pub boundary_of : ℕ → BoundaryByte
-boundary_of k = cond (eqb k 0) (Known Periodic) (cond (eqb k 1) (Known Channel) (cond (eqb k 2) (Known Basin) Unknown))
+-- the boundary that a kind's number stands for, if any
+unfoldable pub boundary_of : ℕ → Option Boundary
+boundary_of k = cond (eqb k 0) (Some Periodic) (cond (eqb k 1) (Some Channel) (cond (eqb k 2) (Some Basin) None))
 
-abbrev pub known : BoundaryByte → Bool
-known (Known b) = true
-known Unknown = false
+abbrev pub known : Option Boundary → Bool
+known (Some b) = true
+known None = false
 
 -- where a boundary has walls: whether the west edges of column i are closed, and the south edges of row j
-abbrev pub wall_west : BoundaryByte → ℕ → Bool
-wall_west (Known Periodic) i = false
-wall_west (Known Channel) i = false
-wall_west (Known Basin) i = eqb i 0
-wall_west Unknown i = false
+abbrev pub wall_west : Option Boundary → ℕ → Bool
+wall_west (Some Periodic) i = false
+wall_west (Some Channel) i = false
+wall_west (Some Basin) i = eqb i 0
+wall_west None i = false
 
-abbrev pub wall_south : BoundaryByte → ℕ → Bool
-wall_south (Known Periodic) j = false
-wall_south (Known Channel) j = eqb j 0
-wall_south (Known Basin) j = eqb j 0
-wall_south Unknown j = false
+abbrev pub wall_south : Option Boundary → ℕ → Bool
+wall_south (Some Periodic) j = false
+wall_south (Some Channel) j = eqb j 0
+wall_south (Some Basin) j = eqb j 0
+wall_south None j = false
 
 -- ---- corners (02, U5)
 

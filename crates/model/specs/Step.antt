@@ -1,6 +1,6 @@
 -- The two-pass step, the run, and the work space.
 use Rattle.std.specs.Prelude.{Bool, cond, List, [], ◌∷◌, ℕ, zero, suc, eqb, ℤ, pos, ◌+ℤ◌, ◌-ℤ◌, ◌*ℤ◌, replicate}
-use Rattle.std.proofs.Math.Option.{Option, none, some}
+use Rattle.std.specs.Prelude.{Option, None, Some}
 use Rattle.model.specs.Numbers.{rnd, tendency_scale, any}
 use Rattle.model.specs.Grid.{at, by_cell, filled}
 use Rattle.model.specs.State.{State, with_flow, cells}
@@ -11,8 +11,10 @@ use Rattle.model.specs.Scheme.{flux_u, flux_v, to_east, to_north, vorticity, ten
 use Rattle.model.specs.declared.Field.{Field}
 use Rattle.model.specs.declared.Field.TheVariants.{Depth, VelocityU, VelocityV, Inflow}
 use Rattle.model.specs.declared.Refusal.{Refusal}
-use Rattle.model.specs.declared.StepAnswer.{StepAnswer}
-use Rattle.model.specs.declared.RunAnswer.{RunAnswer}
+use Rattle.std.specs.Prelude.{Ok, Err}
+use Rattle.model.specs.Answers.{RunAnswer, StepAnswer, breach}
+use Rattle.model.specs.declared.StepError.{StepError}
+use Rattle.model.specs.declared.RunError.{RunError}
 
 -- ---- a pass from a base state with the tendencies of a given state
 
@@ -69,8 +71,8 @@ pub data Outcome : Type 0 where
   stuck : (pass : ℕ) → Place → Outcome
 
 abbrev pub passed : Option Place → ℕ → Outcome → Outcome
-passed none p later = later
-passed (some x) p later = stuck p x
+passed None p later = later
+passed (Some x) p later = stuck p x
 
 -- the base of both passes is the start state s. Pass 1 uses the start state, pass 2 uses pass 1's result.
 unfoldable pub second : State → State → List ℤ → Outcome
@@ -89,8 +91,8 @@ unfoldable pub step_test : State → List ℤ → ℕ → Option Refusal
 step_test s inflow room = first_found (step_tests s inflow room)
 
 abbrev pub outcome_answer : Outcome → StepAnswer
-outcome_answer (moved t) = StepAnswer.Done
-outcome_answer (stuck p x) = StepAnswer.OutOfBounds p x.field x.cell
+outcome_answer (moved t) = Ok tt
+outcome_answer (stuck p x) = Err (StepError.OutOfBounds (breach p x.field x.cell))
 
 -- refusal 6 leaves the state before that step
 abbrev pub after_step : State → Outcome → State
@@ -98,12 +100,12 @@ after_step s (moved t) = t
 after_step s (stuck p x) = s
 
 abbrev pub step_answer_by : Option Refusal → Outcome → StepAnswer
-step_answer_by none o = outcome_answer o
-step_answer_by (some r) o = StepAnswer.Refused r
+step_answer_by None o = outcome_answer o
+step_answer_by (Some r) o = Err (StepError.Refused r)
 
 abbrev pub step_state_by : Option Refusal → State → Outcome → State
-step_state_by none s o = after_step s o
-step_state_by (some r) s o = s
+step_state_by None s o = after_step s o
+step_state_by (Some r) s o = s
 
 -- the answer of a step, and the state that it leaves
 unfoldable pub step_answer : State → List ℤ → ℕ → StepAnswer
@@ -121,11 +123,11 @@ pub record Ran : Type 0 where
 -- by what the next step comes to, after `done` steps
 abbrev pub run_on : (State → Ran) → ℕ → State → Outcome → Ran
 run_on more done s (moved t) = more t
-run_on more done s (stuck p x) = record { answer = RunAnswer.Stopped done p x.field x.cell; state = s }
+run_on more done s (stuck p x) = record { answer = Err (RunError.Stopped done (breach p x.field x.cell)); state = s }
 
 -- m steps more, from a state after `done` steps
 unfoldable pub run_from : ℕ → ℕ → State → List ℤ → Ran
-run_from zero done s inflow = record { answer = RunAnswer.Finished done; state = s }
+run_from zero done s inflow = record { answer = Ok done; state = s }
 run_from (suc m) done s inflow = run_on (λ t. run_from m (suc done) t inflow) done s (two_pass s inflow)
 
 abbrev pub run_tests : State → (inflow : List ℤ) (m room : ℕ) → List (Test Refusal)
@@ -135,8 +137,8 @@ unfoldable pub run_test : State → List ℤ → ℕ → ℕ → Option Refusal
 run_test s inflow m room = first_found (run_tests s inflow m room)
 
 abbrev pub run_by : Option Refusal → State → Ran → Ran
-run_by none s r = r
-run_by (some x) s r = record { answer = RunAnswer.Refused x; state = s }
+run_by None s r = r
+run_by (Some x) s r = record { answer = Err (RunError.Refused x); state = s }
 
 -- a run of m steps
 unfoldable pub run_of : State → List ℤ → ℕ → ℕ → Ran
@@ -153,5 +155,5 @@ abbrev pub cleared : State → List ℤ → List ℤ
 cleared s work = filled (work_length s) (replicate (work_length s) (pos 0)) work
 
 unfoldable pub work_left : Option Refusal → State → List ℤ → List ℤ
-work_left none s work = cleared s work
-work_left (some r) s work = cond (leaves_all r) work (cleared s work)
+work_left None s work = cleared s work
+work_left (Some r) s work = cond (leaves_all r) work (cleared s work)

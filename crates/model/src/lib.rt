@@ -2,7 +2,8 @@
 #![tactic(auto)]
 
 // What a state has beside its five fields: columns, rows, the boundary's byte, gravity (01: G), Coriolis parameter times
-// spacing (01: c), and spacing over time step (01: R). Taken at full width: any numbers may come in.
+// spacing (01: c), and spacing over time step (01: R). Taken at full width: any numbers may come in. So `kind` is a byte and no `Boundary`:
+// refusal 1 answers one that stands for none.
 #[derive(Clone, Copy)]
 pub struct Parameters {
     pub w: usize,
@@ -13,9 +14,51 @@ pub struct Parameters {
     pub r: i64,
 }
 
+// A state as a call reads it: its parameters and its five fields, lent. (Five slices beside each other, and no slice of cells: so C lends them.)
+#[derive(Clone, Copy)]
+pub struct Lent<'a> {
+    pub p: Parameters,
+    pub h: &'a [i64],
+    pub b: &'a [i64],
+    pub u: &'a [i64],
+    pub v: &'a [i64],
+    pub barriers: &'a [u8],
+}
+
+// A state as a step changes it: its depths and velocities, lent to be written. (A type of its own, since nothing in the language stands for
+// `&` and `&mut` at once.)
+#[derive(Drop)]
+pub struct LentMut<'a> {
+    pub p: Parameters,
+    pub h: &'a mut [i64],
+    pub b: &'a [i64],
+    pub u: &'a mut [i64],
+    pub v: &'a mut [i64],
+    pub barriers: &'a [u8],
+}
+
+impl<'a> LentMut<'a> {
+    ghost use Rattle.std.specs.Prelude.{◌≡◌};
+    ghost use Rattle.model.specs.State.{lent_state, state_at};
+
+    // The state lent on to be read. It rules out, for instance: u for v; another field's numbers.
+    pub fn lent(&self) -> Lent<'_>
+        ensures { lent_state result ≡ state_at self.now }
+    {
+        Lent {
+            p: self.p,
+            h: &*self.h,
+            b: self.b,
+            u: &*self.u,
+            v: &*self.v,
+            barriers: self.barriers,
+        }
+    }
+}
+
 // When a record's state holds (01: stamp): whole seconds since 2000-01-01 00:00, and milliseconds (02: U1). Taken at full width: any
 // numbers may come in, and milliseconds above 999 are refused.
-#[derive(Clone, Copy)]
+#[derive(Clone, Copy, PartialEq, Eq, PartialOrd, Ord)]
 pub struct Timestamp {
     pub seconds: u64,
     pub milliseconds: u64,
@@ -28,13 +71,6 @@ pub enum Boundary {
     Periodic,
     Channel,
     Basin,
-}
-
-// What the boundary's byte stands for.
-#[derive(Clone, Copy)]
-pub enum BoundaryByte {
-    Known(Boundary),
-    Unknown,
 }
 
 // A field that a refusal names: h, b, u, v, q, the inflow s (01: river entry) and the barriers (02: piers).
@@ -63,15 +99,22 @@ pub enum Refusal {
     NoSuchCell,
 }
 
-// The answer of tests, and of a call that fills lent fields (potential vorticity, tendencies): accepted, or the first refusal.
+// What a pass leaves a bound by (refusal 6): the pass, the field and the cell. The pass is a number, 1 or 2, as 01 names this form: a field enum
+// beside the numbers of pass and cell.
 #[derive(Clone, Copy)]
-pub enum Answer {
-    Accepted,
-    Refused(Refusal),
+pub struct Breach {
+    pub pass: u8,
+    pub field: Field,
+    pub cell: usize,
 }
 
+// The answers of the calls. Each but the probe's is a `Result`: of tests, and of a call that fills lent fields (potential vorticity,
+// tendencies), nothing or the first refusal; of the totals and of the record writer a number, the bytes written. What the other calls answer
+// is named here.
+
 // The answer of the probe of a cell (02, U3): -D, Tu and Tv as doubles, which are those numbers (exact) or are near them. In place of a
-// bare number, the refusal: 4 and 5 return a field and a cell with theirs.
+// bare number, the refusal: 4 and 5 return a field and a cell with theirs. It is no `Result`, since 01 names this form: two cases that hold
+// three f64, and a refusal as the third.
 #[derive(Clone, Copy)]
 pub enum ProbeAnswer {
     Exact(f64, f64, f64),
@@ -79,69 +122,62 @@ pub enum ProbeAnswer {
     Refused(Refusal),
 }
 
-// The answer of the probe of a grid, which fills lent fields with its doubles.
+// Whether doubles are the numbers that they stand for (exact) or are near them. It is what the probe of a grid tells, which fills lent
+// fields with its doubles.
 #[derive(Clone, Copy)]
-pub enum ProbeGridAnswer {
+pub enum Precision {
     Exact,
     Near,
-    Refused(Refusal),
 }
 
-// The answer of the step: refusal 6 carries the pass, the field and the cell.
+// Why a step is not done: it was refused, or refusal 6.
 #[derive(Clone, Copy)]
-pub enum StepAnswer {
-    Done,
+pub enum StepError {
     Refused(Refusal),
-    OutOfBounds { pass: u8, field: Field, cell: usize },
+    OutOfBounds(Breach),
 }
 
-// The answer of the run: the number of steps done, and beside it the refusal 6 where it stopped early.
+// Why a run is not finished: it was refused, or refusal 6 beside the number of steps done. A run that is finished answers that number.
 #[derive(Clone, Copy)]
-pub enum RunAnswer {
-    Finished {
-        steps: u64,
-    },
+pub enum RunError {
     Refused(Refusal),
-    Stopped {
-        steps: u64,
-        pass: u8,
-        field: Field,
-        cell: usize,
-    },
+    Stopped { steps: u64, breach: Breach },
 }
 
-// The answer of total depth, and of four times total energy.
-#[derive(Clone, Copy)]
-pub enum TotalAnswer {
-    Total(i64),
-    Refused(Refusal),
+// A step is a run of one. It rules out, for instance: every refusal of a run told as 1; a run's refusal told as a bound that is left.
+impl From<RunError> for StepError {
+    ghost use Rattle.std.specs.Prelude.{◌≡◌};
+    ghost use Rattle.model.specs.Answers.{step_error};
+
+    ghost from_gives = { λ e x. x ≡ step_error e };
+
+    fn from(e: RunError) -> StepError {
+        match e {
+            RunError::Refused(refusal) => StepError::Refused(refusal),
+            RunError::Stopped { steps: _, breach } => StepError::OutOfBounds(breach),
+        }
+    }
 }
 
-// The answer of the record writer: the number of bytes written.
+// What the record reader tells beside the fields: the parameters, and the timestamp (01: stamp).
 #[derive(Clone, Copy)]
-pub enum WriteAnswer {
-    Written(usize),
-    Refused(Refusal),
+pub struct Header {
+    pub parameters: Parameters,
+    pub timestamp: Timestamp,
 }
 
-// The answer of the record reader: the parameters, and the timestamp (01: stamp).
+// What two records compare as (01: same, first newer, second newer, clash).
 #[derive(Clone, Copy)]
-pub enum ReadAnswer {
-    Read {
-        parameters: Parameters,
-        timestamp: Timestamp,
-    },
-    Refused(Refusal),
-}
-
-// The answer of the comparison (01: same, first newer, second newer, clash), or the refusal of the first or of the second
-// record.
-#[derive(Clone, Copy)]
-pub enum CompareAnswer {
+pub enum Comparison {
     Same,
     FirstNewer,
     SecondNewer,
     Conflict,
-    FirstRefused(Refusal),
-    SecondRefused(Refusal),
+}
+
+// Which of two records is refused, and why.
+#[derive(Clone, Copy)]
+pub enum CompareError {
+    First(Refusal),
+    Second(Refusal),
 }

@@ -1,14 +1,15 @@
 -- From what the reader leaves, and what a step of it leaves, to the program's promise. Assumes nothing.
-use Rattle.std.specs.Prelude.{◌≡◌, refl, Bool, true, false, List, [], ◌∷◌, ◌++◌, ℕ, ◌≤◌, ◌<◌, min, leb, ℤ, pos, length, take, drop, replicate}
-use Rattle.std.proofs.Common.{sym, ap₂, ◌∙◌, arith, length-take, take_all, le-leb, leb-true, leb-false}
+use Rattle.std.specs.Prelude.{◌≡◌, refl, List, [], ◌∷◌, ◌++◌, ℕ, ◌≤◌, ◌<◌, ℤ, pos, length, take, replicate}
+use Rattle.std.proofs.Common.{sym, ap₂, ◌∙◌, zero-add, arith, length-take, le-leb}
 use Rattle.std.proofs.Math.Path.{ap, subst}
 use Rattle.std.proofs.Math.Bool.{cond}
 use Rattle.std.proofs.Math.Nat.{min-eq_left}
 use Rattle.std.proofs.lemmas.List.{length-replicate}
+use Rattle.std.proofs.lemmas.List.Edits.{sets-eq}
 use Rattle.std.proofs.Math.Seq.{length-sets}
 use Rattle.std.proofs.lemmas.Bool.{lt-leb}
 use Rattle.model.specs.Grid.{filled}
-use Rattle.model.specs.State.{State, Fields, state_of, state_from, parameters_of, cells, WithinLimits}
+use Rattle.model.specs.State.{State, Fields, state_from, parameters_of, cells, WithinLimits}
 use Rattle.model.specs.Answers.{number}
 use Rattle.model.specs.Step.{step_test, step_answer, step_state, work_left}
 use Rattle.model.specs.Record.{Decoded, accepted, refused, decode}
@@ -18,45 +19,21 @@ use Rattle.model.specs.declared.Parameters.{Parameters}
 use Rattle.model.specs.declared.Timestamp.{Timestamp}
 use Rattle.model.specs.declared.Refusal.{Refusal}
 use Rattle.model.specs.declared.Refusal.TheVariants.{Record}
-use Rattle.model.specs.declared.ReadAnswer.{ReadAnswer}
-use Rattle.model.specs.declared.ReadAnswer.TheVariants.{Read, Refused}
+use Rattle.std.specs.Prelude.{Ok, Err}
+use Rattle.model.specs.Answers.{ReadAnswer, header}
 use Rattle.grid.specs.CellFields.{take-filled, drop-filled}
 use Rattle.theorems.specs.Truth.{differ}
 use Rattle.theorems.specs.RoundTrip.{bars-long, put-there}
 use Rattle.theorems.specs.Stepping.{step_keeps}
 use Rattle.theorems.specs.Rewrite.{decoded-within, read-within}
 use Rattle.theorems.specs.Output.{output-fits}
-use Rattle.record_bytes.specs.Stores.{sets-front}
-use Rattle.program.specs.Stepped.{Stepped, Ready, SteppedParts, count}
+use Rattle.text.specs.declared.Sink.{Sink}
+use Rattle.text.specs.Sink.{puts}
+use Rattle.program.specs.Stepped.{Ready, SteppedParts, count}
 
--- ---- parts of the lent fields
-
--- what is left of an inflow that is cut where it ends is all of it
-least_by : {A : Type 0} (m k : ℕ) (l : List A) (enough : Bool) → leb m (length l) ≡ enough → k ≡ min m (length l) → take k l ≡ take m l
-least_by m k l true e h = ap (λ j. take j l) (h ∙ min-eq_left (leb-true m (length l) e))
-least_by m k l false e h = let p = leb-false m (length l) e in take_all k l (omega (arith, h)) ∙ sym (take_all m l (omega arith))
-
-pub take-least : {A : Type 0} (m k : ℕ) (l : List A) → k ≡ min m (length l) → take k l ≡ take m l
-take-least m k l h = least_by m k l (leb m (length l)) refl h
-
-module _ {p : Parameters} {d : Fields} {inflow work eh eu ev work' : List ℤ} {out : List ℕ} {r : ℕ} {out' : List ℕ} where
-  -- a step of the state in their first places
-  pub parts-done : {k : ℕ} → k ≡ min (count p) (length inflow)
-      → let m = count p in Stepped (state_from p d) (take k inflow) work (state_of p eh (take m d.b) eu ev (take m d.barriers)) work' out r out'
-      → SteppedParts p d inflow work out r (eh ++ drop m d.h) (eu ++ drop m d.u) (ev ++ drop m d.v) work' out'
-  parts-done {k} e q =
-      let m = count p in
-      let s' = state_of p eh (take m d.b) eu ev (take m d.barriers) in
-      let x = subst (λ i. Stepped (state_from p d) i work s' work' out r out') (take-least m k inflow e) q in
-      record {
-        after = s';
-        steps = x.steps;
-        fills-h = refl;
-        fills-u = refl;
-        fills-v = refl;
-        clears = x.clears;
-        prints = subst (λ s. Printed (step_lines (step_answer (state_from p d) (take m inflow) (length work)) s) out r out') (sym x.steps) x.prints;
-      }
+-- what is put to a sink that was lent a slice is printed over it
+abbrev pub Shown : List ℕ → ℕ → List ℕ → Sink → Sink → Type 0
+Shown out r out' lent left = (l : List ℕ) → left ≡ puts l lent → Printed l out r out'
 
 -- ---- what is read
 
@@ -73,16 +50,16 @@ module _ (s : State) (l : WithinLimits s) (d : Fields) where
   over : {A : Type 0} {x y z : List A} (f e : List A) → length f ≡ cells s → x ≡ filled (cells s) y (filled (cells s) f e) → y ≡ z → x ≡ filled (cells s) z e
   over f e h p q = p ∙ ap₂ ◌++◌ q (drop-filled (cells s) f e h)
 
-  stepped-whole : {inflow work : List ℤ} {out : List ℕ} {r : ℕ} {h₂ u₂ v₂ work' : List ℤ} {out' : List ℕ} (t : Timestamp)
-      → SteppedParts (parameters_of s) (put s d) inflow work out r h₂ u₂ v₂ work' out'
+  stepped-whole : {inflow work : List ℤ} {out : List ℕ} {r : ℕ} {h₂ u₂ v₂ work' : List ℤ} {out' : List ℕ} (t : Timestamp) {lent left : Sink}
+      → Shown out r out' lent left → SteppedParts (parameters_of s) (put s d) inflow work lent h₂ u₂ v₂ work' left
       → ProgramLeaves (accepted s t) d inflow work out r (flowed (put s d) h₂ u₂ v₂) work' out'
-  stepped-whole {inflow} {work} {out} {r} {out' = out'} t z =
+  stepped-whole {inflow} {work} {out} {r} {out' = out'} t shown z =
       let i = take (cells s) inflow in
       let m = length work in
       let e = put-there s l d in
       let steps = z.steps ∙ ap (λ x. step_state x i m) e in
       record {
-        prints = subst (λ x. Printed x out r out') (ap₂ step_lines (ap (λ x. step_answer x i m) e) steps) z.prints;
+        prints = subst (λ x. Printed x out r out') (ap₂ step_lines (ap (λ x. step_answer x i m) e) steps) (shown _ z.prints);
         fills = (λ j. record {
           h = over s.h d.h l.depths.long z.fills-h (ap (λ x. x.h) steps) j;
           b = filled (cells s) s.b d.b;
@@ -95,7 +72,7 @@ module _ (s : State) (l : WithinLimits s) (d : Fields) where
 
 module _ {input : List ℕ} {d : Fields} {a : ReadAnswer} {d' : Fields} (q : ReadPromise input d a d') where
   -- an accepted record's state may be stepped
-  pub read-ready : {p : Parameters} {t : Timestamp} → a ≡ Read p t → Ready p d'
+  pub read-ready : {p : Parameters} {t : Timestamp} → a ≡ (Ok (header p t)) → Ready p d'
   read-ready {p} {t} e =
       let l = read-within input d d' p t (subst (λ x. ReadPromise input d x d') e q) in
       record {
@@ -113,30 +90,31 @@ module _ {input : List ℕ} {d : Fields} {a : ReadAnswer} {d' : Fields} (q : Rea
   shortly l = ap (λ t. cond t (refused (Record (length input))) (decode input (rooms_in d))) (lt-leb input_limit (length input) l)
 
   module _ {inflow work : List ℤ} {out : List ℕ} {r : ℕ} {out' : List ℕ} where
-    refused-by : (x : Decoded) {y : Refusal} {n : ℕ} → read_of input d ≡ x → a ≡ Refused y → n ≡ number y → Printed (refused_line n) out r out'
+    refused-by : (x : Decoded) {y : Refusal} {n : ℕ} → read_of input d ≡ x → a ≡ (Err y) → n ≡ number y → Printed (refused_line n) out r out'
         → ProgramLeaves x d inflow work out r d' work out'
     refused-by (accepted s t) o e m z = differ (cc (sym e ∙ q.answers ∙ ap read_answer o))
     refused-by (refused y') {y} o e m z =
         let same : y ≡ y' = cc (sym e ∙ q.answers ∙ ap read_answer o) in
         record { prints = subst (λ k. Printed (refused_line k) out r out') (m ∙ ap number same) z; fills = q.fills ∙ ap (λ x. read_into x d) o; clears = refl }
 
-    pub program-refused : {y : Refusal} {n : ℕ} → length input < input_limit → a ≡ Refused y → n ≡ number y → Printed (refused_line n) out r out'
+    pub program-refused : {y : Refusal} {n : ℕ} → length input < input_limit → a ≡ (Err y) → n ≡ number y → Printed (refused_line n) out r out'
         → ProgramPromise input d inflow work out r d' work out'
     program-refused l e m z = subst (λ x. ProgramLeaves x d inflow work out r d' work out') (sym (shortly l)) (refused-by (read_of input d) refl e m z)
 
-    module _ {p : Parameters} {t : Timestamp} {h₂ u₂ v₂ work' : List ℤ} where
-      stepped_by : (x : Decoded) → read_of input d ≡ x → a ≡ Read p t → SteppedParts p d' inflow work out r h₂ u₂ v₂ work' out'
+    module _ {p : Parameters} {t : Timestamp} {h₂ u₂ v₂ work' : List ℤ} {lent left : Sink} (shown : Shown out r out' lent left) where
+      stepped_by : (x : Decoded) → read_of input d ≡ x → a ≡ (Ok (header p t)) → SteppedParts p d' inflow work lent h₂ u₂ v₂ work' left
           → ProgramLeaves x d inflow work out r (flowed d' h₂ u₂ v₂) work' out'
       unfolding read_of
       stepped_by (refused y) o e z = differ (cc (sym e ∙ q.answers ∙ ap read_answer o))
       stepped_by (accepted s t') o e z =
-          let same : p ≡ parameters_of s = cc (sym e ∙ q.answers ∙ ap read_answer o) in
+          let told : header p t ≡ header (parameters_of s) t' = cc (sym e ∙ q.answers ∙ ap read_answer o) in
+          let same : p ≡ parameters_of s = ap (λ x. x.parameters) told in
           let f : d' ≡ put s d = q.fills ∙ ap (λ x. read_into x d) o in
           subst (λ x. ProgramLeaves (accepted s t') d inflow work out r (flowed x h₂ u₂ v₂) work' out') (sym f)
-          (stepped-whole s (decoded-within input (rooms_in d) s t' o).0 d t'
-          (subst (λ x. SteppedParts (parameters_of s) x inflow work out r h₂ u₂ v₂ work' out') f (subst (λ y. SteppedParts y d' inflow work out r h₂ u₂ v₂ work' out') same z)))
+          (stepped-whole s (decoded-within input (rooms_in d) s t' o).0 d t' shown
+          (subst (λ x. SteppedParts (parameters_of s) x inflow work lent h₂ u₂ v₂ work' left) f (subst (λ y. SteppedParts y d' inflow work lent h₂ u₂ v₂ work' left) same z)))
 
-      pub program-stepped : length input < input_limit → a ≡ Read p t → SteppedParts p d' inflow work out r h₂ u₂ v₂ work' out'
+      pub program-stepped : length input < input_limit → a ≡ (Ok (header p t)) → SteppedParts p d' inflow work lent h₂ u₂ v₂ work' left
           → ProgramPromise input d inflow work out r (flowed d' h₂ u₂ v₂) work' out'
       program-stepped l e z = subst (λ x. ProgramLeaves x d inflow work out r (flowed d' h₂ u₂ v₂) work' out') (sym (shortly l)) (stepped_by (read_of input d) refl e z)
 
@@ -177,6 +155,6 @@ whole-text input {entry} {r} {exit} e q =
     let text = program_output input in
     let fits : length text ≤ length entry = omega (arith, output-fits input, e) in
     let counted : r ≡ length text = q.counts ∙ min-eq_left fits in
-    let held : exit ≡ filled (length text) text entry = q.holds ∙ sets-front entry text (length text) refl fits in
+    let held : exit ≡ filled (length text) text entry = q.holds ∙ rw (zero-add (length text)) at (sets-eq text entry 0 (omega (arith, fits))) in
     let long : length exit ≡ length entry = ap length q.holds ∙ length-sets entry 0 text in
     (omega (arith, counted, long, fits), ap₂ take counted held ∙ take-filled (length text) text entry refl)

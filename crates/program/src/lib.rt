@@ -5,25 +5,27 @@
 ghost use Rattle.std.specs.Prelude.{◌≡◌, [], ◌≤◌, ◌<◌, length, take, IfOk};
 ghost use Rattle.std.specs.Io.{ReadsAtMost};
 ghost use Rattle.std.specs.Io.KnownBytes.{Consumes, IsAtEnd};
-ghost use Rattle.model.specs.State.{WithinLimits, state_of, after, slices_before, slices_after};
+ghost use Rattle.model.specs.State.{WithinLimits, state_of, after, lent_state, slices_before, slices_after};
 ghost use Rattle.model.specs.Program.{state_lines, program_output, Printed, ProgramPromise};
+ghost use Rattle.text.specs.Sink.{puts};
 ghost use Rattle.program.specs.Stepped.{Printable, Ready, Stepped, SteppedParts};
 
-use model::{Parameters, ReadAnswer, StepAnswer};
+use model::{Lent, LentMut, Parameters, Refusal, StepError};
 use std::io;
 use std::io::Read;
+use text::Sink;
 
-// Prints a state: its total depth, then each cell. Bottom and barriers do not enter: in the contract they have no cells.
-fn print_state(p: Parameters, h: &[i64], u: &[i64], v: &[i64], out: &mut [u8]) -> usize
-    requires { Printable p h.now u.now v.now }
-    ensures { Printed (state_lines (state_of p h.now [] u.now v.now []))
-        out.old result out.new }
+// Prints a state: its total depth, then each cell. Bottom and barriers do not enter, and nothing is asked of them.
+fn print_state(s: &Lent, out: &mut Sink<'_>)
+    requires { Printable (lent_state s.now) }
+    ensures { out.new ≡ puts (state_lines (lent_state s.now)) out.old }
 {
-    let at = text::put_total(out, scheme_totals::sum_depths(h));
-    text::put_cells(out, at, p.w, h, u, v)
+    out.put_total(scheme_totals::sum_depths(s.h));
+    out.put_cells(s.p.w, s.h, s.u, s.v);
 }
 
-// Steps a state within the limits, and prints what comes of it.
+// Steps a state within the limits, and prints what comes of it. Its slices are lent apart, as parts of fields: of a part in a struct's field
+// the checker knows no more than its length once it is back. The 6 has no `Refusal`, and stands in the model's `step_lines` too.
 fn step_state(
     p: Parameters,
     h: &mut [i64],
@@ -33,25 +35,29 @@ fn step_state(
     barriers: &[u8],
     inflow: &[i64],
     work: &mut [i64],
-    out: &mut [u8],
-) -> usize
+    out: &mut Sink<'_>,
+)
     requires { WithinLimits (state_of p h.old b.now u.old v.old barriers.now) }
     ensures { let s = state_of p h.old b.now u.old v.old barriers.now in
         Stepped s inflow.now work.old (after p h b u v barriers) work.new
-        out.old result out.new }
+        out.old out.new }
 {
-    match step_run::step_within(p, h, b, u, v, barriers, inflow, work) {
-        StepAnswer::Done => print_state(p, h, u, v, out),
-        StepAnswer::Refused(refusal) => text::put_refused(out, answers::number_of(refusal)),
-        StepAnswer::OutOfBounds {
-            pass: _,
-            field: _,
-            cell: _,
-        } => text::put_refused(out, 6),
+    let mut s = LentMut {
+        p,
+        h,
+        b,
+        u,
+        v,
+        barriers,
+    };
+    match step_run::step_within(&mut s, inflow, work) {
+        Ok(()) => print_state(&s.lent(), out),
+        Err(StepError::Refused(refusal)) => out.put_refused(answers::number_of(refusal)),
+        Err(StepError::OutOfBounds(_)) => out.put_refused(6),
     }
 }
 
-// The same of the state in the first w·n places of lent fields.
+// The same of the state in the first w·n places of lent fields, which are lent apart for the same reason.
 fn step_parts(
     p: Parameters,
     h: &mut [i64],
@@ -61,15 +67,15 @@ fn step_parts(
     barriers: &[u8],
     inflow: &[i64],
     work: &mut [i64],
-    out: &mut [u8],
-) -> usize
+    out: &mut Sink<'_>,
+)
     requires { Ready p (record { h = h.old; b = b.now; u = u.old; v = v.old; barriers = barriers.now }) }
     ensures { SteppedParts p (record { h = h.old; b = b.now; u = u.old; v = v.old; barriers = barriers.now }) inflow.now work.old
-        out.old result h.new u.new v.new work.new
+        out.old h.new u.new v.new work.new
         out.new }
 {
     let m = p.w * p.n;
-    let k = integers::min(m, inflow.len());
+    let k = m.min(inflow.len());
     step_state(
         p,
         &mut h[..m],
@@ -85,7 +91,7 @@ fn step_parts(
 
 // A record read into h, b, u, v and the barriers, one step of it with the inflow lent, and what is printed of that. Answers how many bytes
 // of out it has filled. It rules out, for instance: the total before the step; a refused step that has printed cells; a grid cut to the
-// room lent.
+// room lent. The fields are lent apart and not as a state, since the reader fills all five: there is no state before.
 pub fn print_step(
     input: &[u8],
     h: &mut [i64],
@@ -101,20 +107,32 @@ pub fn print_step(
         work.old out.old result (slices_after h b u v barriers) work.new
         out.new }
 {
+    let mut sink = Sink::new(out);
     if input.len() >= 65536 {
-        return text::put_refused(out, 7);
+        let offset = input.len();
+        sink.put_refused(answers::number_of(Refusal::Record { offset }));
+        return sink.count();
     }
     match record_read::read(input, h, b, u, v, barriers) {
-        ReadAnswer::Read {
-            parameters,
-            timestamp: _,
-        } => step_parts(parameters, h, b, u, v, barriers, inflow, work, out),
-        ReadAnswer::Refused(refusal) => text::put_refused(out, answers::number_of(refusal)),
+        Ok(header) => step_parts(
+            header.parameters,
+            h,
+            b,
+            u,
+            v,
+            barriers,
+            inflow,
+            work,
+            &mut sink,
+        ),
+        Err(refusal) => sink.put_refused(answers::number_of(refusal)),
     }
+    sink.count()
 }
 
-// What the step program prints for an input, over arrays of its own: fields for up to 1,024 cells, so that a larger grid is an 8. It
-// rules out, for instance: a grid of 1,024 cells refused; an inflow of 1 in every cell.
+// What the step program prints for an input, over arrays of its own: fields for up to 1,024 cells, so that a larger grid is an 8. The
+// arrays are fixed, since nothing here takes memory from a heap. It rules out, for instance: a grid of 1,024 cells refused; an inflow of 1
+// in every cell.
 pub fn output(input: &[u8], out: &mut [u8]) -> usize
     ensures { Printed (program_output input.now) out.old result out.new }
 {
@@ -146,8 +164,9 @@ fn whole_output(input: &[u8], out: &mut [u8; 32768]) -> usize
     output(input, out)
 }
 
-// Reads until buf is full or the input ends, and answers how many bytes of buf it has filled. It rules out, for instance: an input cut
-// after its first read; a byte lost between two reads.
+// Reads until buf is full or the input ends, and answers how many bytes of buf it has filled. A read may give fewer bytes than it has room
+// for, so no `for` says how many reads there are; the library's `read_exact` says too little where the input ends first. It rules out, for
+// instance: an input cut after its first read; a byte lost between two reads.
 fn read_full<R: Read>(reader: &mut R, buf: &mut [u8]) -> io::Result<usize>
     ensures bound { ReadsAtMost result buf.new }
     ensures bytes { IfOk result (λ n. Consumes (R.remaining reader.old) (R.remaining reader.new) (take n buf.new)) }
@@ -165,7 +184,7 @@ fn read_full<R: Read>(reader: &mut R, buf: &mut [u8]) -> io::Result<usize>
 }
 
 // Reads standard input, up to the byte that makes it too long, and writes what the program prints. Where a read fails, nothing is
-// written.
+// written. Both arrays are fixed: no heap.
 pub fn run(rt: &(impl Input + Print)) -> io::Result<()> {
     let mut input = [0u8; 65536];
     let count = read_full(&mut rt.reader(), &mut input)?;

@@ -1,6 +1,6 @@
--- how many bytes a number takes, and the value of a tag; laws of bytes read and written one by one
+-- how many bytes a number takes; tags and their table; laws of bytes read and written one by one
 pub mod NumberSizes
-pub mod TagSizes
-pub mod Stores
+pub mod Tags
 pub mod ByteLoops
-pub mod Signs
+pub mod Puts
+pub mod BigEndian

@@ -11,8 +11,9 @@ use Rattle.model.specs.Record.{decode, accepted}
 use Rattle.model.specs.Promises.{ComparePromise}
 use Rattle.model.specs.Claims.{BothAre, swapped}
 use Rattle.model.specs.declared.Timestamp.{Timestamp}
-use Rattle.model.specs.declared.CompareAnswer.{CompareAnswer}
-use Rattle.model.specs.declared.CompareAnswer.TheVariants.{Same}
+use Rattle.std.specs.Prelude.{Ok}
+use Rattle.model.specs.Answers.{CompareAnswer}
+use Rattle.model.specs.declared.Comparison.TheVariants.{Same}
 use Rattle.theorems.specs.Theorems.{theorems}
 use Rattle.record_compare.proofs.compare.Kinds as compare-kinds
 use Rattle.record_compare.proofs.compare.Reads as compare-reads
@@ -36,7 +37,7 @@ module _ (κs : Lfts 2) (a : Dens κs compare-kinds.ps) (answer : (res_t compare
 -- ---- what it tells
 
 -- same exactly where both records are accepted, with one state and one timestamp
-pub same-means : (c : CompareCall) → (c.answer ≡ Same) ↔ BothAre c.first c.second
+pub same-means : (c : CompareCall) → (c.answer ≡ Ok Same) ↔ BothAre c.first c.second
 same-means c = theorems.compare.same c.first c.second c.answer c.promise
 
 -- a call with the records swapped swaps the answer, of two that are accepted
@@ -49,5 +50,5 @@ swapped-answer c d p q {s} {t} {x} {y} one two =
 -- ---- the same of the code itself: from what a caller learns of a call, of its own parameters
 
 module _ (κs : Lfts 2) (a : Dens κs compare-kinds.ps) (answer : (res_t compare-kinds.r κs).Denot) (e : AtExit (ended_of 2 compare-kinds.ps compare-kinds.r) κs) where
-  pub code-same-means : compare-reads.Learnt κs a answer e → let (first, (second, _)) = a in (answer ≡ Same) ↔ BothAre first.now second.now
+  pub code-same-means : compare-reads.Learnt κs a answer e → let (first, (second, _)) = a in (answer ≡ Ok Same) ↔ BothAre first.now second.now
   code-same-means told = same-means (compare_call κs a answer e told)

@@ -7,11 +7,10 @@ use Prim.Native.Nat.{ℕ}
 use contract.Lifetimes.{Lfts}
 use denote.Triple.Clauses.{AtExit}
 use borrow.Fn.Kinds.{Dens, res_t, ended_of}
-use Rattle.model.specs.State.{State, Fields, state_of}
+use Rattle.model.specs.State.{State, Fields, lent_state}
 use Rattle.model.specs.Promises.{WritePromise, ReadPromise}
 use Rattle.model.specs.declared.Timestamp.{Timestamp}
-use Rattle.model.specs.declared.ReadAnswer.{ReadAnswer}
-use Rattle.model.specs.declared.WriteAnswer.{WriteAnswer}
+use Rattle.model.specs.Answers.{ReadAnswer, WriteAnswer}
 use Rattle.record_write.proofs.write.Kinds as write-kinds
 use Rattle.record_write.proofs.write.Reads as write-reads
 use Rattle.record_read.proofs.read.Kinds as read-kinds
@@ -43,9 +42,9 @@ pub record WriteCall : Type 0 where
   pub answer : WriteAnswer
   pub promise : WritePromise state timestamp d answer d'
 
-module _ (κs : Lfts 6) (a : Dens κs write-kinds.ps) (answer : (res_t write-kinds.r κs).Denot) (e : AtExit (ended_of 6 write-kinds.ps write-kinds.r) κs) where
+module _ (κs : Lfts 3) (a : Dens κs write-kinds.ps) (answer : (res_t write-kinds.r κs).Denot) (e : AtExit (ended_of 3 write-kinds.ps write-kinds.r) κs) where
   abbrev pub write_call : write-reads.Learnt κs a answer e → WriteCall
   write_call told =
-      let (p, (h, (b, (u, (v, (barriers, (timestamp, (d, _)))))))) = a in
-      let (_, (_, (_, (_, (_, (_, (_, (d', _)))))))) = e in
-      record { state = state_of p h.now b.now u.now v.now barriers.now; timestamp = timestamp; d = d.now; d' = d'.now; answer = answer; promise = told }
+      let (s, (timestamp, (d, _))) = a in
+      let (_, (_, (d', _))) = e in
+      record { state = lent_state s.now; timestamp = timestamp; d = d.now; d' = d'.now; answer = answer; promise = told }

@@ -5,17 +5,17 @@ ghost use Rattle.std.specs.Prelude.{◌≡◌};
 ghost use Rattle.model.specs.State.{cells, slices, slices_before, slices_after};
 ghost use Rattle.model.specs.Promises.{rooms_in, put, ReadPromise};
 ghost use Rattle.model.specs.Claims.{EachRoom, BytesOf};
-ghost use Rattle.record_tags.specs.Places.{parts_in, Placed};
+ghost use Rattle.record_tags.specs.Places.{parts_in};
 ghost use Rattle.record_tests.specs.RecordTested.{state_read};
 
-use model::{Answer, ReadAnswer};
-use record_bytes::Size;
-use record_tags::Places;
+use model::{Header, Refusal};
+use record_bytes::{Size, Tag};
+use record_tags::Record;
 
-// Fills the first m places of each field. Where the record has no barriers, they are filled with 0.
+// Fills the first m places of each field. Where the record has no barriers, they are filled with 0. (The five slices stand apart, with m beside
+// them: they are no state before they are filled, and may be longer than m.)
 fn fill(
-    rec: &[u8],
-    at: &Places,
+    rec: &Record,
     m: usize,
     h: &mut [i64],
     b: &mut [i64],
@@ -23,17 +23,16 @@ fn fill(
     v: &mut [i64],
     barriers: &mut [u8],
 )
-    requires { Placed rec.now at.now
-        × (cells (state_read rec.now) ≡ m)
-        × BytesOf m (parts_in rec.now)
+    requires { (cells (state_read rec.now.bytes.now) ≡ m)
+        × BytesOf m (parts_in rec.now.bytes.now)
         × EachRoom m (rooms_in (slices h b u v barriers)) }
-    ensures { slices_after h b u v barriers ≡ put (state_read rec.now) (slices_before h b u v barriers) }
+    ensures { slices_after h b u v barriers ≡ put (state_read rec.now.bytes.now) (slices_before h b u v barriers) }
 {
-    record_bytes::read_numbers(record_tags::value_of(rec, at, 4), m, h, Size::Four);
-    record_bytes::read_numbers(record_tags::value_of(rec, at, 5), m, b, Size::Four);
-    record_bytes::read_numbers(record_tags::value_of(rec, at, 6), m, u, Size::Two);
-    record_bytes::read_numbers(record_tags::value_of(rec, at, 7), m, v, Size::Two);
-    record_bytes::read_bytes(record_tags::value_of(rec, at, 9), m, barriers);
+    record_bytes::read_numbers(rec.value_of(Tag::Depth), m, h, Size::Four);
+    record_bytes::read_numbers(rec.value_of(Tag::Bottom), m, b, Size::Four);
+    record_bytes::read_numbers(rec.value_of(Tag::VelocityU), m, u, Size::Two);
+    record_bytes::read_numbers(rec.value_of(Tag::VelocityV), m, v, Size::Two);
+    record_bytes::read_bytes(rec.value_of(Tag::Barriers), m, barriers);
 }
 
 // The state of a record into the first w·n places of h, b, u, v and the barriers, and its parameters and timestamp. Refusals: 7, 1, 2, 8,
@@ -46,26 +45,23 @@ pub fn read(
     u: &mut [i64],
     v: &mut [i64],
     barriers: &mut [u8],
-) -> ReadAnswer
+) -> Result<Header, Refusal>
     ensures { ReadPromise rec.now (slices_before h b u v barriers) result (slices_after h b u v barriers) }
 {
-    let mut at = [rec.len(); record_tags::PLACES];
     // a record that fits the shortest destination fits all five
-    let numbers = integers::min(
-        integers::min(h.len(), b.len()),
-        integers::min(u.len(), v.len()),
-    );
-    let room = integers::min(numbers, barriers.len());
-    match record_tests::examine(rec, &mut at, room) {
-        Answer::Accepted => {
-            let p = record_tests::parameters_in(rec, &at);
-            let timestamp = record_tests::timestamp_in(rec, &at);
-            fill(rec, &at, p.w * p.n, h, b, u, v, barriers);
-            ReadAnswer::Read {
-                parameters: p,
-                timestamp,
-            }
-        }
-        Answer::Refused(refusal) => ReadAnswer::Refused(refusal),
-    }
+    let room = h
+        .len()
+        .min(b.len())
+        .min(u.len())
+        .min(v.len())
+        .min(barriers.len());
+    let record = record_tests::examine(rec, room)?;
+    let parameters = record_tests::parameters_in(&record);
+    let timestamp = record_tests::timestamp_in(&record);
+    let m = parameters.w * parameters.n;
+    fill(&record, m, h, b, u, v, barriers);
+    Ok(Header {
+        parameters,
+        timestamp,
+    })
 }

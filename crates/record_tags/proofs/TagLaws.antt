@@ -1,64 +1,59 @@
 -- The tests at a tag and at the record's end, as the code makes them: by the places of the tags seen. Assumes nothing.
-use mathlib.Core.Path.{◌≡◌, refl, sym, ap, subst, ◌∙◌}
-use mathlib.Core.Bool.{Bool, true, false}
-use mathlib.Core.List.{List}
-use Prim.Native.Nat.{ℕ, ◌+◌, ◌≤◌, ◌<◌}
-use native.Mathlib.Omega.{arith}
-use lib.Dec.{ltb}
-use lib.ListN.{length, get_or}
-use borrow.Author.Tests.{ltb-true, ltb-false, lt-ltb, le-ltb}
-use Rattle.model.specs.Record.{Part, has, tag_test, missing_test}
+use Rattle.std.specs.Prelude.{◌≡◌, ◌⊎◌, true, false, List, ℕ, zero, suc, ◌<◌, T, length, take, get_or, Option, None, Some, Ok, Err, is_some}
+use Rattle.std.proofs.Common.{sym, ap, subst, ◌∙◌, inl, inr, lt_of_not-le, lit<, arith}
+use Rattle.std.proofs.lemmas.Grind.{common_steps}
+use Rattle.model.specs.Record.{tag_table, Part, has, known_tag, tag_test, missing_test}
 use Rattle.model.specs.Promises.{answer_of}
 use Rattle.model.specs.Claims.{Among, BadTag}
 use Rattle.model.specs.declared.Refusal.TheVariants.{Record}
-use Rattle.model.specs.declared.Answer.TheVariants.{Accepted, Refused}
 use Rattle.theorems.specs.Truth.{true-T}
-use Rattle.theorems.specs.Walks.{Sound, sound-iff}
-use Rattle.theorems.specs.TagLaws.{last_required, told, tag-judged, end-judged, none-missing, among-iff, absent}
-use Rattle.record_tags.specs.Places.{places, Seen}
+use Rattle.theorems.specs.TagLaws.{last_required, known-iff, each-required, told, tag-judged, end-judged, none-missing, among-iff, absent}
+use Rattle.record_bytes.specs.declared.Tag.{Tag}
+use Rattle.record_bytes.specs.declared.Tag.TheVariants.{Grid, Constants, Seconds, Depth, Bottom, VelocityU, VelocityV}
+use Rattle.record_bytes.specs.declared.TheConstants.{TAGS}
+use Rattle.record_bytes.specs.Tags.{place_of, number_of, in-place}
+use Rattle.record_tags.specs.Places.{offset_of, Seen}
 
 -- ---- at a tag
 
-module _ (rec : List ℕ) (k : ℕ) (parts : List Part) where
-  pub tag-refused : BadTag rec k parts → Refused (Record k) ≡ answer_of (tag_test rec k parts)
-  tag-refused b = ap answer_of (sym (told (tag-judged rec k parts) b))
+pub tag-refused : (rec : List ℕ) (k : ℕ) (parts : List Part) → BadTag rec k parts → tag_test rec k parts ≡ Some (Record k)
+tag-refused rec k parts b = told (tag-judged rec k parts) b
 
-  pub tag-accepted : Sound rec k parts → Accepted ≡ answer_of (tag_test rec k parts)
-  tag-accepted s = ap answer_of (sym ((sound-iff rec k parts).1 s))
+-- a number that no tag has
+pub unknown : (n : ℕ) → known_tag n ≡ false → (n < 1) ⊎ (length tag_table < n)
+unknown zero e = inl (lit< tt)
+unknown (suc n) e = inr (lt_of_not-le (λ h. subst T e ((known-iff (suc n)).1 (omega arith, h))))
 
--- a tag was seen exactly where its place is within the record
-module _ {rec at : List ℕ} {parts : List Part} (s : Seen rec parts at) (t : ℕ) (h : t < places) where
-  pub seen-among : get_or at t 0 < length rec → Among t parts
-  seen-among l = (among-iff t parts).0 (true-T (s.found t h ∙ lt-ltb (get_or at t 0) (length rec) l))
+-- a tag was seen exactly where it has a place
+module _ {rec : List ℕ} {at : List (Option ℕ)} {parts : List Part} (s : Seen rec parts at) (t : Tag) where
+  pub seen-among : is_some (offset_of t at) ≡ true → Among (number_of t) parts
+  seen-among l = (among-iff (number_of t) parts).0 (true-T (s.found t ∙ l))
 
-  pub not_seen : length rec ≤ get_or at t 0 → has t parts ≡ false
-  not_seen l = s.found t h ∙ le-ltb (get_or at t 0) (length rec) l
+  pub not_seen : is_some (offset_of t at) ≡ false → has (number_of t) parts ≡ false
+  not_seen l = s.found t ∙ l
 
 -- ---- at the end
 
--- the tags below m were seen
-pub record FoundTo (rec at : List ℕ) (m : ℕ) : Type 0 where
-  pub some : 1 ≤ m
-  pub most : m ≤ last_required + 1
-  pub each : (t : ℕ) → 1 ≤ t → t < m → get_or at t 0 < length rec
+-- the first m tags were seen
+abbrev pub FoundTo : List (Option ℕ) → ℕ → Type 0
+FoundTo at m = (k : ℕ) → k < m → is_some (get_or at k None) ≡ true
 
-module _ {rec at : List ℕ} where
-  pub found_none : FoundTo rec at 1
-  found_none = record { some = omega arith; most = omega arith; each = λ t l h. absurd (omega arith) }
+module _ {rec : List ℕ} {at : List (Option ℕ)} {parts : List Part} (s : Seen rec parts at) where
+  -- the places that the loop goes through are those of the tags that must be there, no more and no fewer
+  pub all-required : length (take last_required at) ≡ last_required
+  all-required = let l = s.long in grind (arith, common_steps)
 
-  pub found-more : {m : ℕ} → FoundTo rec at m → m ≤ last_required → get_or at m 0 < length rec → FoundTo rec at (m + 1)
-  found-more {m} f h l = record { some = omega arith; most = omega arith; each = λ t a b. by t (ltb t m) refl a b }
-    where
-      by : (t : ℕ) (x : Bool) → ltb t m ≡ x → 1 ≤ t → t < m + 1 → get_or at t 0 < length rec
-      by t true e a b = f.each t a (ltb-true t m e)
-      by t false e a b = let q : t ≡ m = (let z = ltb-false t m e in omega arith) in subst (λ t. get_or at t 0 < length rec) (sym q) l
+  pub complete : FoundTo at last_required → Ok tt ≡ answer_of (missing_test rec parts)
+  complete f =
+      let each : (t : Tag) → place_of t < last_required → Among (number_of t) parts = λ t h. seen-among s t (f (place_of t) h) in
+      let all =
+      each-required (λ n. Among n parts)
+      (each Grid (lit< tt), (each Constants (lit< tt), (each Seconds (lit< tt), (each Depth (lit< tt), (each Bottom (lit< tt), (each VelocityU (lit< tt), (each VelocityV (lit< tt), tt)))))))
+      in
+      ap answer_of (sym (none-missing rec parts (λ m. m.3 (all m.0 m.1 m.2))))
 
-  pub found_all : {m : ℕ} → FoundTo rec at m → last_required < m → FoundTo rec at (last_required + 1)
-  found_all f h = record { some = omega arith; most = omega arith; each = λ t a b. f.each t a (omega arith) }
-
-module _ {rec at : List ℕ} {parts : List Part} (s : Seen rec parts at) where
-  pub complete : FoundTo rec at (last_required + 1) → Accepted ≡ answer_of (missing_test rec parts)
-  complete f = ap answer_of (sym (none-missing rec parts (λ m. m.3 (seen-among s m.0 (let x = m.2 in omega arith) (f.each m.0 m.1 (let x = m.2 in omega arith))))))
-
-  pub incomplete : (t : ℕ) → 1 ≤ t → t ≤ last_required → length rec ≤ get_or at t 0 → Refused (Record (length rec)) ≡ answer_of (missing_test rec parts)
-  incomplete t a b l = ap answer_of (sym (told (end-judged rec parts) (t, a, b, (absent t parts).0 (not_seen s t (omega arith) l))))
+  pub incomplete : (k : ℕ) → k < last_required → is_some (get_or at k None) ≡ false → Err (Record (length rec)) ≡ answer_of (missing_test rec parts)
+  incomplete k h l =
+      let t : Tag = get_or TAGS k Grid in
+      let e : place_of t ≡ k = in-place k Grid (omega arith) in
+      ap answer_of (sym (told (end-judged rec parts) (suc (place_of t), omega arith, omega arith, (absent (number_of t) parts).0 (not_seen s t (ap (λ k. is_some (get_or at k None)) e ∙ l)))))

@@ -10,8 +10,8 @@ use lib.ListN.{length, get_or, replicate}
 use Rattle.model.specs.Numbers.{eqℤ}
 use Rattle.model.specs.State.{State, state_of, parameters_of, cells, boundary_of, wall_west, wall_south, bars_west, bars_south, closed_west, closed_south}
 use Rattle.model.specs.Tests.{Test, seeks, must, ◌then◌, first_found}
-use Rattle.model.specs.Refusals.{taken_of, fields_of, grid_known, edge_tests, timed_content_tests, room_tests}
-use Rattle.model.specs.Record.{Size, fixed, per_cell, tag_table, Part, bytes_test, bytes_tests, record_test, Walked, damaged, whole, walked, state_in, timestamp_in, judged, read_by, decode}
+use Rattle.model.specs.Refusals.{taken_of, value_test, fields_of, grid_known, edge_tests, timed_content_tests, room_tests}
+use Rattle.model.specs.Record.{tag_table, Part, value_of, bytes_tests, record_test, Walked, damaged, whole, walked, state_in, timestamp_in, refused, judged, read_by, decode}
 use Rattle.model.specs.Promises.{answer_of}
 use Rattle.model.specs.Claims.{Missing, BytesOf}
 use Rattle.model.specs.declared.Parameters.{Parameters}
@@ -19,36 +19,39 @@ use Rattle.model.specs.declared.Timestamp.{Timestamp}
 use Rattle.model.specs.declared.Field.{Field}
 use Rattle.model.specs.declared.Field.TheVariants.{VelocityU, VelocityV}
 use Rattle.model.specs.declared.Refusal.{Refusal}
-use Rattle.model.specs.declared.Refusal.TheVariants.{Grid, ClosedEdge}
-use Rattle.model.specs.declared.Answer.{Answer}
-use Rattle.model.specs.declared.Answer.TheVariants.{Accepted, Refused}
-use Rattle.theorems.specs.Truth.{true-T, differ}
-use Rattle.theorems.specs.TestLaws.{passes_append, found-append}
+use Rattle.model.specs.declared.Refusal.TheVariants.{Grid, Value, ClosedEdge}
+use Rattle.std.specs.Prelude.{Ok, Err}
+use Rattle.model.specs.Answers.{Answer}
+use Rattle.theorems.specs.Truth.{true-T}
+use Rattle.theorems.specs.TestLaws.{found-append}
 use Rattle.theorems.specs.RoundTrip.{bytes-iff}
 use Rattle.grid.specs.CellFields.{same_at}
 use Rattle.grid.specs.declared.Edge.{Edge}
 use Rattle.grid.specs.declared.Edge.TheVariants.{West, South}
 use Rattle.tests.specs.Sought.{still_test, edges_are, barriers_test}
-use Rattle.tests.specs.Links.{after, Chain, idle, passed, small-inside, accepted-none, refused-some}
-use Rattle.record_tags.specs.Places.{parts_in, Placed, Found}
-use Rattle.record_tests.specs.RecordTested.{state_read, Meant, Examined}
+use Rattle.tests.specs.Links.{answers, refused_first, passed_first, each-passed, small-inside, refused-some}
+use Rattle.record_bytes.specs.declared.Size.{Size}
+use Rattle.record_bytes.specs.NumberSizes.{numbers_by}
+use Rattle.record_tags.specs.Places.{parts_in}
+use Rattle.record_tests.specs.RecordTested.{state_read, Meant}
 
 -- ---- the fields as the code takes them: w·n numbers by the parameters read
 
-module _ {rec at : List ℕ} {p : Parameters} (z : Meant rec at p) where
-  abbrev s : State
-  s = state_read rec
+module _ {rec : List ℕ} {p : Parameters} (y : Meant rec p) where
+  pub cells_are : p.w * p.n ≡ cells (state_read rec)
+  cells_are = ap (λ (p : Parameters). p.w * p.n) y.parameters
 
-  pub cells_are : p.w * p.n ≡ cells s
-  cells_are = ap (λ (p : Parameters). p.w * p.n) z.parameters
+  -- the numbers of tag t are those of a field of the state, and so is their test
+  module _ (z : Size) (t : ℕ) {size : Size} {count : ℕ} {value : List ℕ} {f : List ℤ} (e : (value ≡ value_of t (parts_in rec)) × (size ≡ z) × (count ≡ p.w * p.n)) (h : f ≡ numbers_by z (cells (state_read rec)) (value_of t (parts_in rec))) where
+    pub own-numbers : numbers_by size count value ≡ f
+    own-numbers = (λ i. numbers_by (e.1 i) ((e.2 ∙ cells_are) i) (e.0 i)) ∙ sym h
 
-  -- as test 4 takes one
-  pub own-taken : (field : Field) {l f : List ℤ} → l ≡ f → taken_of (p.w * p.n) field l ≡ taken_of (cells s) field f
-  own-taken field e = λ i. taken_of (cells_are i) field (e i)
+    pub own-test : (field : Field) → value_test Value (taken_of (p.w * p.n) field (numbers_by size count value)) ≡ value_test Value (taken_of (cells (state_read rec)) field f)
+    own-test field = λ i. value_test Value (taken_of (cells_are i) field (own-numbers i))
 
   -- u's edges, then v's
-  pub own-edges : still_test p s.barriers West VelocityU s.u ∷ still_test p s.barriers South VelocityV s.v ∷ [] ≡ edge_tests s
-  own-edges = edges_are p s.h s.b s.u s.v s.barriers ∙ ap (λ p. edge_tests (state_of p s.h s.b s.u s.v s.barriers)) z.parameters
+  pub own-edges : let s = state_read rec in still_test p s.barriers West VelocityU s.u ∷ still_test p s.barriers South VelocityV s.v ∷ [] ≡ edge_tests s
+  own-edges = let s = state_read rec in edges_are p s.h s.b s.u s.v s.barriers ∙ ap (λ p. edge_tests (state_of p s.h s.b s.u s.v s.barriers)) y.parameters
 
 -- tests that go by barriers go by what they mean at each cell
 module _ (o l : List ℕ) (e : (k : ℕ) → get_or o k 0 ≡ get_or l k 0) where
@@ -59,38 +62,23 @@ module _ (o l : List ℕ) (e : (k : ℕ) → get_or o k 0 ≡ get_or l k 0) wher
   same-still p South field f =
       λ i. seeks (λ k. (wall_south (boundary_of p.kind) (k / p.w) || bars_south (e (k / p.w * p.w + k % p.w) i)) && not (eqℤ (get_or f k (pos 0)) (pos 0))) (p.w * p.n) (ClosedEdge field)
 
--- a value of barriers has all bytes of m cells, or none, and then there are no barriers
-abbrev pub AllOrNone : (o l : List ℕ) (m : ℕ) → Type 0
-AllOrNone o l m = ((o ≡ l) × (length o ≡ m)) ⊎ ((o ≡ []) × (l ≡ replicate m 0))
+-- test 4 of all bytes of the barriers, or of none where there are none, is that of the barriers
+pub bytes-tested : (o l : List ℕ) (m : ℕ) → ((o ≡ l) × (length o ≡ m)) ⊎ ((o ≡ []) × (l ≡ replicate m 0)) → answers (barriers_test o (length o) ∷ []) ≡ answers (barriers_test l m ∷ [])
+bytes-tested o l m =
+    ⊎_elim
+    (λ x. ap₂ (λ o m. answers (barriers_test o m ∷ [])) x.0 x.1)
+    (λ x. ap (λ o. answers (barriers_test o (length o) ∷ [])) x.0 ∙ small-inside [] 0 (λ k. zero-le) ∙ sym (small-inside (replicate m 0) m (λ k. subst (λ y. y ≤ 3) (sym (same_at m 0 k)) zero-le)) ∙ ap (λ l. answers (barriers_test l m ∷ [])) (sym x.1))
 
--- so test 4 of its bytes is that of the barriers, where it is not idle
-pub bytes-tested : (a : Answer) {r : Answer} (o l : List ℕ) (m : ℕ) → (a ≡ Accepted → AllOrNone o l m)
-    → r ≡ after a (barriers_test o (length o) ∷ []) → r ≡ after a (barriers_test l m ∷ [])
-bytes-tested (Refused x) o l m e h = h
-bytes-tested Accepted o l m e h =
-    h
-    ∙ ⊎_elim
-    (λ x. ap₂ (λ o m. after Accepted (barriers_test o m ∷ [])) x.0 x.1)
-    (λ x. ap (λ o. after Accepted (barriers_test o (length o) ∷ [])) x.0 ∙ small-inside [] 0 (λ k. zero-le) ∙ sym (small-inside (replicate m 0) m (λ k. subst (λ y. y ≤ 3) (sym (same_at m 0 k)) zero-le)) ∙ ap (λ l. after Accepted (barriers_test l m ∷ [])) (sym x.1))
-    (e refl)
+-- one test that is known to be another, and the tests after it
+pub first-refuses : {t u : Test Refusal} {r : Refusal} (k : List (Test Refusal)) → t ≡ u → Err r ≡ answers (t ∷ []) → Err r ≡ answers (u ∷ k)
+first-refuses {u = u} k e h = sym (refused_first (u ∷ []) k (sym (h ∙ ap (λ t. answers (t ∷ [])) e)))
 
--- a link whose numbers are known to be others, and so its barriers, where it is not idle
-pub numbers_as : (a : Answer) {r : Answer} (p : Parameters) (edge : Edge) (field : Field) (o l : List ℕ) {x f : List ℤ} → (a ≡ Accepted → (k : ℕ) → get_or o k 0 ≡ get_or l k 0) → x ≡ f
-    → r ≡ after a (still_test p o edge field x ∷ []) → r ≡ after a (still_test p l edge field f ∷ [])
-numbers_as a p edge field o l {x} {f} b e h =
-    h
-    ∙ ap (λ x. after a (still_test p o edge field x ∷ [])) e
-    ∙ idle a (still_test p o edge field f ∷ []) (still_test p l edge field f ∷ []) (λ q. ap (λ t. t ∷ []) (same-still o l (b q) p edge field f))
+pub first-passes : {t u : Test Refusal} {a : Answer} (k : List (Test Refusal)) → t ≡ u → Ok tt ≡ answers (t ∷ []) → a ≡ answers k → a ≡ answers (u ∷ k)
+first-passes {u = u} k e h q = q ∙ sym (passed_first (u ∷ []) k (sym (h ∙ ap (λ t. answers (t ∷ [])) e)))
 
--- test 2 of a tag that is absent passes
-pub absent-passes : (a : Answer) (m : ℕ) (value : List ℕ) (z : Size) → after a (bytes_test m false value z) ≡ a
-absent-passes Accepted m value (fixed k) = refl
-absent-passes Accepted m value (per_cell k) = refl
-absent-passes (Refused r) m value z = refl
-
--- where test 2 has passed, after one test
-pub bytes-passed : (m : ℕ) (parts : List Part) → (Missing parts → ⊥) → {e a : Answer} {t : Test Refusal} {k : List (Test Refusal)} → Chain e a (t ∷ (bytes_tests m parts tag_table ++ k)) → a ≡ Accepted → BytesOf m parts
-bytes-passed m parts full {k = k} c h = (bytes-iff m parts full).0 ((passes_append (bytes_tests m parts tag_table) k).0 (passed c h).1).0
+-- where test 2 has passed
+pub bytes-passed : (m : ℕ) (parts : List Part) → (Missing parts → ⊥) → answers (bytes_tests m parts tag_table) ≡ Ok tt → BytesOf m parts
+bytes-passed m parts full e = (bytes-iff m parts full).0 (each-passed (bytes_tests m parts tag_table) e)
 
 -- ---- destinations that are tested alike where the grid is known
 
@@ -126,15 +114,13 @@ rooms-alike rec r t e = by (walked rec)
 
 module _ (rec rooms : List ℕ) where
   -- a refusal of test 7 stays
-  pub examined-damaged : (at : List ℕ) (a : Answer) {r : Refusal} → Found rec a at → a ≡ Refused r → Examined rec rooms a at
+  pub examined-damaged : {r : Refusal} → walked rec ≡ damaged r → decode rec rooms ≡ refused r
   unfolding decode
-  examined-damaged at Accepted f e = differ (cc e)
-  examined-damaged at (Refused r) f e = ap (read_by rooms) f
+  examined-damaged e = ap (read_by rooms) e
 
-  pub decoded : {at : List ℕ} → Placed rec at → decode rec rooms ≡ judged (record_test (state_read rec) (timestamp_in (parts_in rec)) (parts_in rec) rooms) (state_read rec) (timestamp_in (parts_in rec))
+  pub decoded : walked rec ≡ whole (parts_in rec) → decode rec rooms ≡ judged (record_test (state_read rec) (timestamp_in (parts_in rec)) (parts_in rec) rooms) (state_read rec) (timestamp_in (parts_in rec))
   unfolding decode state_read
-  decoded p = ap (read_by rooms) p.walks
+  decoded e = ap (read_by rooms) e
 
-  pub examined : {at : List ℕ} (r : Answer) → Placed rec at → r ≡ answer_of (record_test (state_read rec) (timestamp_in (parts_in rec)) (parts_in rec) rooms) → Examined rec rooms r at
-  examined Accepted p e = record { placed = p; passes = accepted-none (record_test (state_read rec) (timestamp_in (parts_in rec)) (parts_in rec) rooms) e }
-  examined (Refused r) p e = decoded p ∙ ap (λ o. judged o (state_read rec) (timestamp_in (parts_in rec))) (refused-some (record_test (state_read rec) (timestamp_in (parts_in rec)) (parts_in rec) rooms) r e)
+  pub examined-refused : {r : Refusal} → walked rec ≡ whole (parts_in rec) → Err r ≡ answer_of (record_test (state_read rec) (timestamp_in (parts_in rec)) (parts_in rec) rooms) → decode rec rooms ≡ refused r
+  examined-refused {r} w e = decoded w ∙ ap (λ o. judged o (state_read rec) (timestamp_in (parts_in rec))) (refused-some (record_test (state_read rec) (timestamp_in (parts_in rec)) (parts_in rec) rooms) r e)

@@ -2,17 +2,19 @@
 use mathlib.Core.Path.{◌≡◌, refl, sym, ap, ap₂, subst, ◌∙◌}
 use mathlib.Core.Logic.{◌⊎◌, inl, inr, ⊎_elim}
 use mathlib.Core.Bool.{Bool, true, false}
-use mathlib.Core.List.{List, []}
-use Prim.Native.Nat.{ℕ, ◌*◌, ◌≤◌}
-use native.Mathlib.Nat.{mul_comm}
+use mathlib.Core.List.{List, [], ◌∷◌}
+use Prim.Native.Nat.{ℕ, ◌≤◌, ◌<◌}
 use native.Mathlib.Omega.{arith}
 use lib.Dec.{T, lit≤}
 use lib.IntN.{ℤ}
 use lib.ListN.{length, get_or, replicate}
+use lib.Seq.{take_all}
 use borrow.Author.Tests.{eqb-true}
+use Rattle.std.specs.Array.{IsFirstChunk}
+use Rattle.std.specs.Int.{w16, w64, from_be_bytes}
 use Rattle.model.specs.Grid.{tabulate}
 use Rattle.model.specs.State.{State, cells}
-use Rattle.model.specs.Record.{Part, has, value_of, right_size, state_in}
+use Rattle.model.specs.Record.{Part, has, value_of, unsigned, right_size, state_in}
 use Rattle.model.specs.Claims.{BytesOf}
 use Rattle.grid.specs.CellFields.{tabulate-get, tabulate-same, same_at}
 use Rattle.theorems.specs.TagLaws.{last_required, among-iff}
@@ -20,6 +22,7 @@ use Rattle.theorems.specs.Written.{absent-value}
 use Rattle.record_bytes.specs.declared.Size.{Size}
 use Rattle.record_bytes.specs.declared.Size.TheVariants.{Two, Four}
 use Rattle.record_bytes.specs.NumberSizes.{numbers_by}
+use Rattle.record_bytes.specs.BigEndian.{two-read, eight-read}
 use Rattle.record_tags.specs.Places.{parts_in, IsValue}
 use Rattle.record_tests.specs.RecordTested.{state_read}
 
@@ -30,18 +33,20 @@ module _ {rec value : List ℕ} where
   long_of : (t k : ℕ) → t ≤ last_required → (right_size t (length value) ≡ true → length value ≡ k) → IsValue rec t value → length value ≡ k
   long_of t k h e v = ⊎_elim e (λ p. absurd (let l = p.0 in omega arith)) v.sized
 
-  pub grid-long : IsValue rec 1 value → length value ≡ 3
-  grid-long = long_of 1 3 (lit≤ tt) (eqb-true (length value) 3)
-
-  pub constants-long : IsValue rec 2 value → length value ≡ 12
-  constants-long = long_of 2 12 (lit≤ tt) (eqb-true (length value) 12)
-
   pub seconds-long : IsValue rec 3 value → length value ≡ 8
   seconds-long = long_of 3 8 (lit≤ tt) (eqb-true (length value) 8)
 
-  -- which may be absent
-  pub milliseconds-short : IsValue rec 8 value → length value ≤ 2
-  milliseconds-short v = ⊎_elim (λ e. let q = eqb-true (length value) 2 e in omega arith) (λ p. subst (λ l. length l ≤ 2) (sym p.1) (lit≤ tt)) v.sized
+  -- the seconds, and the milliseconds, which may be absent
+  pub seconds-read : {chunk : List ℕ} {n : ℕ} → IsValue rec 3 value → IsFirstChunk value chunk 8 → n ≡ from_be_bytes w64 chunk → n ≡ unsigned (value_of 3 (parts_in rec))
+  seconds-read v y e =
+      let l = seconds-long v in
+      e ∙ ap (from_be_bytes w64) (y.same ∙ take_all 8 value (omega arith)) ∙ eight-read value l ∙ ap unsigned v.is
+
+  pub milliseconds-read : {n : ℕ} → IsValue rec 8 value → 2 ≤ length value → n ≡ from_be_bytes w16 (get_or value 0 0 ∷ get_or value 1 0 ∷ []) → n ≡ unsigned (value_of 8 (parts_in rec))
+  milliseconds-read v h e = e ∙ two-read value (⊎_elim (eqb-true (length value) 2) (λ p. absurd (let l = ap length p.1 in omega arith)) v.sized) ∙ ap unsigned v.is
+
+  pub no-milliseconds : IsValue rec 8 value → length value < 2 → 0 ≡ unsigned (value_of 8 (parts_in rec))
+  no-milliseconds v h = ap unsigned (sym (⊎_elim (λ e. absurd (let l = eqb-true (length value) 2 e in omega arith)) (λ p. p.1) v.sized) ∙ v.is)
 
 -- ---- the fields
 
@@ -72,10 +77,6 @@ module _ (rec : List ℕ) where
 -- ---- a tag's value, as `value_of` hands it over
 
 module _ {rec value : List ℕ} {t : ℕ} (v : IsValue rec t value) where
-  -- test 2 has passed: it has k bytes for each of m cells
-  pub value-long : (k m : ℕ) → length (value_of t (parts_in rec)) ≡ k * m → length value ≡ m * k
-  value-long k m e = ap length v.is ∙ e ∙ mul_comm k m
-
   -- its numbers are those of a field of the state
   pub value-numbers : (z : Size) {m : ℕ} {f : List ℤ} → m ≡ cells (state_read rec) → f ≡ numbers_by z (cells (state_read rec)) (value_of t (parts_in rec)) → numbers_by z m value ≡ f
   value-numbers z e h = ap₂ (numbers_by z) e v.is ∙ sym h

@@ -7,7 +7,7 @@ use Rattle.model.specs.declared.Parameters.{Parameters}
 use Rattle.theorems.specs.NumbersAsBytes.{EachFits}
 
 -- the bytes of a field: tag, length and value
-abbrev pub field_of : ℕ → List ℕ → List ℕ
+unfoldable pub field_of : ℕ → List ℕ → List ℕ
 field_of tag value = (tag ∷ bytes 2 (length value)) ++ value
 
 -- tags 1 to 3, tags 4 to 7, tag 8, and tag 9

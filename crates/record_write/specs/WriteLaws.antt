@@ -1,47 +1,38 @@
--- Laws of the writer, over plain lists: its parts, one after the other, are the record; and from the tests to the promise.
+-- Laws of the writer, over plain lists: its parts, one after the other, are the record; and what its tests give.
 -- Assumes nothing.
-use Rattle.std.specs.Prelude.{◌≡◌, refl, List, [], ◌∷◌, ◌++◌, ℕ, zero, suc, ◌+◌, ◌≤◌, ◌<◌, ℤ, pos, length, get_or, set}
-use Rattle.std.proofs.Common.{sym, subst, ◌∙◌, append_assoc, append-nil, add-one, arith, SFits}
-use Rattle.std.proofs.Math.Path.{ap}
-use Rattle.std.proofs.Math.Option.{Option, none, some}
-use Rattle.std.proofs.lemmas.List.Edits.{sets}
-use Rattle.std.specs.Int.{w16, w32}
+use Rattle.std.specs.Prelude.{◌≡◌, List, [], ◌∷◌, ◌++◌, ℕ, zero, suc, ◌≤◌, ◌<◌, ℤ, pos, length, get_or, take, drop}
+use Rattle.std.proofs.Common.{sym, ap, ap₂, subst, length-take-le, take-append-drop, ◌∙◌, append_assoc, append-nil, arith, lit<, SFits}
+use Rattle.std.specs.Int.{w16, w32, w64}
+use Rattle.integers.specs.Bounds.{held}
 use Rattle.model.specs.Grid.{filled}
 use Rattle.model.specs.State.{State, state_of}
-use Rattle.model.specs.Answers.{told_write}
 use Rattle.model.specs.Record.{bytes, bytes2, bytes4, each_by, parts_of, encode, record_length}
-use Rattle.model.specs.Promises.{answer_of, ◌into◌, filled_by, write_tests, write_test, write_answer, WritePromise}
+use Rattle.model.specs.Promises.{answer_of, write_tests, write_test}
 use Rattle.model.specs.declared.Parameters.{Parameters}
 use Rattle.model.specs.declared.Timestamp.{Timestamp}
-use Rattle.model.specs.declared.Refusal.{Refusal}
-use Rattle.model.specs.declared.Answer.TheVariants.{Accepted, Refused}
-use Rattle.model.specs.declared.WriteAnswer.TheVariants as WriteAnswer
+use Rattle.std.specs.Prelude.{Ok}
 use Rattle.theorems.specs.Truth.{◌⟫◌}
 use Rattle.theorems.specs.TestLaws.{passes}
 use Rattle.theorems.specs.Limits.{write-iff}
 use Rattle.theorems.specs.NumbersAsBytes.{EachFits}
 use Rattle.theorems.specs.RoundTrip.{each_fits, depth-fits, bottom-fits, velocity-fits, gravity-fits, coriolis-fits, ratio-fits, length-encode}
-use Rattle.tests.specs.Links.{accepted-none, refused-some}
-use Rattle.record_bytes.specs.Stores.{Puts, puts_then, sets-front}
-use Rattle.record_write.specs.FieldBytes.{field_of, scalars_of, fields_of, milliseconds_of, barriers_of, ScalarsReady, FieldsReady, WriteReady}
+use Rattle.tests.specs.Links.{accepted-none}
+use Rattle.record_bytes.specs.declared.Size.TheVariants.{Four}
+use Rattle.record_bytes.specs.ByteLoops.{number-held}
+use Rattle.record_bytes.specs.declared.Writer.{Writer}
+use Rattle.record_bytes.specs.Puts.{written, ahead, HasRoom, Puts, puts_then}
+use Rattle.record_write.specs.FieldBytes.{field_of, constants_of, scalars_of, fields_of, milliseconds_of, barriers_of, ScalarsReady, FieldsReady, WriteReady}
 
 -- ---- fields
 
 -- a head, and behind it a value of the length that it tells, are a field
-pub field_put : {d₀ d e : List ℕ} {k j r : ℕ} (tag : ℕ) {m : ℕ} {value : List ℕ} → length value ≡ m → Puts d₀ k (tag ∷ bytes 2 m) j d → Puts d j value r e
-    → Puts d₀ k (field_of tag value) r e
-field_put {d₀} {e = e} {k} {r = r} tag {m} {value} l p q = subst (λ n. Puts d₀ k ((tag ∷ bytes 2 n) ++ value) r e) (sym l) (puts_then p q)
+pub field_put : {w v u : Writer} {tag m : ℕ} {value : List ℕ} → length value ≡ m → Puts w (tag ∷ bytes 2 m) v → Puts v value u → Puts w (field_of tag value) u
+unfolding field_of
+field_put {w} {u = u} {tag} {value = value} l p q = subst (λ n. Puts w ((tag ∷ bytes 2 n) ++ value) u) (sym l) (puts_then p q)
 
 -- one field after four
 four-then : (a b c d e : List ℕ) → (a ++ (b ++ (c ++ d))) ++ e ≡ a ++ (b ++ (c ++ (d ++ e)))
 four-then a b c d e = append_assoc a (b ++ (c ++ d)) e ∙ ap (λ l. a ++ l) (append_assoc b (c ++ d) e ∙ ap (λ l. b ++ l) (append_assoc c d e))
-
--- three bytes, stored one by one
-pub three-put : (d : List ℕ) (k x y z : ℕ) → Puts d k (x ∷ y ∷ z ∷ []) (k + 3) (set (set (set d k x) (k + 1) y) (k + 2) z)
-three-put d k x y z = record { ends = refl; holds = rw (add-one k, two k) }
-  where
-    two : (k : ℕ) → k + 2 ≡ suc (suc k)
-    two k = omega arith
 
 -- ---- the whole record, of a state within the limits
 
@@ -53,6 +44,17 @@ three-fit {g} {c} {r} x y z = record { each = each }
     each (suc zero) l = y
     each (suc (suc zero)) l = z
     each (suc (suc (suc k))) l = absurd (omega arith)
+
+-- as the machine holds them, they are the same
+module _ {g c r : ℤ} (e : EachFits w32 (g ∷ c ∷ r ∷ [])) where
+  held-are : g ∷ c ∷ r ∷ [] ≡ held w64 g ∷ held w64 c ∷ held w64 r ∷ []
+  held-are = rw (number-held Four (e.each 0 (lit< tt)), number-held Four (e.each 1 (lit< tt)), number-held Four (e.each 2 (lit< tt)))
+
+  pub constants-room : {w : Writer} → HasRoom w (constants_of (g ∷ c ∷ r ∷ [])) → HasRoom w (constants_of (held w64 g ∷ held w64 c ∷ held w64 r ∷ [])) × EachFits w32 (held w64 g ∷ held w64 c ∷ held w64 r ∷ [])
+  constants-room {w} h = subst (λ l. HasRoom w (constants_of l) × EachFits w32 l) held-are (h, e)
+
+  pub constants-put : {w v : Writer} → Puts w (constants_of (held w64 g ∷ held w64 c ∷ held w64 r ∷ [])) v → Puts w (constants_of (g ∷ c ∷ r ∷ [])) v
+  constants-put {w} {v} p = subst (λ l. Puts w (constants_of l) v) (sym held-are) p
 
 module _ (p : Parameters) (h b u v : List ℤ) (barriers : List ℕ) where
   abbrev state : State
@@ -82,7 +84,7 @@ module _ (p : Parameters) (h b u v : List ℤ) (barriers : List ℕ) where
   joined_fields t = scalars_of p t.seconds ++ (fields_of h b u v ++ (milliseconds_of t.milliseconds ++ barriers_of barriers))
 
   parts-joined : (t : Timestamp) → joined_fields t ≡ encode state t
-  unfolding encode parts_of
+  unfolding encode parts_of field_of
   parts-joined t =
       let four = field_of 4 (each_by bytes4 h) in
       let five = field_of 5 (each_by bytes4 b) in
@@ -96,36 +98,25 @@ module _ (p : Parameters) (h b u v : List ℤ) (barriers : List ℕ) where
   record-long : (t : Timestamp) {d : List ℕ} → WriteReady state d → length (joined_fields t) ≡ record_length state
   record-long t q = ap length (parts-joined t) ∙ length-encode state q.state t
 
-  pub record-room : (t : Timestamp) {d : List ℕ} → WriteReady state d → 0 + length (joined_fields t) ≤ length d
+  pub record-room : (t : Timestamp) {d : List ℕ} → WriteReady state d → length (joined_fields t) ≤ length d
   record-room t q = omega (arith, record-long t q, q.room)
 
-  pub record-put : (t : Timestamp) {d d' : List ℕ} {r : ℕ} → WriteReady state d → Puts d 0 (joined_fields t) r d'
-      → (r ≡ record_length state) × (d' ≡ filled (record_length state) (encode state t) d)
-  record-put t {d} q e = (
-    omega (arith, e.ends, record-long t q),
-    e.holds ∙ ap (sets d 0) (parts-joined t) ∙ sets-front d (encode state t) (record_length state) (length-encode state q.state t) q.room,
-  )
+  -- put from the front on, they are the record
+  pub record-put : (t : Timestamp) {w v : Writer} → WriteReady state w.out.now → w.at ≡ 0 → Puts w (joined_fields t) v
+      → (v.at ≡ record_length state) × (v.out.now ≡ filled (record_length state) (encode state t) w.out.now)
+  record-put t {w} {v} q e p =
+      let l = joined_fields t in
+      let put : written v ≡ l = p.put ∙ ap (λ k. take k w.out.now ++ l) e in
+      let rest : ahead v ≡ drop (record_length state) w.out.now = p.rest ∙ rw (e, record-long t q) in (
+        sym (length-take-le v.at v.out.now v.within) ∙ ap length put ∙ record-long t q,
+        sym (take-append-drop v.at v.out.now) ∙ ap₂ ◌++◌ (put ∙ parts-joined t) rest,
+      )
 
--- ---- from the tests to the promise
+-- ---- the tests have passed
 
 module _ (s : State) (t : Timestamp) (d : List ℕ) where
-  pub write-ready : Accepted ≡ answer_of (write_test s t (length d)) → WriteReady s d
+  pub write_ready : (Ok tt) ≡ answer_of (write_test s t (length d)) → WriteReady s d
   unfolding write_test
-  write-ready e =
+  write_ready e =
       let a = (passes (write_tests s t (length d)) ⟫ write-iff s t (length d)).0 (accepted-none (write_test s t (length d)) e) in
       record { state = a.0; room = a.2 }
-
-  promised : (o : Option Refusal) {d' : List ℕ} → write_test s t (length d) ≡ o → d' ∷ [] ≡ filled_by o (record_length s) (encode s t into d ∷ [])
-      → WritePromise s t d (write_answer (record_length s) o) d'
-  promised o e f =
-      let m = record_length s in
-      let a = ap (write_answer m) (sym e) in
-      record { answers = a; tells = ap told_write a; fills = f ∙ ap (λ o. filled_by o m (encode s t into d ∷ [])) (sym e) }
-
-  pub write-refused : {r : Refusal} → Refused r ≡ answer_of (write_test s t (length d)) → WritePromise s t d (WriteAnswer.Refused r) d
-  write-refused {r} e = promised (some r) (refused-some (write_test s t (length d)) r e) refl
-
-  pub write_done : {r : ℕ} {d' : List ℕ} → Accepted ≡ answer_of (write_test s t (length d)) → (r ≡ record_length s) × (d' ≡ filled (record_length s) (encode s t) d)
-      → WritePromise s t d (WriteAnswer.Written r) d'
-  write_done {r} {d'} e f =
-      subst (λ n. WritePromise s t d (WriteAnswer.Written n) d') (sym f.0) (promised none (accepted-none (write_test s t (length d)) e) (ap (λ l. l ∷ []) f.1))

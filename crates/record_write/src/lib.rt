@@ -1,165 +1,113 @@
 // The record writer: tags 1 to 9 of a state and its timestamp, by rising tag, into a lent slice of bytes.
 #![tactic(auto)]
 
-ghost use Rattle.std.specs.Prelude.{◌≡◌, ◌∷◌, ◌+◌, ◌≤◌, ◌<◌, length};
+ghost use Rattle.std.specs.Prelude.{◌≡◌, ◌∷◌};
 ghost use Rattle.model.specs.Grid.{filled};
-ghost use Rattle.model.specs.State.{lent, before};
+ghost use Rattle.model.specs.State.{lent_state};
 ghost use Rattle.model.specs.Record.{bytes, encode, record_length};
 ghost use Rattle.model.specs.Promises.{answer_of, write_test, WritePromise};
 ghost use Rattle.theorems.specs.NumbersAsBytes.{EachFits};
 ghost use Rattle.record_bytes.specs.NumberSizes.{width_of, value_by};
-ghost use Rattle.record_bytes.specs.Stores.{Puts};
-ghost use Rattle.record_write.specs.FieldBytes.{field_of, grid_of, scalars_of, fields_of, ScalarsReady, FieldsReady, WriteReady};
+ghost use Rattle.record_bytes.specs.Tags.{number_of};
+ghost use Rattle.record_bytes.specs.Puts.{HasRoom, Puts};
+ghost use Rattle.record_write.specs.FieldBytes.{field_of, scalars_of, fields_of, ScalarsReady, FieldsReady, WriteReady};
 
-use model::{Answer, Parameters, Timestamp, WriteAnswer};
-use record_bytes::Size;
+use model::{Lent, Parameters, Refusal, Timestamp};
+use record_bytes::{Size, Tag, Writer};
 
 // ---- a field
 
-// Puts the head of a field at k: its tag, and the length of its value in two bytes.
-fn put_head(d: &mut [u8], k: usize, tag: u8, size: usize) -> usize
-    requires { k + 3 ≤ length d.old }
-    ensures { Puts d.old k (tag ∷ bytes 2 size) result d.new }
+// Puts the head of a field: its tag, and the length of its value in two bytes.
+fn put_head(d: &mut Writer, tag: Tag, size: usize)
+    requires { HasRoom d.old (number_of tag ∷ bytes 2 size) }
+    ensures { Puts d.old (number_of tag ∷ bytes 2 size) d.new }
 {
-    d[k] = tag;
-    record_bytes::put_unsigned(d, k + 1, 2, size as u64)
+    let [.., high, low] = size.to_be_bytes();
+    d.put(&[u8::from(tag), high, low]);
 }
 
-// Puts a field of numbers at k.
-fn put_field(d: &mut [u8], k: usize, tag: u8, f: &[i64], size: Size) -> usize
-    requires { (k + length (field_of tag (value_by size f.now)) ≤ length d.old)
-        × EachFits (width_of size) f.now }
-    ensures { Puts d.old k (field_of tag (value_by size f.now)) result d.new }
+// Puts a field of bytes.
+#[tactic(auto, unfolding(crate::specs::FieldBytes::field_of))]
+fn put_field(d: &mut Writer, tag: Tag, value: &[u8])
+    requires { HasRoom d.old (field_of (number_of tag) value.now) }
+    ensures { Puts d.old (field_of (number_of tag) value.now) d.new }
 {
-    let from = put_head(d, k, tag, f.len() * record_bytes::bytes_of(size));
-    record_bytes::put_numbers(d, from, f, size)
+    put_head(d, tag, value.len());
+    d.put(value);
 }
 
-// Puts a field of one number without a sign, of `count` bytes, at k: the two parts of the timestamp are such.
-fn put_unsigned_field(d: &mut [u8], k: usize, tag: u8, count: usize, x: u64) -> usize
-    requires { k + length (field_of tag (bytes count x)) ≤ length d.old }
-    ensures { Puts d.old k (field_of tag (bytes count x)) result d.new }
+// Puts a field of numbers. (A function beside `put_field`: they share the head, and one for both would take a trait, for a line each.)
+#[tactic(auto, unfolding(crate::specs::FieldBytes::field_of))]
+fn put_numbers(d: &mut Writer, tag: Tag, f: &[i64], size: Size)
+    requires { HasRoom d.old (field_of (number_of tag) (value_by size f.now)) × EachFits (width_of size) f.now }
+    ensures { Puts d.old (field_of (number_of tag) (value_by size f.now)) d.new }
 {
-    let from = put_head(d, k, tag, count);
-    record_bytes::put_unsigned(d, from, count, x)
+    put_head(d, tag, f.len() * size.bytes());
+    d.put_numbers(f, size);
 }
 
-// Puts a field of bytes at k: the barriers are such.
-fn put_bytes_field(d: &mut [u8], k: usize, tag: u8, f: &[u8]) -> usize
-    requires { k + length (field_of tag f.now) ≤ length d.old }
-    ensures { Puts d.old k (field_of tag f.now) result d.new }
-{
-    let from = put_head(d, k, tag, f.len());
-    record_bytes::put_bytes(d, from, f)
-}
-
-// ---- tags 1 to 3
-
-// Tag 1: w, n and the boundary's byte.
-fn put_grid(d: &mut [u8], k: usize, p: Parameters) -> usize
-    requires { (k + length (grid_of p) ≤ length d.old) × (p.w < 256) × (p.n < 256) }
-    ensures { Puts d.old k (grid_of p) result d.new }
-{
-    let from = put_head(d, k, 1, 3);
-    let w = p.w as u8;
-    let n = p.n as u8;
-    let kind = p.kind;
-    d[from] = w;
-    d[from + 1] = n;
-    d[from + 2] = kind;
-    from + 3
-}
+// ---- all fields
 
 // Tags 1, 2 and 3.
-fn put_scalars(d: &mut [u8], k: usize, p: Parameters, seconds: u64) -> usize
-    requires { ScalarsReady p × (k + length (scalars_of p seconds) ≤ length d.old) }
-    ensures { Puts d.old k (scalars_of p seconds) result d.new }
+fn put_scalars(d: &mut Writer, p: Parameters, seconds: u64)
+    requires { ScalarsReady p × HasRoom d.old (scalars_of p seconds) }
+    ensures { Puts d.old (scalars_of p seconds) d.new }
 {
-    let after_grid = put_grid(d, k, p);
-    let after_constants = put_field(d, after_grid, 2, &[p.g, p.c, p.r], Size::Four);
-    put_unsigned_field(d, after_constants, 3, 8, seconds)
+    put_field(d, Tag::Grid, &[p.w as u8, p.n as u8, p.kind]);
+    put_numbers(d, Tag::Constants, &[p.g, p.c, p.r], Size::Four);
+    put_field(d, Tag::Seconds, &seconds.to_be_bytes());
 }
-
-// ---- the other tags, and the whole record
 
 // Tags 4 to 7.
-fn put_fields(d: &mut [u8], k: usize, h: &[i64], b: &[i64], u: &[i64], v: &[i64]) -> usize
-    requires { FieldsReady h.now b.now u.now v.now
-        × (k + length (fields_of h.now b.now u.now v.now) ≤ length d.old) }
-    ensures { let fields = fields_of h.now b.now u.now v.now in
-        Puts d.old k fields result d.new }
+#[tactic(auto, using(record_bytes::specs::Puts::puts))]
+fn put_fields(s: &Lent, d: &mut Writer)
+    requires { let t = lent_state s.now in
+        FieldsReady t.h t.b t.u t.v × HasRoom d.old (fields_of t.h t.b t.u t.v) }
+    ensures { let t = lent_state s.now in Puts d.old (fields_of t.h t.b t.u t.v) d.new }
 {
-    let after_h = put_field(d, k, 4, h, Size::Four);
-    let after_b = put_field(d, after_h, 5, b, Size::Four);
-    let after_u = put_field(d, after_b, 6, u, Size::Two);
-    put_field(d, after_u, 7, v, Size::Two)
+    put_numbers(d, Tag::Depth, s.h, Size::Four);
+    put_numbers(d, Tag::Bottom, s.b, Size::Four);
+    put_numbers(d, Tag::VelocityU, s.u, Size::Two);
+    put_numbers(d, Tag::VelocityV, s.v, Size::Two);
 }
 
-// The record, at the front; the answer is its length.
-fn put_record(
-    p: Parameters,
-    h: &[i64],
-    b: &[i64],
-    u: &[i64],
-    v: &[i64],
-    barriers: &[u8],
-    timestamp: Timestamp,
-    d: &mut [u8],
-) -> usize
-    requires { WriteReady (lent p h b u v barriers) d.old }
-    ensures { let s = before p h b u v barriers in
-        (result ≡ record_length s)
-        × (d.new ≡ filled (record_length s) (encode s timestamp) d.old) }
+// The record, at the front; the answer is its length. (State and timestamp go side by side, as the call is lent them.)
+fn put_record(s: &Lent, timestamp: Timestamp, d: &mut [u8]) -> usize
+    requires { WriteReady (lent_state s.now) d.old }
+    ensures { let t = lent_state s.now in
+        (result ≡ record_length t)
+        × (d.new ≡ filled (record_length t) (encode t timestamp) d.old) }
 {
-    let after_scalars = put_scalars(d, 0, p, timestamp.seconds);
-    let after_fields = put_fields(d, after_scalars, h, b, u, v);
-    let after_time = put_unsigned_field(d, after_fields, 8, 2, timestamp.milliseconds);
-    put_bytes_field(d, after_time, 9, barriers)
+    let mut record = Writer { out: d, at: 0 };
+    put_scalars(&mut record, s.p, timestamp.seconds);
+    put_fields(s, &mut record);
+    let [.., high, low] = timestamp.milliseconds.to_be_bytes();
+    put_field(&mut record, Tag::Milliseconds, &[high, low]);
+    put_field(&mut record, Tag::Barriers, s.barriers);
+    record.at
 }
 
 // ---- the call
 
 // Tests 1, 2, 3, 9, 4, 5, 8; `room` is the length of the destination.
-fn test_write(
-    p: Parameters,
-    h: &[i64],
-    b: &[i64],
-    u: &[i64],
-    v: &[i64],
-    barriers: &[u8],
-    timestamp: Timestamp,
-    room: usize,
-) -> Answer
-    ensures { result ≡ answer_of (write_test (before p h b u v barriers) timestamp room) }
+#[tactic(auto, unfolding(model::specs::Promises::write_test))]
+fn test_write(s: &Lent, timestamp: Timestamp, room: usize) -> Result<(), Refusal>
+    ensures { result ≡ answer_of (write_test (lent_state s.now) timestamp room) }
 {
-    let outline = tests::test_outline(p, h, b, u, v, barriers);
-    let time = tests::then_time(outline, timestamp);
-    let values = tests::then_fields(time, p, h, b, u, v, barriers);
-    let edges = tests::then_edges(values, p, u, v, barriers);
-    let needed = 52 + 13 * tests::cells_of(p);
-    tests::then_room(edges, needed, room)
+    tests::test_outline(s)?;
+    tests::test_time(timestamp)?;
+    tests::test_fields(s)?;
+    tests::test_edges(s.p, &s.u, &s.v, s.barriers)?;
+    tests::test_room(52 + 13 * (s.p.w * s.p.n), room)
 }
 
 // The record of a state under a timestamp (01: stamp), into the first 52+13w·n bytes of d. Refusals: 1, 2, 3, 9, 4, 5, 8.
 // It rules out, for instance: a field little-endian; a byte written past the record; 8 told before 4; 9 told after 4; tag 9 left out where
 // there is no barrier.
-pub fn write(
-    p: Parameters,
-    h: &[i64],
-    b: &[i64],
-    u: &[i64],
-    v: &[i64],
-    barriers: &[u8],
-    timestamp: Timestamp,
-    d: &mut [u8],
-) -> WriteAnswer
-    ensures { WritePromise (before p h b u v barriers) timestamp d.old result d.new }
+#[tactic(auto, using(crate::specs::WriteLaws::write_ready))]
+pub fn write(s: &Lent, timestamp: Timestamp, d: &mut [u8]) -> Result<usize, Refusal>
+    ensures { WritePromise (lent_state s.now) timestamp d.old result d.new }
 {
-    match test_write(p, h, b, u, v, barriers, timestamp, d.len()) {
-        Answer::Accepted => {
-            let length = put_record(p, h, b, u, v, barriers, timestamp, d);
-            WriteAnswer::Written(length)
-        }
-        Answer::Refused(refusal) => WriteAnswer::Refused(refusal),
-    }
+    test_write(s, timestamp, d.len())?;
+    Ok(put_record(s, timestamp, d))
 }

@@ -3,6 +3,7 @@ use Rattle.std.specs.Prelude.{◌≡◌, refl, Bool, true, false, cond, List, �
 use Rattle.std.proofs.Common.{sym, subst, ◌∙◌}
 use Rattle.std.proofs.Math.Path.{ap}
 use Rattle.std.proofs.Math.IntN.{+ℤ_assoc}
+use Rattle.std.proofs.lemmas.Bool.{or_parts}
 use Rattle.std.proofs.Math.ListN.{get_or}
 use Rattle.model.specs.Numbers.{rnd, depth_limits}
 use Rattle.model.specs.Grid.{on_wall}
@@ -14,11 +15,10 @@ use Rattle.grid.specs.Stencils.{IsAround}
 use Rattle.integers.specs.Order.{≤_trans}
 use Rattle.integers.specs.Bounds.{Abs, abs-as}
 use Rattle.integers.specs.Magnitudes.{depths-size, depths-least}
-use Rattle.grid.specs.Corners.{Corner, on_a_wall, Below4, AreCells, AreCorners, neither, inner}
+use Rattle.grid.specs.Corners.{Corner, on_a_wall, Below4, AreCells, AreCorners, inner}
 use Rattle.grid.specs.declared.Stencil.{Stencil}
-use Rattle.grid.specs.declared.Four.{Four}
+use Rattle.grid.specs.declared.Corners.{Corners}
 use Rattle.scheme.specs.Shares.{flux_at, squares_at, geopotential_at, weighted_by, weights_in, fluxes_in}
-use Rattle.scheme.specs.declared.Corners.{Corners}
 use Rattle.scheme.specs.declared.Weights.{Weights}
 use Rattle.scheme.specs.declared.Fluxes.{Fluxes}
 
@@ -30,7 +30,7 @@ masked true z e = refl
 masked false z e = e refl
 
 -- the depth of four cells divides, and is small
-pub divides : {m : ℕ} {h : List ℤ} {a : Four} {z : ℤ} → FieldWithin depth_limits m h → Below4 m a
+pub divides : {m : ℕ} {h : List ℤ} {a : Corners ℕ} {z : ℤ} → FieldWithin depth_limits m h → Below4 m a
     → z ≡ get_or h a.ne (pos 0) +ℤ get_or h a.nw (pos 0) +ℤ get_or h a.se (pos 0) +ℤ get_or h a.sw (pos 0)
     → Abs z 400000 × (pos 1 ≤ℤ z)
 divides f b e =
@@ -39,7 +39,7 @@ divides f b e =
       subst (λ (x : ℤ). pos 1 ≤ℤ x) (sym e) (≤_trans (record { le = tt }) (depths-least (h _ b.ne) (h _ b.nw) (h _ b.se) (h _ b.sw))),
     )
 
-module _ (s : State) {x y : ℕ} {a : Four} (c : Corner s.kind s.w s.n x y) (r : AreCells s.kind s.w s.n x y a) where
+module _ (s : State) {x y : ℕ} {a : Corners ℕ} (c : Corner s.kind s.w s.n x y) (r : AreCells s.kind s.w s.n x y a) where
   pub absolute-vorticity-around :
       cond (on_a_wall s.kind s.w s.n x y) s.c
       (s.c +ℤ get_or s.v a.ne (pos 0) -ℤ get_or s.v a.nw (pos 0) +ℤ get_or s.u a.se (pos 0) -ℤ get_or s.u a.ne (pos 0))
@@ -47,7 +47,7 @@ module _ (s : State) {x y : ℕ} {a : Four} (c : Corner s.kind s.w s.n x y) (r :
   unfolding Z
   absolute-vorticity-around =
       masked (on_a_wall s.kind s.w s.n x y) s.c (λ o.
-      let n = neither (on_wall (walled_west s) s.w x) (on_wall (walled_south s) s.n y) o in
+      let n = or_parts (on_wall (walled_west s) s.w x) (on_wall (walled_south s) s.n y) o in
       let p = inner (walled_west s) c.column n.0 in
       let q = inner (walled_south s) c.row n.1 in
       rw (r.ne, r.nw, r.se, p.below, p.above, q.below, q.above))
@@ -59,7 +59,7 @@ module _ (s : State) {x y : ℕ} {a : Four} (c : Corner s.kind s.w s.n x y) (r :
 -- ---- at a cell
 
 -- its weights, by its corners
-pub weights-around : (s : State) {i j : ℕ} {a : Four} → AreCorners (corner_columns s) (corner_rows s) i j a → (q : List ℤ) (c : Corners) (w : Weights)
+pub weights-around : (s : State) {i j : ℕ} {a : Corners ℕ} → AreCorners (corner_columns s) (corner_rows s) i j a → (q : List ℤ) (c : Corners ℤ) (w : Weights ℤ)
     → (c.ne ≡ get_or q a.ne (pos 0)) × (c.nw ≡ get_or q a.nw (pos 0)) × (c.sw ≡ get_or q a.sw (pos 0)) × (c.se ≡ get_or q a.se (pos 0))
     → (w.p ≡ weighted_by 0 c) × (w.m ≡ weighted_by 1 c) × (w.e ≡ weighted_by 2 c) × (w.f ≡ weighted_by 3 c)
     → w ≡ weights_in s q i j

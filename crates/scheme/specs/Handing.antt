@@ -1,17 +1,13 @@
 -- What a cell needs of the cells to its west and south, and what a row hands on to the row to its north. Assumes nothing.
-use Rattle.std.specs.Prelude.{◌≡◌, refl, Bool, true, false, cond, List, ℕ, ◌+◌, ◌≤◌, ◌<◌, eqb, ℤ, pos, length, get_or, set}
+use Rattle.std.specs.Prelude.{◌≡◌, refl, Bool, true, false, cond, List, ℕ, ◌+◌, ◌≤◌, ◌<◌, eqb, ℤ, length, set}
 use Rattle.std.proofs.Common.{sym, ap, ◌∙◌, arith, length-set, eqb-true}
-use Rattle.std.specs.Int.{w64}
 use Rattle.std.proofs.lemmas.Bool.{eqb-false}
 use Rattle.model.specs.Grid.{previous}
 use Rattle.model.specs.State.{State, closed_west, closed_south}
 use Rattle.model.specs.Scheme.{to_west, to_south}
-use Rattle.integers.specs.Bounds.{abs-as, held}
-use Rattle.grid.specs.Cells.{previous-lt, previous-after, previous-only}
+use Rattle.grid.specs.Cells.{previous-after, previous-only}
 use Rattle.grid.specs.Places.{Each, each_none, each_more, each-past, each_all}
-use Rattle.scheme.specs.Ready.{TendenciesReady}
 use Rattle.scheme.specs.Shares.{east_share_at, north_share_at}
-use Rattle.scheme.specs.SchemeSizes.{share-held, north-size, fit-in}
 
 -- ---- a cell
 
@@ -75,12 +71,3 @@ module _ {s : State} {q : List ℤ} {j : ℕ} {l₀ : List ℤ} where
 
     pub handing-all : s.w ≤ i → s.w ≤ length l₀ → HandedNorth s q (j + 1) l
     handing-all p r = handed-all h.given p (omega (arith, h.long))
-
-    -- what is read at column i is kept by the machine where it is used
-    pub handing-south : TendenciesReady s q → i < s.w → j < s.n → FromSouth s q i j (held w64 (get_or l i (pos 0)))
-    handing-south t p r =
-        record {
-          share = λ o m.
-              let e = (h.ahead.at (pos 0) i (omega arith) p).share o m in
-              share-held (abs-as e (north-size (fit-in t p (previous-lt s.n j t.state.rows.some)))) ∙ e;
-        }

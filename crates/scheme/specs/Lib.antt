@@ -9,3 +9,5 @@ pub mod Passing
 pub mod Handing
 -- what barriers do to tendencies
 pub mod Masking
+-- what does not enter
+pub mod Entering

@@ -55,15 +55,28 @@ squares_expr = var 0 ⊗ var 0 ⊕ var 1 ⊗ var 1
 abbrev pub geopotential_expr : Expr
 geopotential_expr = con (pos 4) ⊗ var 0 ⊗ (var 1 ⊕ var 2)
 
+-- the numbers of each, and their sizes
 module _ {x : List ℤ} {k l : ℕ} where
+  pub flux-sizes : {h : List ℤ} → ReadsAt velocity_limits x k → ReadsAt depth_limits h l → ReadsAt depth_limits h k
+      → Sizes (get_or x k (pos 0) ∷ get_or h l (pos 0) ∷ get_or h k (pos 0) ∷ []) (5000 ∷ 100000 ∷ 100000 ∷ [])
+  flux-sizes a b c = velocity-size a.value ◂ depth-size b.value ◂ depth-size c.value ◂ ∎
+
   pub flux-size : {h : List ℤ} → ReadsAt velocity_limits x k → ReadsAt depth_limits h l → ReadsAt depth_limits h k → Abs (flux_at x h k l) most_flux
-  flux-size a b c = size flux_expr (velocity-size a.value ◂ depth-size b.value ◂ depth-size c.value ◂ ∎) tt
+  flux-size a b c = size flux_expr (flux-sizes a b c) tt
+
+  pub squares-sizes : ReadsAt velocity_limits x k → ReadsAt velocity_limits x l → Sizes (get_or x k (pos 0) ∷ get_or x l (pos 0) ∷ []) (5000 ∷ 5000 ∷ [])
+  squares-sizes a b = velocity-size a.value ◂ velocity-size b.value ◂ ∎
 
   pub squares-size : ReadsAt velocity_limits x k → ReadsAt velocity_limits x l → Abs (squares_at x k l) 50000000
-  squares-size a b = size squares_expr (velocity-size a.value ◂ velocity-size b.value ◂ ∎) tt
+  squares-size a b = size squares_expr (squares-sizes a b) tt
 
-pub geopotential-size : {g : ℤ} {h b : List ℤ} {k : ℕ} → Within gravity_limits g → ReadsAt depth_limits h k → ReadsAt bottom_limits b k → Abs (geopotential_at g h b k) 8000000000
-geopotential-size a b c = size geopotential_expr (gravity-size a ◂ depth-size b.value ◂ bottom-size c.value ◂ ∎) tt
+module _ {g : ℤ} {h b : List ℤ} {k : ℕ} where
+  pub geopotential-sizes : Within gravity_limits g → ReadsAt depth_limits h k → ReadsAt bottom_limits b k
+      → Sizes (g ∷ get_or h k (pos 0) ∷ get_or b k (pos 0) ∷ []) (10000 ∷ 100000 ∷ 100000 ∷ [])
+  geopotential-sizes a b c = gravity-size a ◂ depth-size b.value ◂ bottom-size c.value ◂ ∎
+
+  pub geopotential-size : Within gravity_limits g → ReadsAt depth_limits h k → ReadsAt bottom_limits b k → Abs (geopotential_at g h b k) 8000000000
+  geopotential-size a b c = size geopotential_expr (geopotential-sizes a b c) tt
 
 -- ---- shares
 
@@ -72,7 +85,7 @@ abbrev pub head_expr : Expr
 head_expr = con (pos 786432) ⊗ var 0
 
 -- the weights P, M, E, F, the fluxes west, east, south, north, and the scaled Bernoulli value
-module _ {ws : Weights} {fs : Fluxes} {head : ℤ} (h : Fit ws fs head) where
+module _ {ws : Weights ℤ} {fs : Fluxes} {head : ℤ} (h : Fit ws fs head) where
   pub fit-sizes : Sizes (ws.p ∷ ws.m ∷ ws.e ∷ ws.f ∷ fs.west ∷ fs.east ∷ fs.south ∷ fs.north ∷ head ∷ [])
       (most_weight ∷ most_weight ∷ most_weight ∷ most_weight ∷ most_flux ∷ most_flux ∷ most_flux ∷ most_flux ∷ most_head ∷ [])
   fit-sizes = h.p ◂ h.m ◂ h.e ◂ h.f ◂ h.west ◂ h.east ◂ h.south ◂ h.north ◂ h.bernoulli ◂ ∎
@@ -94,7 +107,7 @@ north_expr = con (pos 0) ⊖ var 0 ⊗ var 4 ⊖ var 1 ⊗ var 5 ⊕ var 3 ⊗ v
 pub share-held : {x : ℤ} → Abs x most_share → held w64 x ≡ x
 share-held h = exact w64 (var 0) (h ◂ ∎) tt
 
-module _ {ws : Weights} {fs : Fluxes} {head : ℤ} (h : Fit ws fs head) where
+module _ {ws : Weights ℤ} {fs : Fluxes} {head : ℤ} (h : Fit ws fs head) where
   pub west-size : Abs (west_share ws fs head) most_share
   west-size = size west_expr (fit-sizes h) tt
 

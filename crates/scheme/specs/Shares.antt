@@ -9,7 +9,7 @@ use Rattle.model.specs.Weights.{weighted}
 use Rattle.model.specs.Scheme.{D, weight, flux_u, flux_v, B, Tu, Tv, tendency_u, tendency_v, momentum_u, momentum_v, to_east, to_west, to_north, to_south}
 use Rattle.integers.specs.Ring.{Expr, con, ◌⊕◌, ◌⊖◌, ◌⊗◌, ◌⊜◌, Identity, ring}
 use Rattle.integers.specs.Bounds.{Abs}
-use Rattle.scheme.specs.declared.Corners.{Corners}
+use Rattle.grid.specs.declared.Corners.{Corners}
 use Rattle.scheme.specs.declared.Weights.{Weights}
 use Rattle.scheme.specs.declared.Fluxes.{Fluxes}
 use Rattle.scheme.specs.declared.Shares.{Shares}
@@ -54,10 +54,10 @@ geopotential_at g h b k = pos 4 *ℤ g *ℤ (get_or h k (pos 0) +ℤ get_or b k 
 
 -- ---- of a cell's corners
 
-abbrev pub weighted_by : ℕ → Corners → ℤ
+abbrev pub weighted_by : ℕ → Corners ℤ → ℤ
 weighted_by row c = weighted row c.ne c.nw c.sw c.se
 
-pub record CornersWithin (c : Corners) : Type 0 where
+pub record CornersWithin (c : Corners ℤ) : Type 0 where
   pub ne : Abs c.ne most_corner
   pub nw : Abs c.nw most_corner
   pub sw : Abs c.sw most_corner
@@ -65,7 +65,7 @@ pub record CornersWithin (c : Corners) : Type 0 where
 
 -- ---- of a cell's weights, fluxes, and Bernoulli value as the tendencies scale it
 
-module _ (ws : Weights) (fs : Fluxes) (head : ℤ) where
+module _ (ws : Weights ℤ) (fs : Fluxes) (head : ℤ) where
   abbrev pub west_share : ℤ
   west_share = ws.p *ℤ fs.north +ℤ ws.m *ℤ fs.south -ℤ ws.e *ℤ fs.east -ℤ head
 
@@ -99,7 +99,7 @@ module _ (ws : Weights) (fs : Fluxes) (head : ℤ) where
 
 -- ---- of a state and a potential vorticity
 
-abbrev pub weights_in : State → List ℤ → ℕ → ℕ → Weights
+abbrev pub weights_in : State → List ℤ → ℕ → ℕ → Weights ℤ
 weights_in s q i j = record { p = weight s q 0 i j; m = weight s q 1 i j; e = weight s q 2 i j; f = weight s q 3 i j }
 
 abbrev pub fluxes_in : State → ℕ → ℕ → Fluxes

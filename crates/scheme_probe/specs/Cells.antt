@@ -14,11 +14,9 @@ use Rattle.grid.specs.Cells.{previous-next}
 use Rattle.grid.specs.Stencils.{IsAround}
 use Rattle.grid.specs.Corners.{AreCorners}
 use Rattle.grid.specs.declared.Stencil.{Stencil}
-use Rattle.grid.specs.declared.Four.{Four}
+use Rattle.grid.specs.declared.Corners.{Corners}
 use Rattle.scheme.specs.Ready.{TendenciesReady}
 use Rattle.scheme.specs.Shares.{most_corner}
-use Rattle.scheme.specs.Masking.{unbarred}
-use Rattle.scheme_probe.specs.declared.Corners.{Corners}
 use Rattle.scheme_probe.specs.declared.Cell.{Cell}
 use Rattle.scheme_probe.specs.declared.Doubles.{Doubles}
 use Rattle.scheme_probe.specs.declared.Given.{Given}
@@ -27,13 +25,14 @@ use Rattle.scheme_probe.specs.declared.Given.{Given}
 abbrev pub flux_at : (x h : List ℤ) → ℕ → ℕ → Float
 flux_at x h k l = double (get_or x k (pos 0)) ⊠ (double (get_or h l (pos 0)) ⊞ double (get_or h k (pos 0)))
 
-abbrev pub bernoulli_at : ℤ → (h b u v : List ℤ) (here east north : ℕ) → Float
-bernoulli_at g h b u v here east north =
-    double (get_or u here (pos 0)) ⊠ double (get_or u here (pos 0))
-    ⊞ double (get_or u east (pos 0)) ⊠ double (get_or u east (pos 0))
-    ⊞ double (get_or v here (pos 0)) ⊠ double (get_or v here (pos 0))
-    ⊞ double (get_or v north (pos 0)) ⊠ double (get_or v north (pos 0))
-    ⊞ double (pos 4) ⊠ double g ⊠ (double (get_or h here (pos 0)) ⊞ double (get_or b here (pos 0)))
+-- and of a state
+abbrev pub bernoulli_at : State → (here east north : ℕ) → Float
+bernoulli_at s here east north =
+    double (get_or s.u here (pos 0)) ⊠ double (get_or s.u here (pos 0))
+    ⊞ double (get_or s.u east (pos 0)) ⊠ double (get_or s.u east (pos 0))
+    ⊞ double (get_or s.v here (pos 0)) ⊠ double (get_or s.v here (pos 0))
+    ⊞ double (get_or s.v north (pos 0)) ⊠ double (get_or s.v north (pos 0))
+    ⊞ double (pos 4) ⊠ double s.G ⊠ (double (get_or s.h here (pos 0)) ⊞ double (get_or s.b here (pos 0)))
 
 -- of corners, each of which is the double of a whole number within the bounds of q
 pub record IsCorner (x : Float) : Type 0 where
@@ -41,14 +40,14 @@ pub record IsCorner (x : Float) : Type 0 where
   pub is : x ≡ double number
   pub small : Abs number most_corner
 
-pub record CornersWithin (c : Corners) : Type 0 where
+pub record CornersWithin (c : Corners Float) : Type 0 where
   pub ne : IsCorner c.ne
   pub nw : IsCorner c.nw
   pub sw : IsCorner c.sw
   pub se : IsCorner c.se
 
 -- a row of the table
-abbrev pub weighted_by : ℕ → Corners → Float
+abbrev pub weighted_by : ℕ → Corners Float → Float
 weighted_by row c =
     double (weight_at row 0) ⊠ c.ne
     ⊞ double (weight_at row 1) ⊠ c.nw
@@ -57,10 +56,10 @@ weighted_by row c =
 
 -- r is the model's cell (i, j)
 pub record IsCell (s : State) (q : List ℤ) (i j : ℕ) (r : Cell) : Type 0 where
-  pub p : r.p ≡ weight s q 0 i j
-  pub m : r.m ≡ weight s q 1 i j
-  pub e : r.e ≡ weight s q 2 i j
-  pub f : r.f ≡ weight s q 3 i j
+  pub p : r.weights.p ≡ weight s q 0 i j
+  pub m : r.weights.m ≡ weight s q 1 i j
+  pub e : r.weights.e ≡ weight s q 2 i j
+  pub f : r.weights.f ≡ weight s q 3 i j
   pub west : r.west ≡ flux_u s i j
   pub east : r.east ≡ flux_u s (to_east s i) j
   pub south : r.south ≡ flux_v s i j
@@ -69,9 +68,9 @@ pub record IsCell (s : State) (q : List ℤ) (i j : ℕ) (r : Cell) : Type 0 whe
 
 -- r is what a cell has in Tv at its north edge, and what the model's cell (i, j) has there
 pub record Gives (own : Cell) (r : Given) : Type 0 where
-  pub p : r.p ≡ own.p ⊠ own.west
-  pub m : r.m ≡ own.m ⊠ own.east
-  pub f : r.f ≡ own.f ⊠ own.south
+  pub p : r.p ≡ own.weights.p ⊠ own.west
+  pub m : r.m ≡ own.weights.m ⊠ own.east
+  pub f : r.f ≡ own.weights.f ⊠ own.south
   pub bernoulli : r.bernoulli ≡ own.bernoulli
 
 pub record IsGiven (s : State) (q : List ℤ) (i j : ℕ) (r : Given) : Type 0 where
@@ -108,30 +107,10 @@ pub record AreDoubles (s : State) (q : List ℤ) (i j : ℕ) (r : Doubles) : Typ
 abbrev pub Ready : State → List ℤ → Type 0
 Ready s q = TendenciesReady s q × (length s.barriers ≡ cells s)
 
--- barriers change nothing of what is asked of a state, and nothing of a cell
-pub walls-ready : (s : State) {q : List ℤ} → TendenciesReady s q → TendenciesReady (unbarred s) q
-walls-ready s r =
-    let t = r.state in
-    record {
-      state = record { columns = t.columns; rows = t.rows; gravity = t.gravity; depths = t.depths; bottoms = t.bottoms; us = t.us; vs = t.vs };
-      vorticity = r.vorticity;
-    }
-
-pub cell-barred : (s : State) {q : List ℤ} {i j : ℕ} {r : Cell} → IsCell (unbarred s) q i j r → IsCell s q i j r
-unfolding weight flux_u flux_v B
-cell-barred s c = record { p = c.p; m = c.m; e = c.e; f = c.f; west = c.west; east = c.east; south = c.south; north = c.north; bernoulli = c.bernoulli }
-
-given_barred : (s : State) {q : List ℤ} {i j : ℕ} {r : Given} → IsGiven (unbarred s) q i j r → IsGiven s q i j r
-unfolding weight flux_u flux_v B
-given_barred s g = record { p = g.p; m = g.m; f = g.f; bernoulli = g.bernoulli }
-
-pub from-barred : (s : State) {q : List ℤ} {i j : ℕ} {r : Given} → FromSouth (unbarred s) q i j r → FromSouth s q i j r
-from-barred s g = record { given = λ o. given_barred s (g.given o) }
-
 -- ---- what is read around a cell is the model's
 
 -- its weights, by its corners
-pub weight-around : (s : State) {i j : ℕ} {a : Four} → AreCorners (corner_columns s) (corner_rows s) i j a → (q : List ℤ) (row : ℕ) (c : Corners)
+pub weight-around : (s : State) {i j : ℕ} {a : Corners ℕ} → AreCorners (corner_columns s) (corner_rows s) i j a → (q : List ℤ) (row : ℕ) (c : Corners Float)
     → (c.ne ≡ double (get_or q a.ne (pos 0))) × (c.nw ≡ double (get_or q a.nw (pos 0)))
     × (c.sw ≡ double (get_or q a.sw (pos 0))) × (c.se ≡ double (get_or q a.se (pos 0)))
     → weighted_by row c ≡ weight s q row i j
@@ -155,7 +134,7 @@ module _ (s : State) {i j : ℕ} {a : Stencil} (r : IsAround s.w s.n i j a) wher
   unfolding flux_v
   north-around p = rw (r.here, r.north, previous-next p)
 
-  pub bernoulli-around : bernoulli_at s.G s.h s.b s.u s.v a.here a.east a.north ≡ B s i j
+  pub bernoulli-around : bernoulli_at s a.here a.east a.north ≡ B s i j
   unfolding B
   bernoulli-around = rw (r.here, r.east, r.north)
 
@@ -167,21 +146,21 @@ convergence_of own = neg (own.east ⊟ own.west ⊞ own.north ⊟ own.south)
 
 abbrev pub momentum_u : (own west : Cell) → Float
 momentum_u own west =
-    own.p ⊠ own.north
-    ⊞ west.m ⊠ west.north
-    ⊞ west.p ⊠ west.south
-    ⊞ own.m ⊠ own.south
-    ⊟ own.e ⊠ own.east
-    ⊞ west.e ⊠ west.west
+    own.weights.p ⊠ own.north
+    ⊞ west.weights.m ⊠ west.north
+    ⊞ west.weights.p ⊠ west.south
+    ⊞ own.weights.m ⊠ own.south
+    ⊟ own.weights.e ⊠ own.east
+    ⊞ west.weights.e ⊠ west.west
     ⊟ double bernoulli_scale ⊠ (own.bernoulli ⊟ west.bernoulli)
 
 abbrev pub momentum_v : Cell → Given → Float
 momentum_v own south =
-    neg (own.p ⊠ own.east)
-    ⊟ own.m ⊠ own.west
+    neg (own.weights.p ⊠ own.east)
+    ⊟ own.weights.m ⊠ own.west
     ⊟ south.p
     ⊟ south.m
-    ⊟ own.f ⊠ own.north
+    ⊟ own.weights.f ⊠ own.north
     ⊞ south.f
     ⊟ double bernoulli_scale ⊠ (own.bernoulli ⊟ south.bernoulli)
 

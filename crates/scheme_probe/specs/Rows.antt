@@ -3,18 +3,14 @@ use Rattle.std.specs.Prelude.{List, ℕ, ◌+◌, ◌≤◌, ◌<◌, ℤ, lengt
 use Rattle.std.proofs.Common.{sym, subst, arith, length-set}
 use Rattle.model.specs.State.{State}
 use Rattle.grid.specs.Cells.{previous-after}
-use Rattle.grid.specs.Places.{Each, each_none, each_more, each-past, each_all}
-use Rattle.scheme.specs.Masking.{unbarred}
-use Rattle.scheme_probe.specs.Cells.{IsGiven, FromSouth, from-barred}
+use Rattle.grid.specs.Places.{Each, each_more, each-past, each_all}
+use Rattle.scheme_probe.specs.Cells.{IsGiven, FromSouth}
 use Rattle.scheme_probe.specs.declared.Given.{Given}
 
 -- the first w places of l have what row j needs of the row to its south
 pub record RowFromSouth (s : State) (q : List ℤ) (j : ℕ) (l : List Given) : Type 0 where
   pub long : s.w ≤ length l
   pub each : Each (λ i r. FromSouth s q i j r) 0 s.w l
-
-pub row-barred : (s : State) {q : List ℤ} {j : ℕ} {l : List Given} → RowFromSouth (unbarred s) q j l → RowFromSouth s q j l
-row-barred s r = record { long = r.long; each = record { at = λ d i a e. from-barred s (r.each.at d i a e) } }
 
 -- a loop over row j that has passed i columns: there stands what the row to the north needs, and further on what row j does
 pub record Handing (s : State) (q : List ℤ) (j i : ℕ) (l : List Given) : Type 0 where
@@ -23,9 +19,6 @@ pub record Handing (s : State) (q : List ℤ) (j i : ℕ) (l : List Given) : Typ
   pub ahead : Each (λ i r. FromSouth s q i j r) i s.w l
 
 module _ {s : State} {q : List ℤ} {j : ℕ} {l : List Given} where
-  pub handing-none : RowFromSouth s q j l → Handing s q j 0 l
-  handing-none r = record { long = r.long; behind = each_none; ahead = r.each }
-
   module _ {i : ℕ} (h : Handing s q j i l) where
     pub handing-south : (d : Given) → i < s.w → FromSouth s q i j (get_or l i d)
     handing-south d p = h.ahead.at d i (omega arith) p

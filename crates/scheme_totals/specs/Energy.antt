@@ -40,11 +40,22 @@ potential_expr = con (pos 2) ⊗ var 0 ⊗ var 1 ⊗ (var 1 ⊕ con (pos 2) ⊗ 
 abbrev pub energy_expr : Expr
 energy_expr = var 0 ⊕ var 1 ⊕ var 2
 
-pub kinetic-size : {h x : List ℤ} {k l : ℕ} → ReadsAt velocity_limits x k → ReadsAt depth_limits h l → ReadsAt depth_limits h k → Abs (kinetic_at h x k l) most_kinetic
-kinetic-size a b c = size kinetic_expr (velocity-size a.value ◂ depth-size b.value ◂ depth-size c.value ◂ ∎) tt
+-- the numbers of each, and their sizes
+module _ {h x : List ℤ} {k l : ℕ} where
+  pub kinetic-sizes : ReadsAt velocity_limits x k → ReadsAt depth_limits h l → ReadsAt depth_limits h k
+      → Sizes (get_or x k (pos 0) ∷ get_or h l (pos 0) ∷ get_or h k (pos 0) ∷ []) (5000 ∷ 100000 ∷ 100000 ∷ [])
+  kinetic-sizes a b c = velocity-size a.value ◂ depth-size b.value ◂ depth-size c.value ◂ ∎
 
-pub potential-size : {g : ℤ} {h b : List ℤ} {k : ℕ} → Within gravity_limits g → ReadsAt depth_limits h k → ReadsAt bottom_limits b k → Abs (potential_at g h b k) most_potential
-potential-size a b c = size potential_expr (gravity-size a ◂ depth-size b.value ◂ bottom-size c.value ◂ ∎) tt
+  pub kinetic-size : ReadsAt velocity_limits x k → ReadsAt depth_limits h l → ReadsAt depth_limits h k → Abs (kinetic_at h x k l) most_kinetic
+  kinetic-size a b c = size kinetic_expr (kinetic-sizes a b c) tt
+
+module _ {g : ℤ} {h b : List ℤ} {k : ℕ} where
+  pub potential-sizes : Within gravity_limits g → ReadsAt depth_limits h k → ReadsAt bottom_limits b k
+      → Sizes (g ∷ get_or h k (pos 0) ∷ get_or b k (pos 0) ∷ []) (10000 ∷ 100000 ∷ 100000 ∷ [])
+  potential-sizes a b c = gravity-size a ◂ depth-size b.value ◂ bottom-size c.value ◂ ∎
+
+  pub potential-size : Within gravity_limits g → ReadsAt depth_limits h k → ReadsAt bottom_limits b k → Abs (potential_at g h b k) most_potential
+  potential-size a b c = size potential_expr (potential-sizes a b c) tt
 
 -- ---- of a state
 

@@ -6,7 +6,7 @@ use mathlib.Core.List.{List, [], ◌∷◌}
 use contract.Lifetimes.{Lfts}
 use denote.Triple.Clauses.{AtExit}
 use borrow.Fn.Kinds.{Dens, res_t, ended_of}
-use Rattle.model.specs.State.{State, state_of, WithinLimits}
+use Rattle.model.specs.State.{State, lent_state, state_at, WithinLimits}
 use Rattle.model.specs.Claims.{raised}
 use Rattle.model.specs.Histories.{Call, step, run, History, nothing, stepped, ran, inflow_due}
 use Rattle.theorems.specs.Theorems.{theorems}
@@ -21,8 +21,8 @@ use Rattle.step_run.proofs.Calls.{StepCall, RunCall, DepthCall, step_call, run_c
 -- calls made one after the other, accepted or refused
 pub data Made : State → List Call → State → Type 0 where
   none_made : {s : State} → Made s [] s
-  step-made : (c : StepCall) {calls : List Call} {t : State} → Made c.after calls t → Made c.before (step c.inflow c.work ∷ calls) t
-  run-made : (c : RunCall) {calls : List Call} {t : State} → Made c.after calls t → Made c.before (run c.inflow c.steps c.work ∷ calls) t
+  step-made : (c : StepCall) {calls : List Call} {t : State} → Made (state_at c.left) calls t → Made (state_at c.lent) (step c.inflow c.work ∷ calls) t
+  run-made : (c : RunCall) {calls : List Call} {t : State} → Made (state_at c.left) calls t → Made (state_at c.lent) (run c.inflow c.steps c.work ∷ calls) t
 
 pub made-history : {s t : State} {calls : List Call} → Made s calls t → History s calls t
 made-history none_made = nothing
@@ -42,26 +42,25 @@ limits-kept {s} {t} {calls} l made = theorems.limits-kept s t calls l (made-hist
 -- ---- the same of the code itself: from what a caller learns of a call, of its own parameters
 
 -- a call of `step`, or of `run`, is the first of a list: from the state lent, by the state left
-module _ (κs : Lfts 7) (a : Dens κs step-kinds.ps) (answer : (res_t step-kinds.r κs).Denot) (e : AtExit (ended_of 7 step-kinds.ps step-kinds.r) κs) where
+module _ (κs : Lfts 4) (a : Dens κs step-kinds.ps) (answer : (res_t step-kinds.r κs).Denot) (e : AtExit (ended_of 4 step-kinds.ps step-kinds.r) κs) where
   pub code-step-made : step-reads.Learnt κs a answer e → {calls : List Call} {t : State}
-      → let (p, (h, (b, (u, (v, (barriers, (inflow, (work, _)))))))) = a in
-      let (_, (h', (_, (u', (v', _))))) = e in
-      Made (state_of p h'.now b.now u'.now v'.now barriers.now) calls t → Made (state_of p h.now b.now u.now v.now barriers.now) (step inflow.now work.now ∷ calls) t
+      → let (s, (inflow, (work, _))) = a in
+      let (s', _) = e in
+      Made (state_at s'.now) calls t → Made (state_at s.now) (step inflow.now work.now ∷ calls) t
   code-step-made told more = step-made (step_call κs a answer e told) more
 
-module _ (κs : Lfts 7) (a : Dens κs run-kinds.ps) (answer : (res_t run-kinds.r κs).Denot) (e : AtExit (ended_of 7 run-kinds.ps run-kinds.r) κs) where
+module _ (κs : Lfts 4) (a : Dens κs run-kinds.ps) (answer : (res_t run-kinds.r κs).Denot) (e : AtExit (ended_of 4 run-kinds.ps run-kinds.r) κs) where
   pub code-run-made : run-reads.Learnt κs a answer e → {calls : List Call} {t : State}
-      → let (p, (h, (b, (u, (v, (barriers, (inflow, (steps, (work, _))))))))) = a in
-      let (_, (h', (_, (u', (v', _))))) = e in
-      Made (state_of p h'.now b.now u'.now v'.now barriers.now) calls t → Made (state_of p h.now b.now u.now v.now barriers.now) (run inflow.now steps work.now ∷ calls) t
+      → let (s, (inflow, (steps, (work, _)))) = a in
+      let (s', _) = e in
+      Made (state_at s'.now) calls t → Made (state_at s.now) (run inflow.now steps work.now ∷ calls) t
   code-run-made told more = run-made (run_call κs a answer e told) more
 
 -- two calls of `total_depth`, before and after such a list
-module _ (κs κs' : Lfts 5) (a : Dens κs depth-kinds.ps) (a' : Dens κs' depth-kinds.ps) (answer : (res_t depth-kinds.r κs).Denot) (answer' : (res_t depth-kinds.r κs').Denot)
-    (e : AtExit (ended_of 5 depth-kinds.ps depth-kinds.r) κs) (e' : AtExit (ended_of 5 depth-kinds.ps depth-kinds.r) κs') where
+module _ (κs κs' : Lfts 2) (a : Dens κs depth-kinds.ps) (a' : Dens κs' depth-kinds.ps) (answer : (res_t depth-kinds.r κs).Denot) (answer' : (res_t depth-kinds.r κs').Denot)
+    (e : AtExit (ended_of 2 depth-kinds.ps depth-kinds.r) κs) (e' : AtExit (ended_of 2 depth-kinds.ps depth-kinds.r) κs') where
   pub code-balance : depth-reads.Learnt κs a answer e → depth-reads.Learnt κs' a' answer' e' → {calls : List Call}
-      → let (p, (h, (b, (u, (v, (barriers, _)))))) = a in
-      let (p', (h', (b', (u', (v', (barriers', _)))))) = a' in
-      let s = state_of p h.now b.now u.now v.now barriers.now in
-      Made s calls (state_of p' h'.now b'.now u'.now v'.now barriers'.now) → answer' ≡ raised (inflow_due s calls) answer
+      → let (s, _) = a in
+      let (t, _) = a' in
+      Made (lent_state s.now) calls (lent_state t.now) → answer' ≡ raised (inflow_due (lent_state s.now) calls) answer
   code-balance first last made = balance (depth_call κs a answer e first) (depth_call κs' a' answer' e' last) made

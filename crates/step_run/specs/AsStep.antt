@@ -1,8 +1,7 @@
 -- A step is a run of one: what it answers, by what that run answers. Assumes nothing.
-use Rattle.model.specs.declared.StepAnswer.{StepAnswer}
-use Rattle.model.specs.declared.RunAnswer.{RunAnswer}
+use Rattle.std.specs.Prelude.{Ok, Err}
+use Rattle.model.specs.Answers.{RunAnswer, StepAnswer, step_error}
 
 abbrev pub as_step : RunAnswer → StepAnswer
-as_step (RunAnswer.Finished m) = StepAnswer.Done
-as_step (RunAnswer.Refused r) = StepAnswer.Refused r
-as_step (RunAnswer.Stopped m p f k) = StepAnswer.OutOfBounds p f k
+as_step (Ok m) = Ok tt
+as_step (Err e) = Err (step_error e)

@@ -1,7 +1,7 @@
 -- The tests of a step of a state that is within the limits: those of what it takes beside the state. Assumes nothing.
 use Rattle.std.specs.Prelude.{◌≡◌, refl, List, [], ◌∷◌, ◌++◌, ℕ, ℤ, length}
 use Rattle.std.proofs.Common.{sym, ap, ◌∙◌}
-use Rattle.std.proofs.Math.Option.{Option, none, some}
+use Rattle.std.specs.Prelude.{Option, None, Some}
 use Rattle.model.specs.State.{State, parameters_of, cells, WithinLimits}
 use Rattle.model.specs.Fields.{limits_of}
 use Rattle.model.specs.Tests.{Test, ◌then◌, first_found}
@@ -22,9 +22,9 @@ beside_tests m inflow room =
 skip : (a b : List (Test Refusal)) → EachPasses a → first_found (a ++ b) ≡ first_found b
 skip a b p = found-append a b ∙ ap (λ o. o then first_found b) ((passes a).1 p)
 
-then-none : (o : Option Refusal) → o then none ≡ o
-then-none none = refl
-then-none (some r) = refl
+then-none : (o : Option Refusal) → o then None ≡ o
+then-none None = refl
+then-none (Some r) = refl
 
 cut : (a b : List (Test Refusal)) → EachPasses b → first_found (a ++ b) ≡ first_found a
 cut a b p = found-append a b ∙ ap (λ o. first_found a then o) ((passes b).1 p) ∙ then-none (first_found a)

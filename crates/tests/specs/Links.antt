@@ -1,26 +1,26 @@
--- Links of a chain of tests: what is answered after an answer and further tests. Assumes nothing.
-use Rattle.std.specs.Prelude.{◌≡◌, refl, not, false, ◌&&◌, List, [], ◌∷◌, ◌++◌, map, ℕ, ◌≤◌, ℤ, pos, length, get_or}
-use Rattle.std.proofs.Common.{sym, ap, ap₂, ◌∙◌, zero-le, eqb→eq, le-leb}
-use Rattle.std.proofs.Math.Option.{Option, none, some}
-use Rattle.std.proofs.lemmas.List.{length-map}
+-- What tests answer, one list of them after another. Assumes nothing.
+use Rattle.std.specs.Prelude.{◌≡◌, refl, not, false, ◌&&◌, List, [], ◌∷◌, ◌++◌, map, ℕ, ◌*◌, ◌≤◌, ℤ, pos, length, get_or}
+use Rattle.std.proofs.Common.{sym, ap, ap₂, ◌∙◌, zero-le, le-leb}
+use Rattle.std.specs.Prelude.{Option, None, Some, Ok, Err}
 use Rattle.std.proofs.Math.ListN.{get_or-map}
 use Rattle.model.specs.Numbers.{within, barrier_limits}
-use Rattle.model.specs.State.{State, parameters_of, cells, barrier_numbers}
+use Rattle.model.specs.State.{State, parameters_of, cells}
+use Rattle.model.specs.Answers.{Answer}
 use Rattle.model.specs.Tests.{Test, ◌then◌, first_found}
 use Rattle.model.specs.Refusals.{fields_of, grid_test, length_test, length_tests, constants_test}
 use Rattle.model.specs.Promises.{answer_of}
 use Rattle.model.specs.Claims.{EachPasses}
+use Rattle.model.specs.declared.Parameters.{Parameters}
 use Rattle.model.specs.declared.Refusal.{Refusal}
-use Rattle.model.specs.declared.Answer.{Answer}
-use Rattle.model.specs.declared.Answer.TheVariants.{Accepted, Refused}
+use Rattle.grid.specs.Cells.{cells-most}
 use Rattle.theorems.specs.Truth.{differ}
 use Rattle.theorems.specs.TestLaws.{passes, found-append}
+use Rattle.theorems.specs.Limits.{Known, known-iff}
 use Rattle.tests.specs.Sought.{barriers_test}
 
--- a refusal stays; where there is none, the tests decide
-abbrev pub after : Answer → List (Test Refusal) → Answer
-after Accepted l = answer_of (first_found l)
-after (Refused r) l = Refused r
+-- what a call that makes these tests answers
+abbrev pub answers : List (Test Refusal) → Answer
+answers l = answer_of (first_found l)
 
 -- each field of a state has a number for each cell
 pub record FieldsLong (s : State) : Type 0 where
@@ -30,78 +30,43 @@ pub record FieldsLong (s : State) : Type 0 where
   pub v : length s.v ≡ cells s
   pub barriers : length s.barriers ≡ cells s
 
--- ---- one link after another
+-- ---- one list of tests after another
 
-pub after_none : (a : Answer) → after a [] ≡ a
-after_none Accepted = refl
-after_none (Refused r) = refl
+refused-by : {r : Refusal} (o p : Option Refusal) → answer_of o ≡ Err r → answer_of (o then p) ≡ Err r
+refused-by None p e = differ (cc e)
+refused-by (Some x) p e = e
 
-answer-then : (o p : Option Refusal) (k : List (Test Refusal)) → p ≡ first_found k → after (answer_of o) k ≡ answer_of (o then p)
-answer-then none p k e = ap answer_of (sym e)
-answer-then (some r) p k e = refl
+passed-by : (o p : Option Refusal) → answer_of o ≡ Ok tt → answer_of (o then p) ≡ answer_of p
+passed-by None p e = refl
+passed-by (Some x) p e = differ (cc e)
 
-pub after-append : (a : Answer) (l k : List (Test Refusal)) → after (after a l) k ≡ after a (l ++ k)
-after-append Accepted l k = answer-then (first_found l) (first_found k) k refl ∙ ap answer_of (sym (found-append l k))
-after-append (Refused r) l k = refl
+-- what the first of them refuse is refused
+pub refused_first : {r : Refusal} (l k : List (Test Refusal)) → answers l ≡ Err r → answers (l ++ k) ≡ Err r
+refused_first l k e = ap answer_of (found-append l k) ∙ refused-by (first_found l) (first_found k) e
 
--- ---- a chain: it begins with the answer e, and has come to a by the tests l
-
-pub record Chain (e a : Answer) (l : List (Test Refusal)) : Type 0 where
-  pub is : a ≡ after e l
-
-pub start : {a : Answer} (e : Answer) (k : List (Test Refusal)) → a ≡ after e k → Chain e a k
-start e k h = record { is = h }
-
--- one link more
-pub more : {e a r : Answer} {l : List (Test Refusal)} (k : List (Test Refusal)) → Chain e a l → r ≡ after a k → Chain e r (l ++ k)
-more {e} {l = l} k c h = record { is = h ∙ ap (λ x. after x k) c.is ∙ after-append e l k }
+-- where they pass, the others decide
+pub passed_first : (l k : List (Test Refusal)) → answers l ≡ Ok tt → answers (l ++ k) ≡ answers k
+passed_first l k e = ap answer_of (found-append l k) ∙ passed-by (first_found l) (first_found k) e
 
 -- ---- what has passed
 
-pub accepted-none : (o : Option Refusal) → Accepted ≡ answer_of o → o ≡ none
-accepted-none none e = refl
-accepted-none (some r) e = differ (cc e)
+pub accepted-none : (o : Option Refusal) → Ok tt ≡ answer_of o → o ≡ None
+accepted-none None e = refl
+accepted-none (Some r) e = differ (cc e)
 
-pub refused-some : (o : Option Refusal) (r : Refusal) → Refused r ≡ answer_of o → o ≡ some r
-refused-some none r e = differ (cc e)
-refused-some (some x) r e = let h : x ≡ r = cc e in ap some h
+pub refused-some : (o : Option Refusal) (r : Refusal) → Err r ≡ answer_of o → o ≡ Some r
+refused-some None r e = differ (cc e)
+refused-some (Some x) r e = let h : x ≡ r = cc e in ap Some h
 
-by-start : (e : Answer) (l : List (Test Refusal)) → Accepted ≡ after e l → (e ≡ Accepted) × EachPasses l
-by-start Accepted l h = (refl, (passes l).0 (accepted-none (first_found l) h))
-by-start (Refused r) l h = differ (cc h)
+pub each-passed : (l : List (Test Refusal)) → answers l ≡ Ok tt → EachPasses l
+each-passed l e = (passes l).0 (accepted-none (first_found l) (sym e))
 
-pub passed : {e a : Answer} {l : List (Test Refusal)} → Chain e a l → a ≡ Accepted → EachPasses l
-passed {e} {l = l} c h = (by-start e l (sym h ∙ c.is)).1
+-- test 1 of a grid
+pub grid-passed : (p : Parameters) → answers (grid_test p ∷ []) ≡ Ok tt → Known p
+grid-passed p e = (known-iff p).0 (each-passed (grid_test p ∷ []) e).0
 
--- where a link is not idle, the first of them was not
-pub begun : {e a : Answer} {l : List (Test Refusal)} → Chain e a l → a ≡ Accepted → e ≡ Accepted
-begun {e} {l = l} c h = (by-start e l (sym h ∙ c.is)).0
-
--- a link whose test goes by a number, n, that the code knows as m where the link is not idle
-pub idle : (a : Answer) (x y : List (Test Refusal)) → (a ≡ Accepted → x ≡ y) → after a x ≡ after a y
-idle Accepted x y e = ap (after Accepted) (e refl)
-idle (Refused r) x y e = refl
-
-pub counted : {e a r : Answer} {l : List (Test Refusal)} {m n : ℕ} (k : ℕ → List (Test Refusal)) → Chain e a l → (a ≡ Accepted → m ≡ n)
-    → r ≡ after a (k m) → Chain e r (l ++ k n)
-counted {a = a} {m = m} {n = n} k c h e = more (k n) c (e ∙ idle a (k m) (k n) (λ q. ap k (h q)))
-
--- where the lengths of a state's own fields have been tested, after one test or after two
-long-by : (s : State) (k : List (Test Refusal)) → EachPasses (length_tests (fields_of s) ++ k) → FieldsLong s
-long-by s k t =
-    record {
-      h = eqb→eq (length s.h) (cells s) t.0;
-      b = eqb→eq (length s.b) (cells s) t.1.0;
-      u = eqb→eq (length s.u) (cells s) t.1.1.0;
-      v = eqb→eq (length s.v) (cells s) t.1.1.1.0;
-      barriers = sym (length-map s.barriers pos) ∙ eqb→eq (length (barrier_numbers s)) (cells s) t.1.1.1.1.0;
-    }
-
-pub fields-long-after : (s : State) {e a : Answer} {t : Test Refusal} {k : List (Test Refusal)} → Chain e a (t ∷ (length_tests (fields_of s) ++ k)) → a ≡ Accepted → FieldsLong s
-fields-long-after s {k = k} c h = long-by s k (passed c h).1
-
-pub fields-long-after-two : (s : State) {e a : Answer} {t u : Test Refusal} {k : List (Test Refusal)} → Chain e a (t ∷ u ∷ (length_tests (fields_of s) ++ k)) → a ≡ Accepted → FieldsLong s
-fields-long-after-two s {k = k} c h = long-by s k (passed c h).1.1
+pub few-cells : {p : Parameters} → Known p → p.w * p.n ≤ 4096
+few-cells k = cells-most k.columns k.rows
 
 -- test 2 of a state's own fields, where they must have m numbers
 abbrev pub own_lengths : (h b u v : List ℤ) (barriers : List ℕ) (m : ℕ) → List (Test Refusal)
@@ -114,7 +79,7 @@ outline_tests s = grid_test (parameters_of s) ∷ (length_tests (fields_of s) ++
 
 -- ---- bytes of barriers that are all 3 at most: none is found
 
-pub small-inside : (l : List ℕ) (m : ℕ) → ((k : ℕ) → get_or l k 0 ≤ 3) → after Accepted (barriers_test l m ∷ []) ≡ Accepted
+pub small-inside : (l : List ℕ) (m : ℕ) → ((k : ℕ) → get_or l k 0 ≤ 3) → answers (barriers_test l m ∷ []) ≡ Ok tt
 unfolding within barrier_limits
 small-inside l m h = ap answer_of ((passes (barriers_test l m ∷ [])).1 (λ k p. inside k, tt))
   where

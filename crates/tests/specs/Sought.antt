@@ -1,12 +1,10 @@
--- What scans seek: a number outside a range, a velocity on a closed edge, a byte that is no barrier; and what is answered by what they find.
+-- What scans seek: a number outside a range, a velocity on a closed edge, a byte that is no barrier.
 use Rattle.std.specs.Prelude.{◌≡◌, refl, Bool, not, ◌&&◌, List, [], ◌∷◌, map, ℕ, ◌*◌, ◌/◌, ◌%◌, ℤ, pos, get_or}
-use Rattle.std.proofs.Math.Option.{Option, none, some}
 use Rattle.model.specs.Numbers.{within, eqℤ}
 use Rattle.model.specs.State.{State, state_of, closed_west, closed_south}
 use Rattle.model.specs.Tests.{Test, seeks}
 use Rattle.model.specs.Refusals.{taken_of, value_test, edge_tests}
 use Rattle.model.specs.declared.Parameters.{Parameters}
-use Rattle.model.specs.declared.Answer.{Answer}
 use Rattle.model.specs.declared.Field.{Field}
 use Rattle.model.specs.declared.Field.TheVariants.{VelocityU, VelocityV, Barriers}
 use Rattle.model.specs.declared.Refusal.{Refusal}
@@ -16,19 +14,6 @@ use Rattle.integers.specs.Ranges.{between}
 use Rattle.grid.specs.Barred.{closed_at}
 use Rattle.grid.specs.declared.Edge.{Edge}
 use Rattle.grid.specs.declared.Edge.TheVariants.{West, South}
-use Rattle.tests.specs.declared.Found.{Found}
-use Rattle.tests.specs.declared.Found.TheVariants.{At, Nowhere}
-
--- ---- what is found
-
-abbrev pub found_by : Option ℕ → Found
-found_by none = Nowhere
-found_by (some k) = At k
-
--- what a test that seeks answers then
-abbrev pub answer_by : (ℕ → Refusal) → Found → Answer
-answer_by r Nowhere = Answer.Accepted
-answer_by r (At k) = Answer.Refused (r k)
 
 -- ---- a number outside a range
 

@@ -1,31 +1,30 @@
-// 01's refusals 1 to 5 and 8, and 02's 9 and 10, as links of a chain. A link takes what the tests before it answered, and answers that, or else
-// what its own test finds: after a refusal it does nothing. A call writes its tests as a chain, in the order of its list in the model.
+// 01's refusals 1 to 5 and 8, and 02's 9 and 10, each as a function that passes or answers its refusal. A call writes its tests one after the
+// other, each with a `?`, in the order of its list in the model: the first that finds something ends it.
 #![tactic(auto)]
 
-ghost use Rattle.std.specs.Prelude.{◌≡◌, ◌&&◌, List, [], ◌∷◌, map, ◌*◌, ◌≤◌, T, leb, ℤ, pos, length};
+ghost use Rattle.std.specs.Prelude.{◌≡◌, ◌&&◌, List, [], ◌∷◌, ◌++◌, map, ◌*◌, ◌≤◌, ◌<◌, leb, ℤ, pos, length, get_or};
 ghost use Rattle.model.specs.Numbers.{longest_side};
 ghost use Rattle.model.specs.Grid.{first_from};
-ghost use Rattle.model.specs.State.{State, state_of, lent, before, corners, barrier_at};
+ghost use Rattle.model.specs.State.{state_of, lent_state};
 ghost use Rattle.model.specs.Fields.{field_number, limits_of, narrow_of};
-ghost use Rattle.model.specs.Tests.{asks, first_found};
+ghost use Rattle.model.specs.Tests.{asks};
 ghost use Rattle.model.specs.Refusals.{count_of, taken, fields_of, grid_known, grid_test, run_length_test, length_test, work_test};
 ghost use Rattle.model.specs.Refusals.{constants_within, constants_test, time_test, value_test, value_tests, edge_tests, room_test, room_tests};
 ghost use Rattle.model.specs.Refusals.{narrowed, cell_test, state_tests};
-ghost use Rattle.model.specs.Promises.{answer_of};
-ghost use Rattle.model.specs.declared.Answer.TheVariants.{Accepted};
 ghost use Rattle.model.specs.declared.Field.TheVariants.{Vorticity};
-ghost use Rattle.model.specs.declared.Refusal.TheVariants.{Value, ClosedEdge};
+ghost use Rattle.model.specs.declared.Refusal.TheVariants.{Value};
 ghost use Rattle.integers.specs.Ranges.{between};
-ghost use Rattle.tests.specs.Sought.{bare, edges_of, found_by, answer_by, outside_in, moving_at, bad_in, barriers_test, still_test};
-ghost use Rattle.tests.specs.Links.{after, own_lengths, outline_tests, FieldsLong};
+ghost use Rattle.tests.specs.Sought.{bare, edges_of, outside_in, moving_at, bad_in, barriers_test, still_test};
+ghost use Rattle.tests.specs.Links.{answers, own_lengths, outline_tests, FieldsLong};
 
 use grid::Edge;
 use integers::Range;
-use model::{Answer, Field, Parameters, Refusal, Timestamp};
+use model::{Field, Lent, Parameters, Refusal, Timestamp};
 
 // ---- the fields
 
-// What a field has beside its numbers: the number that names it in an answer, 01's bounds, and 02's narrow ones.
+// What a field has beside its numbers: the number that names it in an answer, 01's bounds, and 02's narrow ones. The C interface names a
+// field by that number, and this table is the one place that has it.
 #[derive(Clone, Copy)]
 pub struct FieldRow {
     pub number: u64,
@@ -52,7 +51,8 @@ fn row(number: u64, least: i64, most: i64, low: i64, high: i64) -> FieldRow
 }
 
 // The table of the fields; those for which 02 names no narrow bounds keep 01's. It rules out, for instance: a bound off by one; q's bounds
-// for the inflow; two fields of one number; a narrow end excluded.
+// for the inflow; two fields of one number; a narrow end excluded; b's narrow bound left at 01's.
+#[tactic(auto, unfolding(model::specs::Numbers::depth_limits, model::specs::Numbers::bottom_limits, model::specs::Numbers::velocity_limits, model::specs::Numbers::vorticity_limits, model::specs::Numbers::inflow_limits, model::specs::Numbers::barrier_limits, model::specs::Numbers::narrow_depth_limits, model::specs::Numbers::narrow_bottom_limits, model::specs::Numbers::narrow_velocity_limits, model::specs::Numbers::narrow_vorticity_limits))]
 pub fn row_of(field: Field) -> FieldRow
     ensures { (result.number ≡ field_number field)
         × (between result.limits ≡ limits_of field)
@@ -69,76 +69,88 @@ pub fn row_of(field: Field) -> FieldRow
     }
 }
 
-// 01's bounds of a field, and 02's narrow ones. They rule out, for instance: another field's; a bound excluded; b's narrow bound left at
-// 01's.
-pub fn limits(field: Field) -> Range
-    ensures { between result ≡ limits_of field }
-{
-    row_of(field).limits
+// ---- numbers
+
+// Numbers that a scan goes over: those of a lent field, bytes of barriers, and the numbers that a record holds as bytes. Each impl reads them
+// from where they are.
+pub trait Numbers {
+    ghost numbers: { Self → List ℤ };
+
+    fn count(&self) -> usize
+        ensures { result ≡ length (numbers self.now) };
+
+    fn number_at(&self, k: usize) -> i64
+        requires { k < length (numbers self.now) }
+        ensures { result ≡ get_or (numbers self.now) k (pos 0) };
 }
 
-pub fn narrow_limits(field: Field) -> Range
-    ensures { between result ≡ narrow_of field }
-{
-    row_of(field).narrow
+impl<'a> Numbers for &'a [i64] {
+    ghost numbers = { λ f. f.now };
+
+    fn count(&self) -> usize {
+        self.len()
+    }
+
+    fn number_at(&self, k: usize) -> i64 {
+        self[k]
+    }
+}
+
+// Bytes as numbers: one from 128 on is no negative number.
+#[derive(Clone, Copy)]
+pub struct Bytes<'a> {
+    pub bytes: &'a [u8],
+}
+
+impl<'a> Numbers for Bytes<'a> {
+    ghost numbers = { λ b. map pos b.bytes.now };
+
+    fn count(&self) -> usize {
+        self.bytes.len()
+    }
+
+    fn number_at(&self, k: usize) -> i64 {
+        i64::from(self.bytes[k])
+    }
 }
 
 // ---- scans
 
-// What a scan finds.
-#[derive(Clone, Copy)]
-pub enum Found {
-    At(usize),
-    Nowhere,
-}
-
-// The first number of a field that is outside a range: the loop ends there. It rules out, for instance: the last such number; the first
-// one left out.
-pub fn first_outside(f: &[i64], l: Range) -> Found
-    ensures { result ≡ found_by (first_from (outside_in l f.now) (length f.now) 0) }
+// The first number that is outside a range: the loop ends there. It rules out, for instance: the last such number; the first one left out.
+pub fn first_outside<N: Numbers>(f: &N, l: Range) -> Option<usize>
+    ensures { let numbers = N.numbers f.now in
+        result ≡ first_from (outside_in l numbers) (length numbers) 0 }
 {
-    for k in 0..f.len() {
-        if !integers::within(f[k], l) {
-            return Found::At(k);
+    // tried: `find` over the range proves, and takes nine instructions a number for six here, a fifth of a call that tests much
+    for k in 0..f.count() {
+        if !l.contains(f.number_at(k)) {
+            return Some(k);
         }
     }
-    Found::Nowhere
+    None
 }
 
-// The same of bytes. It rules out, for instance: a byte from 128 on taken as negative; the last byte left out.
-pub fn first_byte_outside(bytes: &[u8], l: Range) -> Found
-    ensures { result ≡ found_by (first_from (outside_in l (map pos bytes.now)) (length bytes.now) 0) }
+// The first cell with a velocity on a closed edge, in index order: the loops end there. A barrier may stand anywhere, so they go over all cells. It
+// rules out, for instance: the last such cell; a row told for a cell; the first row and column alone; the south wall along column 0; a velocity of
+// 0 told; u's edge closed by the bit of v's. (p, the barriers and the edge go on one by one: a struct of them would be made for u and for v, to be
+// read once each. That f has a number for each cell is asked here and in the two tests below, since `Numbers` knows no grid.)
+pub fn first_moving<N: Numbers>(p: Parameters, f: &N, barriers: &[u8], edge: Edge) -> Option<usize>
+    requires { length (N.numbers f.now) ≡ p.w * p.n }
+    ensures { let moving = moving_at (edges_of p barriers.now) edge in
+        result ≡ first_from (bad_in moving p.w (N.numbers f.now)) (p.w * p.n) 0 }
 {
-    for k in 0..bytes.len() {
-        let x = bytes[k] as i64;
-        if !integers::within(x, l) {
-            return Found::At(k);
-        }
-    }
-    Found::Nowhere
-}
-
-// Whether x is a velocity on a closed edge of cell (i, j), in a state of that kind whose byte of barriers there is this one. It rules out, for
-// instance: the south wall along column 0; a velocity of 0 refused; u's edge closed by the bit of v's.
-pub fn is_moving(kind: u8, barrier: u8, edge: Edge, x: i64, i: usize, j: usize) -> bool
-    ensures { (s : State) → s.kind ≡ kind → barrier_at s i j ≡ barrier → result ≡ moving_at s edge x i j }
-{
-    grid::is_closed(kind, barrier, edge, i, j) && x != 0
-}
-
-// The first cell with a velocity on a closed edge, in index order: the loops end there. A barrier may stand anywhere, so they go over all
-// cells. It rules out, for instance: the last such cell; a row told for a cell; the first row and column alone.
-pub fn first_moving(p: Parameters, f: &[i64], barriers: &[u8], edge: Edge) -> Found
-    requires { (length f.now ≡ p.w * p.n) × (length barriers.now ≡ p.w * p.n) }
-    ensures { result ≡ found_by
-        (first_from (bad_in (moving_at (edges_of p barriers.now) edge) p.w f.now) (p.w * p.n) 0) }
-{
-    let mut found = Found::Nowhere;
+    // so that the products below fit
+    let count = f.count();
+    prove!(count == p.w * p.n);
+    let mut found = None;
+    // left by its label, the form that 01 names; the rows and columns tell which edges a wall closes
     'scan: for j in 0..p.n {
         for i in 0..p.w {
             let k = j * p.w + i;
-            if is_moving(p.kind, barriers[k], edge, f[k], i, j) {
-                found = Found::At(k);
+            let barrier = grid::barrier_at(barriers, k);
+            // few edges are closed, and no other number is looked at
+            if grid::is_closed(p, barrier, edge, i, j) && f.number_at(k) != 0 {
+                found = Some(k);
                 break 'scan;
             }
         }
@@ -146,44 +158,20 @@ pub fn first_moving(p: Parameters, f: &[i64], barriers: &[u8], edge: Edge) -> Fo
     found
 }
 
-// ---- the two kinds of link
+// ---- a test that asks
+//
+// Most tests that ask are one `ask`. Each is a function all the same, by its name in the model: a call's tests then read as the model's list.
 
-// A test that asks: something must hold. It rules out, for instance: the later of two refusals told; a refusal where it holds.
-pub fn then_asks(earlier: Answer, holds: bool, own: Refusal) -> Answer
-    ensures { result ≡ after earlier (asks holds own ∷ []) }
+// Something must hold. It rules out, for instance: a refusal where it holds; always refusing.
+pub fn ask(holds: bool, own: Refusal) -> Result<(), Refusal>
+    ensures { result ≡ answers (asks holds own ∷ []) }
 {
-    let Answer::Accepted = earlier else {
-        return earlier;
-    };
-    if holds {
-        return Answer::Accepted;
-    }
-    Answer::Refused(own)
-}
-
-// A test that seeks: what tests 4 and 5 answer, by what their scan found. They rule out, for instance: a cell told of another field; a
-// clean field refused; a closed edge told as a value outside.
-pub fn value_answer(found: Found, field: Field) -> Answer
-    ensures { result ≡ answer_by (Value field) found }
-{
-    match found {
-        Found::At(cell) => Answer::Refused(Refusal::Value { field, cell }),
-        Found::Nowhere => Answer::Accepted,
-    }
-}
-
-pub fn edge_answer(found: Found, field: Field) -> Answer
-    ensures { result ≡ answer_by (ClosedEdge field) found }
-{
-    match found {
-        Found::At(cell) => Answer::Refused(Refusal::ClosedEdge { field, cell }),
-        Found::Nowhere => Answer::Accepted,
-    }
+    if holds { Ok(()) } else { Err(own) }
 }
 
 // ---- 1
 
-// Whether a side has a known number of columns or rows.
+// Whether a side has a known number of columns or rows. (Two comparisons, as the contract has them: a range's `contains` would be no shorter.)
 fn is_side(w: usize) -> bool
     ensures { result ≡ (leb 1 w && leb w longest_side) }
 {
@@ -191,94 +179,59 @@ fn is_side(w: usize) -> bool
 }
 
 // Whether w, n and the boundary are known. It rules out, for instance: 65 columns; an unknown boundary taken for periodic.
+#[tactic(auto, unfolding(model::specs::Refusals::grid_known))]
 fn grid_known(p: Parameters) -> bool
     ensures { result ≡ grid_known p }
 {
-    if !is_side(p.w) {
-        return false;
-    }
-    if !is_side(p.n) {
-        return false;
-    }
-    grid::known(grid::boundary_of(p.kind))
-}
-
-// The number of cells, w·n, where the grid is known. Where it is not, the product might not fit, and 0 stands for it: a chain that
-// begins with test 1 never looks at that. It rules out, for instance: w·w; 0 for a grid that is known.
-pub fn cells_of(p: Parameters) -> usize
-    ensures { (T (grid_known p) → result ≡ p.w * p.n) × (result ≤ 4096) }
-{
-    if grid_known(p) {
-        return p.w * p.n;
-    }
-    0
-}
-
-// The same of its corners (02, U5). It rules out, for instance: w·n in a basin; 0 for a grid that is known.
-pub fn corners_of(p: Parameters) -> usize
-    ensures { (T (grid_known p) → result ≡ corners (bare p)) × (result ≤ 4225) }
-{
-    if grid_known(p) {
-        return grid::corner_count(p.kind, p.w, p.n);
-    }
-    0
+    is_side(p.w) && is_side(p.n) && grid::boundary_of(p.kind).is_some()
 }
 
 // Test 1 of a grid. It rules out, for instance: 65 columns taken; 2 told for a grid unknown.
-pub fn then_grid(earlier: Answer, p: Parameters) -> Answer
-    ensures { result ≡ after earlier (grid_test p ∷ []) }
+pub fn test_grid(p: Parameters) -> Result<(), Refusal>
+    ensures { result ≡ answers (grid_test p ∷ []) }
 {
-    then_asks(earlier, grid_known(p), Refusal::Grid)
+    ask(grid_known(p), Refusal::Grid)
 }
 
 // Test 1 of a run's length. It rules out, for instance: 10,000 steps refused; 10,001 taken.
-pub fn then_run_length(earlier: Answer, steps: u64) -> Answer
-    ensures { result ≡ after earlier (run_length_test steps ∷ []) }
+pub fn test_run_length(steps: u64) -> Result<(), Refusal>
+    ensures { result ≡ answers (run_length_test steps ∷ []) }
 {
-    then_asks(earlier, steps <= 10000, Refusal::Grid)
+    ask(steps <= 10000, Refusal::Grid)
 }
 
 // ---- 2
 
-// Test 2 of a field that must have m numbers, and of a work space for m cells. They rule out, for instance: a field of one number more
-// taken; a work space of 8m numbers refused.
-pub fn then_length(earlier: Answer, m: usize, count: usize) -> Answer
-    ensures { result ≡ after earlier (length_test m count ∷ []) }
+// Test 2 of a field that must have m numbers, and of a work space for m cells, 8 numbers each. They rule out, for instance: a field of one
+// number more taken; a work space of 8m numbers refused.
+pub fn test_length(m: usize, count: usize) -> Result<(), Refusal>
+    ensures { result ≡ answers (length_test m count ∷ []) }
 {
-    then_asks(earlier, count == m, Refusal::Lengths)
+    ask(count == m, Refusal::Lengths)
 }
 
-pub fn then_work(earlier: Answer, m: usize, room: usize) -> Answer
+pub fn test_work(m: usize, room: usize) -> Result<(), Refusal>
     requires { m ≤ 4096 }
-    ensures { result ≡ after earlier (work_test m room ∷ []) }
+    ensures { result ≡ answers (work_test m room ∷ []) }
 {
-    then_asks(earlier, 8 * m <= room, Refusal::Lengths)
+    ask(8 * m <= room, Refusal::Lengths)
 }
 
 // Test 2 of a state's own fields. It rules out, for instance: v's length untested; b's for u's.
-pub fn then_lengths(
-    earlier: Answer,
-    m: usize,
-    h: &[i64],
-    b: &[i64],
-    u: &[i64],
-    v: &[i64],
-    barriers: &[u8],
-) -> Answer
-    ensures { result ≡ after earlier
-        (own_lengths h.now b.now u.now v.now
-        barriers.now m) }
+pub fn test_lengths(s: &Lent, m: usize) -> Result<(), Refusal>
+    ensures { result ≡ answers (own_lengths s.now.h.now s.now.b.now s.now.u.now s.now.v.now s.now.barriers.now m) }
 {
-    let depth = then_length(earlier, m, h.len());
-    let bottom = then_length(depth, m, b.len());
-    let west = then_length(bottom, m, u.len());
-    let south = then_length(west, m, v.len());
-    then_length(south, m, barriers.len())
+    test_length(m, s.h.len())?;
+    test_length(m, s.b.len())?;
+    test_length(m, s.u.len())?;
+    test_length(m, s.v.len())?;
+    test_length(m, s.barriers.len())
 }
 
 // ---- 3
 
 // Whether G, c and R are within their bounds.
+#[tactic(auto, unfolding(model::specs::Refusals::constants_within, model::specs::Numbers::gravity_limits, model::specs::Numbers::coriolis_limits, model::specs::Numbers::ratio_limits))]
 fn constants_within(p: Parameters) -> bool
     ensures { result ≡ constants_within p }
 {
@@ -294,217 +247,178 @@ fn constants_within(p: Parameters) -> bool
         least: 1000,
         most: 1000000,
     };
-    if !integers::within(p.g, gravity) {
-        return false;
-    }
-    if !integers::within(p.c, coriolis) {
-        return false;
-    }
-    integers::within(p.r, ratio)
+    gravity.contains(p.g) && coriolis.contains(p.c) && ratio.contains(p.r)
 }
 
 // Test 3. It rules out, for instance: c untested; an upper bound excluded.
-pub fn then_constants(earlier: Answer, p: Parameters) -> Answer
-    ensures { result ≡ after earlier (constants_test p ∷ []) }
+pub fn test_constants(p: Parameters) -> Result<(), Refusal>
+    ensures { result ≡ answers (constants_test p ∷ []) }
 {
-    then_asks(earlier, constants_within(p), Refusal::Constants)
+    ask(constants_within(p), Refusal::Constants)
 }
 
 // ---- 9
 
 // Milliseconds above 999. It rules out, for instance: 1,000 taken; 65,536 taken for 0.
-pub fn then_time(earlier: Answer, timestamp: Timestamp) -> Answer
-    ensures { result ≡ after earlier (time_test timestamp ∷ []) }
+pub fn test_time(timestamp: Timestamp) -> Result<(), Refusal>
+    ensures { result ≡ answers (time_test timestamp ∷ []) }
 {
-    then_asks(
-        earlier,
-        timestamp.milliseconds <= 999,
-        Refusal::Milliseconds,
-    )
+    ask(timestamp.milliseconds <= 999, Refusal::Milliseconds)
 }
 
-// ---- 4 and 5
+// ---- 4 and 5: tests that seek
 
-// Test 4 of all numbers of one field, by these limits. It rules out, for instance: the last cell outside told; other limits.
-fn then_within(earlier: Answer, f: &[i64], field: Field, limits: Range) -> Answer
-    ensures { let l = f.now in
-        result ≡ after earlier
+// Test 4 of all numbers of one field, by these limits. It rules out, for instance: the last cell outside told; a value outside told as a closed
+// edge; a cell told of another field. (A field's name goes beside its numbers, here and in the tests below: a struct of the two would be made anew
+// at each call.)
+pub fn test_within<N: Numbers>(f: &N, field: Field, limits: Range) -> Result<(), Refusal>
+    ensures { let l = N.numbers f.now in
+        result ≡ answers
         (value_test Value (record { field = field; count = length l; limits = between limits; numbers = l })
         ∷ []) }
 {
-    let Answer::Accepted = earlier else {
-        return earlier;
-    };
-    value_answer(first_outside(f, limits), field)
+    // what is found is the error: `ok_or` makes one of None alone, and `map_or(Ok(()), ..)` is no plainer
+    match first_outside(f, limits) {
+        Some(cell) => Err(Refusal::Value { field, cell }),
+        None => Ok(()),
+    }
 }
 
 // Test 4 of one field, by 01's limits. It rules out, for instance: the inflow's limits for q; the lowest cell left out.
-pub fn then_field(earlier: Answer, p: Parameters, f: &[i64], field: Field) -> Answer
-    requires { earlier ≡ Accepted → length f.now ≡ count_of (bare p) field }
-    ensures { result ≡ after earlier (value_test Value (taken (bare p) field f.now) ∷ []) }
+pub fn test_field<N: Numbers>(p: Parameters, f: &N, field: Field) -> Result<(), Refusal>
+    requires { length (N.numbers f.now) ≡ count_of (bare p) field }
+    ensures { result ≡ answers (value_test Value (taken (bare p) field (N.numbers f.now)) ∷ []) }
 {
-    then_within(earlier, f, field, limits(field))
+    test_within(f, field, row_of(field).limits)
 }
 
-// The same by 02's narrow limits. It rules out, for instance: 01's limits; the narrow ones of another field.
-pub fn then_narrow(earlier: Answer, p: Parameters, f: &[i64], field: Field) -> Answer
-    requires { earlier ≡ Accepted → length f.now ≡ count_of (bare p) field }
-    ensures { result ≡ after earlier (value_test Value (narrowed (bare p) field f.now) ∷ []) }
+// The same by 02's narrow limits. (Two tests of the model, each of them one call.) It rules out, for instance: 01's limits; the narrow ones of
+// another field.
+pub fn test_narrow(p: Parameters, f: &[i64], field: Field) -> Result<(), Refusal>
+    requires { length f.now ≡ count_of (bare p) field }
+    ensures { result ≡ answers (value_test Value (narrowed (bare p) field f.now) ∷ []) }
 {
-    then_within(earlier, f, field, narrow_limits(field))
+    test_within(&f, field, row_of(field).narrow)
 }
 
 // Test 4 of the barriers. It rules out, for instance: 4 taken for a barrier; the last cell outside told.
-pub fn then_barriers(earlier: Answer, barriers: &[u8]) -> Answer
-    ensures { result ≡ after earlier (barriers_test barriers.now (length barriers.now) ∷ []) }
+pub fn test_barriers(barriers: &[u8]) -> Result<(), Refusal>
+    ensures { result ≡ answers (barriers_test barriers.now (length barriers.now) ∷ []) }
 {
-    let Answer::Accepted = earlier else {
-        return earlier;
-    };
     // nearly always so, and fast: the scan is for the first one that is outside
     if grid::highest(barriers) <= 3 {
-        return value_answer(Found::Nowhere, Field::Barriers);
+        return Ok(());
     }
-    let found = first_byte_outside(barriers, limits(Field::Barriers));
-    value_answer(found, Field::Barriers)
+    test_within(
+        &Bytes { bytes: barriers },
+        Field::Barriers,
+        row_of(Field::Barriers).limits,
+    )
 }
 
 // Test 4 of a state's own fields, in 01's order, with the barriers last. It rules out, for instance: b before h; v untested; the barriers
 // before v.
-pub fn then_fields(
-    earlier: Answer,
-    p: Parameters,
-    h: &[i64],
-    b: &[i64],
-    u: &[i64],
-    v: &[i64],
-    barriers: &[u8],
-) -> Answer
-    requires { earlier ≡ Accepted → FieldsLong (lent p h b u v barriers) }
-    ensures { result ≡ after earlier (value_tests Value (fields_of (before p h b u v barriers))) }
+pub fn test_fields(s: &Lent) -> Result<(), Refusal>
+    requires { FieldsLong (lent_state s.now) }
+    ensures { result ≡ answers (value_tests Value (fields_of (lent_state s.now))) }
 {
-    let depth = then_field(earlier, p, h, Field::Depth);
-    let bottom = then_field(depth, p, b, Field::Bottom);
-    let west = then_field(bottom, p, u, Field::VelocityU);
-    let south = then_field(west, p, v, Field::VelocityV);
-    then_barriers(south, barriers)
+    test_field(s.p, &s.h, Field::Depth)?;
+    test_field(s.p, &s.b, Field::Bottom)?;
+    test_field(s.p, &s.u, Field::VelocityU)?;
+    test_field(s.p, &s.v, Field::VelocityV)?;
+    test_barriers(s.barriers)
 }
 
-// Test 5 of one field of velocities.
-fn then_still(
-    earlier: Answer,
+// Test 5 of one field of velocities. It rules out, for instance: a closed edge told as a value outside; a clean field refused.
+pub fn test_still<N: Numbers>(
     p: Parameters,
-    f: &[i64],
+    f: &N,
     barriers: &[u8],
     field: Field,
     edge: Edge,
-) -> Answer
-    requires { earlier ≡ Accepted → (length f.now ≡ p.w * p.n) × (length barriers.now ≡ p.w * p.n) }
-    ensures { result ≡ after earlier (still_test p barriers.now edge field f.now ∷ []) }
+) -> Result<(), Refusal>
+    requires { length (N.numbers f.now) ≡ p.w * p.n }
+    ensures { result ≡ answers (still_test p barriers.now edge field (N.numbers f.now) ∷ []) }
 {
-    let Answer::Accepted = earlier else {
-        return earlier;
-    };
-    edge_answer(first_moving(p, f, barriers, edge), field)
+    // as in `test_within`
+    match first_moving(p, f, barriers, edge) {
+        Some(cell) => Err(Refusal::ClosedEdge { field, cell }),
+        None => Ok(()),
+    }
 }
 
 // Test 5: u before v. It rules out, for instance: v's closed edges told before u's; the south wall untested; the barriers left out.
-pub fn then_edges(earlier: Answer, p: Parameters, u: &[i64], v: &[i64], barriers: &[u8]) -> Answer
-    requires { earlier ≡ Accepted
-        → (length u.now ≡ p.w * p.n) × (length v.now ≡ p.w * p.n)
-        × (length barriers.now ≡ p.w * p.n) }
+pub fn test_edges<N: Numbers>(p: Parameters, u: &N, v: &N, barriers: &[u8]) -> Result<(), Refusal>
+    requires { (length (N.numbers u.now) ≡ p.w * p.n) × (length (N.numbers v.now) ≡ p.w * p.n) }
     ensures { (h b : List ℤ)
-        → result ≡ after earlier (edge_tests (state_of p h b u.now v.now barriers.now)) }
+        → result ≡ answers (edge_tests (state_of p h b (N.numbers u.now) (N.numbers v.now) barriers.now)) }
 {
-    let west = then_still(earlier, p, u, barriers, Field::VelocityU, Edge::West);
-    then_still(west, p, v, barriers, Field::VelocityV, Edge::South)
+    test_still(p, u, barriers, Field::VelocityU, Edge::West)?;
+    test_still(p, v, barriers, Field::VelocityV, Edge::South)
 }
 
 // ---- 8
 
 // Test 8 of a destination for m numbers. It rules out, for instance: one that is just long enough refused; 2 told.
-pub fn then_room(earlier: Answer, m: usize, room: usize) -> Answer
-    ensures { result ≡ after earlier (room_test m room ∷ []) }
+pub fn test_room(m: usize, room: usize) -> Result<(), Refusal>
+    ensures { result ≡ answers (room_test m room ∷ []) }
 {
-    then_asks(earlier, m <= room, Refusal::Destination)
+    ask(m <= room, Refusal::Destination)
 }
 
-// Test 8 of three destinations for m numbers each, by their lengths. It rules out, for instance: the third
-// untested; one untested where another has room.
-pub fn then_rooms(earlier: Answer, m: usize, dh: usize, du: usize, dv: usize) -> Answer
-    ensures { result ≡ after earlier (room_tests m (dh ∷ du ∷ dv ∷ [])) }
+// Test 8 of three destinations for m numbers each, by their lengths. (C lends them one by one, and so they go on.) It rules out, for instance: the
+// third untested; one untested where another has room.
+pub fn test_rooms(m: usize, dh: usize, du: usize, dv: usize) -> Result<(), Refusal>
+    ensures { result ≡ answers (room_tests m (dh ∷ du ∷ dv ∷ [])) }
 {
-    let first = then_room(earlier, m, dh);
-    let second = then_room(first, m, du);
-    then_room(second, m, dv)
+    test_room(m, dh)?;
+    test_room(m, du)?;
+    test_room(m, dv)
 }
 
 // ---- 10
 
 // The index of a probed cell among m cells. It rules out, for instance: the cell m taken; the last cell refused.
-pub fn then_cell(earlier: Answer, m: usize, cell: usize) -> Answer
-    ensures { result ≡ after earlier (cell_test m cell ∷ []) }
+pub fn test_cell(m: usize, cell: usize) -> Result<(), Refusal>
+    ensures { result ≡ answers (cell_test m cell ∷ []) }
 {
-    then_asks(earlier, cell < m, Refusal::NoSuchCell)
+    ask(cell < m, Refusal::NoSuchCell)
 }
 
 // ---- a state alone, and with a potential vorticity
 
 // Tests 1, 2 and 3 of a state: its grid, the lengths of its fields and its constants. It rules out, for instance: 3 told before 2; a
 // field's length left out.
-pub fn test_outline(
-    p: Parameters,
-    h: &[i64],
-    b: &[i64],
-    u: &[i64],
-    v: &[i64],
-    barriers: &[u8],
-) -> Answer
-    ensures { result ≡ answer_of (first_found (outline_tests (before p h b u v barriers))) }
+pub fn test_outline(s: &Lent) -> Result<(), Refusal>
+    ensures { result ≡ answers (outline_tests (lent_state s.now)) }
 {
-    let m = cells_of(p);
-    let grid = then_grid(Answer::Accepted, p);
-    let lengths = then_lengths(grid, m, h, b, u, v, barriers);
-    then_constants(lengths, p)
+    test_grid(s.p)?;
+    test_lengths(s, s.p.w * s.p.n)?;
+    test_constants(s.p)
 }
 
 // Tests 1 to 5 of a state, and of nothing beside it. It rules out, for instance: 3 told before 2; the last cell outside instead of the
 // first.
-pub fn test_state(
-    p: Parameters,
-    h: &[i64],
-    b: &[i64],
-    u: &[i64],
-    v: &[i64],
-    barriers: &[u8],
-) -> Answer
-    ensures { result ≡ answer_of (first_found (state_tests (before p h b u v barriers) [] [] [])) }
+pub fn test_state(s: &Lent) -> Result<(), Refusal>
+    ensures { result ≡ answers (state_tests (lent_state s.now) [] [] []) }
 {
-    let outline = test_outline(p, h, b, u, v, barriers);
-    let values = then_fields(outline, p, h, b, u, v, barriers);
-    then_edges(values, p, u, v, barriers)
+    test_outline(s)?;
+    test_fields(s)?;
+    test_edges(s.p, &s.u, &s.v, s.barriers)
 }
 
 // The same of a state and of q, the potential vorticity lent, which has a number a corner. It rules out, for instance: q before the barriers;
 // a number a cell in a basin.
-pub fn test_vorticity(
-    p: Parameters,
-    h: &[i64],
-    b: &[i64],
-    u: &[i64],
-    v: &[i64],
-    barriers: &[u8],
-    q: &[i64],
-) -> Answer
-    ensures { let s = before p h b u v barriers in
-        result ≡ answer_of (first_found (state_tests s (taken s Vorticity q.now ∷ []) [] [])) }
+pub fn test_vorticity(s: &Lent, q: &[i64]) -> Result<(), Refusal>
+    ensures { let t = lent_state s.now in
+        result ≡ answers (state_tests t (taken t Vorticity q.now ∷ []) [] []) }
 {
-    let m = cells_of(p);
-    let grid = then_grid(Answer::Accepted, p);
-    let own = then_lengths(grid, m, h, b, u, v, barriers);
-    let lengths = then_length(own, corners_of(p), q.len());
-    let constants = then_constants(lengths, p);
-    let fields = then_fields(constants, p, h, b, u, v, barriers);
-    let corners = then_field(fields, p, q, Field::Vorticity);
-    then_edges(corners, p, u, v, barriers)
+    test_grid(s.p)?;
+    let cells = s.p.w * s.p.n;
+    test_lengths(s, cells)?;
+    test_length(grid::corner_count(s.p), q.len())?;
+    test_constants(s.p)?;
+    test_fields(s)?;
+    test_field(s.p, &q, Field::Vorticity)?;
+    test_edges(s.p, &s.u, &s.v, s.barriers)
 }

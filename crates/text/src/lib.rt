@@ -1,110 +1,112 @@
-// Text into a lent slice of bytes: a function puts its text at a place, as far as there is room, and answers the place after it.
-#![tactic(auto)]
+// Text into a lent slice of bytes, as far as there is room: a sink is the slice and the place of the next byte, and each function says
+// what it has put. There is no `Display` and no `write!` here: that promises its text where it answers `Ok`, and no contract promises that
+// it does, while each line printed here is promised.
+#![tactic(auto, using(crate::specs::Sink::putting, crate::specs::Numerals::numerals))]
 
-ghost use Rattle.std.specs.Prelude.{◌≡◌, [], ◌∷◌, ◌++◌, ◌<◌, ◌≤◌, length};
+ghost use Rattle.std.specs.Prelude.{◌≡◌, [], ◌∷◌, ◌++◌, ◌<◌, length, pos};
 ghost use Rattle.model.specs.Grid.{tabulate};
-ghost use Rattle.model.specs.Program.{decimal, line, lines, cell_line, refused_line, total_line, Printed};
-ghost use Rattle.text.specs.Sink.{sink, puts};
-ghost use Rattle.text.specs.Numerals.{digits, sign};
+ghost use Rattle.model.specs.Program.{decimal, line, lines, cell_line, refused_line, total_line};
+ghost use Rattle.text.specs.Sink.{puts, front};
 
-// ---- bytes and numbers
+use itoa::{Buffer, Integer};
 
-// A byte.
-fn put(out: &mut [u8], at: usize, byte: u8) -> usize
-    ensures { sink result out.new ≡ puts (byte ∷ []) (sink at out.old) }
-{
-    if at < out.len() {
-        out[at] = byte;
-        return at + 1;
+// A lent slice of bytes, and the place where the next byte goes.
+#[derive(Drop)]
+pub struct Sink<'a> {
+    pub out: &'a mut [u8],
+    pub at: usize,
+}
+
+impl<'a> Sink<'a> {
+    // From the front. It rules out, for instance: a first place left free; a slice without room.
+    pub fn new(out: &'a mut [u8]) -> Sink<'a>
+        ensures { result ≡ front out.entry }
+    {
+        Sink { out, at: 0 }
     }
-    at
-}
 
-// All bytes of a text.
-fn put_text(out: &mut [u8], at: usize, text: &[u8]) -> usize
-    ensures { sink result out.new ≡ puts text.now (sink at out.old) }
-{
-    let mut after = at;
-    for k in 0..text.len() {
-        after = put(out, after, text[k]);
+    // How many bytes are put. It rules out, for instance: the length of the slice; a byte counted that had no room.
+    pub fn count(&self) -> usize
+        ensures { result ≡ self.now.at }
+    {
+        self.at
     }
-    after
-}
 
-fn put_sign(out: &mut [u8], at: usize, x: i64) -> usize
-    ensures { sink result out.new ≡ puts (sign x) (sink at out.old) }
-{
-    if x < 0 { put(out, at, b'-') } else { at }
-}
-
-fn put_digits(out: &mut [u8], at: usize, x: u64) -> usize
-    ensures { sink result out.new ≡ puts (digits x) (sink at out.old) }
-{
-    let mut text = [0u8; 20];
-    let count = io::decimal(x, &mut text);
-    put_text(out, at, &text[..count])
-}
-
-// A number, and a byte that ends it.
-fn put_word(out: &mut [u8], at: usize, x: i64, end: u8) -> usize
-    ensures { sink result out.new ≡ puts (decimal x ++ (end ∷ [])) (sink at out.old) }
-{
-    let signed = put_sign(out, at, x);
-    let after = put_digits(out, signed, integers::magnitude(x));
-    put(out, after, end)
-}
-
-// ---- lines
-
-// A cell: i, j, h, u and v.
-fn put_cell(out: &mut [u8], at: usize, i: i64, j: i64, h: i64, u: i64, v: i64) -> usize
-    ensures { sink result out.new ≡ puts
-        (line (decimal i ∷ decimal j ∷ decimal h ∷ decimal u ∷ decimal v ∷ [])) (sink at out.old) }
-{
-    let column = put_word(out, at, i, b' ');
-    let row = put_word(out, column, j, b' ');
-    let depth = put_word(out, row, h, b' ');
-    let velocity = put_word(out, depth, u, b' ');
-    put_word(out, velocity, v, b'\n')
-}
-
-// The cells of a grid of w columns, by rising index. It rules out, for instance: a row told before its column; a line without its end.
-pub fn put_cells(out: &mut [u8], at: usize, w: usize, h: &[i64], u: &[i64], v: &[i64]) -> usize
-    requires { (0 < w)
-        × (length h.now ≤ 4096)
-        × (length u.now ≡ length h.now)
-        × (length v.now ≡ length h.now) }
-    ensures { let f = cell_line w h.now u.now v.now in
-        sink result out.new ≡ puts (lines (tabulate (length h.now) f))
-        (sink at out.old) }
-{
-    let mut after = at;
-    for k in 0..h.len() {
-        after = put_cell(out, after, (k % w) as i64, (k / w) as i64, h[k], u[k], v[k]);
+    // A byte, where there is room. It rules out, for instance: a byte counted twice; one put past the room.
+    fn put(&mut self, byte: u8)
+        ensures { self.new ≡ puts (byte ∷ []) self.old }
+    {
+        if self.at < self.out.len() {
+            self.out[self.at] = byte;
+            self.at += 1;
+        }
     }
-    after
-}
 
-// A word and a number, at the front.
-fn put_named(out: &mut [u8], name: &[u8], x: i64) -> usize
-    ensures { sink result out.new ≡ puts (line (name.now ∷ decimal x ∷ []))
-        (sink 0 out.old) }
-{
-    let named = put_text(out, 0, name);
-    let spaced = put(out, named, b' ');
-    put_word(out, spaced, x, b'\n')
-}
+    // All bytes of a text.
+    fn put_text(&mut self, text: &[u8])
+        ensures { self.new ≡ puts text.now self.old }
+    {
+        for &byte in text {
+            self.put(byte);
+        }
+    }
 
-// The line of a total, at the front. It rules out, for instance: another word; a sign lost.
-pub fn put_total(out: &mut [u8], x: i64) -> usize
-    ensures { sink result out.new ≡ puts (total_line x) (sink 0 out.old) }
-{
-    put_named(out, b"total", x)
-}
+    // A number, and a byte that ends it.
+    fn put_word<I: Integer>(&mut self, x: I, end: u8)
+        ensures { self.new ≡ puts (I.text x ++ (end ∷ [])) self.old }
+    {
+        self.put_text(Buffer::new().format(x).as_bytes());
+        self.put(end);
+    }
 
-// The line of a refusal, which is all that is printed then. It rules out, for instance: a byte past the room; a number beside it.
-pub fn put_refused(out: &mut [u8], number: u8) -> usize
-    ensures { Printed (refused_line number) out.old result out.new }
-{
-    put_named(out, b"refused", number as i64)
+    // A cell: i, j, h, u and v.
+    fn put_cell(&mut self, i: usize, j: usize, h: i64, u: i64, v: i64)
+        ensures { self.new ≡ puts
+            (line (decimal (pos i) ∷ decimal (pos j) ∷ decimal h ∷ decimal u ∷ decimal v ∷ [])) self.old }
+    {
+        self.put_word(i, b' ');
+        self.put_word(j, b' ');
+        self.put_word(h, b' ');
+        self.put_word(u, b' ');
+        self.put_word(v, b'\n');
+    }
+
+    // The cells of a grid of w columns, by rising index. It rules out, for instance: a row told before its column; a line without its end.
+    // It takes three slices and not the state, of which its contract would then name the bottom and the barriers, which do not enter.
+    pub fn put_cells(&mut self, w: usize, h: &[i64], u: &[i64], v: &[i64])
+        requires { (0 < w)
+            × (length u.now ≡ length h.now)
+            × (length v.now ≡ length h.now) }
+        ensures { let f = cell_line w h.now u.now v.now in
+            self.new ≡ puts (lines (tabulate (length h.now) f)) self.old }
+    {
+        for (k, ((&h, &u), &v)) in h.iter().zip(u).zip(v).enumerate() {
+            self.put_cell(k % w, k / w, h, u, v);
+        }
+    }
+
+    // A word and a number.
+    fn put_named<I: Integer>(&mut self, name: &[u8], x: I)
+        ensures { self.new ≡ puts (line (name.now ∷ I.text x ∷ [])) self.old }
+    {
+        self.put_text(name);
+        self.put(b' ');
+        self.put_word(x, b'\n');
+    }
+
+    // The two lines that have a name. They share `put_named`; each promises its own line of the model, and takes a number of its own type.
+
+    // The line of a total. It rules out, for instance: another word; a sign lost.
+    pub fn put_total(&mut self, x: i64)
+        ensures { self.new ≡ puts (total_line x) self.old }
+    {
+        self.put_named(b"total", x);
+    }
+
+    // The line of a refusal. It rules out, for instance: a byte past the room; a number beside it. (It takes a number, since 6 has no `Refusal`.)
+    pub fn put_refused(&mut self, number: u8)
+        ensures { self.new ≡ puts (refused_line number) self.old }
+    {
+        self.put_named(b"refused", number);
+    }
 }

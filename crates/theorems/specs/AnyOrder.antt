@@ -1,7 +1,7 @@
 -- The reader takes any order: a record whose fields are put into another order is read as the same, or refused with the same. Assumes nothing.
 use Rattle.std.specs.Prelude.{◌≡◌, refl, Bool, true, false, cond, ◌||◌, List, [], ◌∷◌, ◌++◌, ℕ, eqb}
-use Rattle.std.proofs.Common.{sym, ap, ap₂, ◌∙◌, true≢false, append_assoc, eqb-true, ne_eqb}
-use Rattle.std.proofs.lemmas.Bool.{eqb-false}
+use Rattle.std.proofs.Common.{sym, ap, ap₂, ◌∙◌, append_assoc, eqb-true, ne_eqb}
+use Rattle.std.proofs.lemmas.Bool.{eqb-false, or_parts}
 use Rattle.model.specs.Record.{Part, joined, has, value_of, decode}
 use Rattle.model.specs.Claims.{WholeIn, Bytes, Reordered, empty, ahead, swap, chain, AnyOrderClaim}
 use Rattle.theorems.specs.Walks.{Fine, AllFine, whole-record}
@@ -12,6 +12,7 @@ use Rattle.theorems.specs.ReadAlike.{all_alike, read_alike, promise-alike}
 
 -- ---- fields that may stand in one order may stand in any
 
+-- the library's FinSet has it, in a file that nothing else may cite
 either_first : (x y z : Bool) → x || (y || z) ≡ y || (x || z)
 either_first true true z = refl
 either_first true false z = refl
@@ -33,12 +34,8 @@ record New (t : ℕ) (seen : List Part) (p : Part) : Type 0 where
 
 new-of : (t : ℕ) (seen : List Part) (p : Part) → has t (seen ++ (p ∷ [])) ≡ false → New t seen p
 new-of t seen p e =
-    let x = neither (has t seen) (eqb p.tag t || false) (sym (has_more t seen (p ∷ [])) ∙ e) in
-    record { before = x.0; apart = eqb-false p.tag t (neither (eqb p.tag t) false x.1).0 }
-  where
-    neither : (x y : Bool) → x || y ≡ false → (x ≡ false) × (y ≡ false)
-    neither true y e = absurd (true≢false e)
-    neither false y e = (refl, e)
+    let x = or_parts (has t seen) (eqb p.tag t || false) (sym (has_more t seen (p ∷ [])) ∙ e) in
+    record { before = x.0; apart = eqb-false p.tag t (or_parts (eqb p.tag t) false x.1).0 }
 
 new-after : (t : ℕ) (seen : List Part) (p : Part) → New t seen p → has t (seen ++ (p ∷ [])) ≡ false
 new-after t seen p n = has_more t seen (p ∷ []) ∙ ap₂ (λ x y. x || (y || false)) n.before (ne_eqb p.tag t n.apart)

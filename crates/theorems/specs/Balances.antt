@@ -1,7 +1,7 @@
 -- Any list of step and run calls keeps the limits, and total depth balances over it. Assumes nothing.
 use Rattle.std.specs.Prelude.{◌≡◌, refl, List, ◌∷◌, ℕ, suc, ℤ, pos, ◌+ℤ◌, ◌*ℤ◌, length}
 use Rattle.std.proofs.Common.{sym, ap, subst, ◌∙◌}
-use Rattle.std.proofs.Math.Option.{Option, none, some}
+use Rattle.std.specs.Prelude.{Option, None, Some}
 use Rattle.std.proofs.Math.IntN.{+ℤ_assoc, +ℤ_comm, +ℤ_idr, zero-*ℤ, suc_ℤ-*ℤ}
 use Rattle.model.specs.Numbers.{total}
 use Rattle.model.specs.State.{State, cells, WithinLimits}
@@ -11,8 +11,8 @@ use Rattle.model.specs.Histories.{Call, step, run, inflow_of, step_count, run_co
 use Rattle.model.specs.Promises.{total_test, total_answer, TotalDepthPromise}
 use Rattle.model.specs.Claims.{Steps, start, onward, raised, BalanceClaim, TotalsClaim, KeptClaim}
 use Rattle.model.specs.declared.Refusal.{Refusal}
-use Rattle.model.specs.declared.TotalAnswer.{TotalAnswer}
-use Rattle.model.specs.declared.TotalAnswer.TheVariants.{Total, Refused}
+use Rattle.std.specs.Prelude.{Ok, Err}
+use Rattle.model.specs.Answers.{TotalAnswer}
 use Rattle.theorems.specs.Truth.{some≢}
 use Rattle.theorems.specs.Limits.{total-taken, step-taken, run-taken}
 use Rattle.theorems.specs.Runs.{run-told}
@@ -46,15 +46,15 @@ step_by : (s : State) (inflow : List ℤ) → WithinLimits s → (length inflow 
 step_by s inflow l e (moved t) h = steps-linked inflow 1 s t e l (onward h start)
 step_by s inflow l e (stuck p x) h = stays s inflow l
 
-step-tested : (s : State) (inflow : List ℤ) → WithinLimits s → (x : Option Refusal) → (x ≡ none → length inflow ≡ cells s)
+step-tested : (s : State) (inflow : List ℤ) → WithinLimits s → (x : Option Refusal) → (x ≡ None → length inflow ≡ cells s)
     → Linked s (step_state_by x s (two_pass s inflow)) (step_count (step_answer_by x (two_pass s inflow))) inflow
-step-tested s inflow l none e = step_by s inflow l (e refl) (two_pass s inflow) refl
-step-tested s inflow l (some r) e = stays s inflow l
+step-tested s inflow l None e = step_by s inflow l (e refl) (two_pass s inflow) refl
+step-tested s inflow l (Some r) e = stays s inflow l
 
-run-tested : (s : State) (inflow : List ℤ) → WithinLimits s → (x : Option Refusal) → (x ≡ none → length inflow ≡ cells s) → (r : Ran)
+run-tested : (s : State) (inflow : List ℤ) → WithinLimits s → (x : Option Refusal) → (x ≡ None → length inflow ≡ cells s) → (r : Ran)
     → Steps inflow (run_count (run_by x s r).answer) s (run_by x s r).state → Linked s (run_by x s r).state (run_count (run_by x s r).answer) inflow
-run-tested s inflow l none e r h = steps-linked inflow (run_count r.answer) s r.state (e refl) l h
-run-tested s inflow l (some x) e r h = stays s inflow l
+run-tested s inflow l None e r h = steps-linked inflow (run_count r.answer) s r.state (e refl) l h
+run-tested s inflow l (Some x) e r h = stays s inflow l
 
 call-linked : (s : State) → WithinLimits s → (c : Call) → Linked s (state_after s c) (steps_done s c) (inflow_of c)
 unfolding step_state step_answer step_test run_of run_test
@@ -67,13 +67,13 @@ call-linked s l (run inflow m work) =
 abbrev Refuses : State → Type 0
 Refuses s = WithinLimits s → ⊥
 
-step-refused : (s : State) (o : Outcome) (x : Option Refusal) → (x ≡ none → ⊥) → step_state_by x s o ≡ s
-step-refused s o none n = absurd (n refl)
-step-refused s o (some r) n = refl
+step-refused : (s : State) (o : Outcome) (x : Option Refusal) → (x ≡ None → ⊥) → step_state_by x s o ≡ s
+step-refused s o None n = absurd (n refl)
+step-refused s o (Some r) n = refl
 
-run-refused : (s : State) (r : Ran) (x : Option Refusal) → (x ≡ none → ⊥) → (run_by x s r).state ≡ s
-run-refused s r none n = absurd (n refl)
-run-refused s r (some x) n = refl
+run-refused : (s : State) (r : Ran) (x : Option Refusal) → (x ≡ None → ⊥) → (run_by x s r).state ≡ s
+run-refused s r None n = absurd (n refl)
+run-refused s r (Some x) n = refl
 
 call-refused : (s : State) → Refuses s → (c : Call) → state_after s c ≡ s
 unfolding step_state step_test run_of run_test
@@ -125,14 +125,14 @@ totals = record {
 by-test : (s t : State) (calls : List Call) (before after : TotalAnswer) → History s calls t → TotalDepthPromise s before → TotalDepthPromise t after
     → (x : Option Refusal) → total_test s ≡ x → after ≡ raised (inflow_due s calls) before
 unfolding total_test total_depth
-by-test s t calls before after h p q none e =
+by-test s t calls before after h p q None e =
     let l = (total-taken s).0 e in
     let b = balanced s calls t l h in
-    totals.depth t after b.inside q ∙ ap Total b.balance ∙ ap (raised (inflow_due s calls)) (sym (totals.depth s before l p))
-by-test s t calls before after h p q (some r) e =
+    totals.depth t after b.inside q ∙ ap Ok b.balance ∙ ap (raised (inflow_due s calls)) (sym (totals.depth s before l p))
+by-test s t calls before after h p q (Some r) e =
     let n : Refuses s = λ l. some≢ (sym e ∙ (total-taken s).1 l) in
-    let here : before ≡ Refused r = p.answers ∙ ap (λ x. total_answer x (total_depth s)) e in
-    let there : after ≡ Refused r = q.answers ∙ ap (λ (x : State). total_answer (total_test x) (total_depth x)) (unmoved s calls t n h) ∙ ap (λ x. total_answer x (total_depth s)) e in
+    let here : before ≡ Err r = p.answers ∙ ap (λ x. total_answer x (total_depth s)) e in
+    let there : after ≡ Err r = q.answers ∙ ap (λ (x : State). total_answer (total_test x) (total_depth x)) (unmoved s calls t n h) ∙ ap (λ x. total_answer x (total_depth s)) e in
     there ∙ ap (raised (inflow_due s calls)) (sym here)
 
 pub balance : BalanceClaim

@@ -1,8 +1,8 @@
 -- Each call on a state is refused exactly where a cause holds in the list of its tests. A call answers by cases on what its tests find; so
--- an answer `Refused r` says that they found r, and `finds` says where they do. Assumes nothing.
+-- an answer `Err r` says that they found r, and `finds` says where they do. Assumes nothing.
 use Rattle.std.specs.Prelude.{◌≡◌, refl, ◌↔◌, Bool, true, false, List, [], ◌∷◌, ℕ, zero, suc, ℤ, length, Float}
 use Rattle.std.proofs.Common.{sym, ap, ◌∙◌}
-use Rattle.std.proofs.Math.Option.{Option, none, some}
+use Rattle.std.specs.Prelude.{Option, None, Some}
 use Rattle.model.specs.State.{State}
 use Rattle.model.specs.Answers.{told_answer, told_probe, told_probe_grid, told_write, told_total, told_step, told_run}
 use Rattle.model.specs.Step.{place, Outcome, moved, stuck, Ran, run_on, two_pass, step_tests, step_test, after_step, step_answer_by, step_state_by, step_answer, step_state, run_from, run_tests, run_test, run_by, run_of, work_left}
@@ -13,46 +13,44 @@ use Rattle.model.specs.Promises.{answer_of, Filling, filled_by, Fills, vorticity
 use Rattle.model.specs.Claims.{held, CausesClaim}
 use Rattle.model.specs.declared.Field.{Field}
 use Rattle.model.specs.declared.Refusal.{Refusal}
-use Rattle.model.specs.declared.Answer.TheVariants as Answer
-use Rattle.model.specs.declared.ProbeAnswer.TheVariants as ProbeAnswer
-use Rattle.model.specs.declared.ProbeGridAnswer.TheVariants as ProbeGridAnswer
-use Rattle.model.specs.declared.WriteAnswer.TheVariants as WriteAnswer
-use Rattle.model.specs.declared.TotalAnswer.TheVariants as TotalAnswer
-use Rattle.model.specs.declared.StepAnswer.{StepAnswer}
-use Rattle.model.specs.declared.RunAnswer.TheVariants as RunAnswer
+use Rattle.std.specs.Prelude.{Ok, Err}
+use Rattle.model.specs.declared.ProbeAnswer.{ProbeAnswer}
+use Rattle.model.specs.Answers.{StepAnswer, breach}
+use Rattle.model.specs.declared.StepError.{StepError}
+use Rattle.model.specs.declared.RunError.{RunError}
 use Rattle.theorems.specs.Truth.{◌⟫◌, differ, some≢}
 use Rattle.theorems.specs.TestLaws.{finds}
 use Rattle.theorems.specs.Limits.{step-taken}
 
 -- ---- from an answer back to what the tests found
 
-answer-some : (o : Option Refusal) (r : Refusal) → Answer.Refused r ≡ answer_of o → o ≡ some r
-answer-some none r e = differ (cc e)
-answer-some (some x) r e = let h : x ≡ r = cc e in ap some h
+answer-some : (o : Option Refusal) (r : Refusal) → Err r ≡ answer_of o → o ≡ Some r
+answer-some None r e = differ (cc e)
+answer-some (Some x) r e = let h : x ≡ r = cc e in ap Some h
 
 probe-iff : (o : Option Refusal) (exact : Bool) (a b c : Float) (r : Refusal)
-    → (ProbeAnswer.Refused r ≡ probe_answer o exact a b c) ↔ (o ≡ some r)
-probe-iff none true a b c r = (λ e. differ (cc e), λ e. some≢ (sym e))
-probe-iff none false a b c r = (λ e. differ (cc e), λ e. some≢ (sym e))
-probe-iff (some x) exact a b c r = (λ e. let h : x ≡ r = cc e in ap some h, λ e. let h : x ≡ r = cc e in ap ProbeAnswer.Refused (sym h))
+    → (ProbeAnswer.Refused r ≡ probe_answer o exact a b c) ↔ (o ≡ Some r)
+probe-iff None true a b c r = (λ e. differ (cc e), λ e. some≢ (sym e))
+probe-iff None false a b c r = (λ e. differ (cc e), λ e. some≢ (sym e))
+probe-iff (Some x) exact a b c r = (λ e. let h : x ≡ r = cc e in ap Some h, λ e. let h : x ≡ r = cc e in ap ProbeAnswer.Refused (sym h))
 
-probe-grid-some : (o : Option Refusal) (exact : Bool) (r : Refusal) → ProbeGridAnswer.Refused r ≡ probe_grid_answer exact o → o ≡ some r
-probe-grid-some none true r e = differ (cc e)
-probe-grid-some none false r e = differ (cc e)
-probe-grid-some (some x) exact r e = let h : x ≡ r = cc e in ap some h
+probe-grid-some : (o : Option Refusal) (exact : Bool) (r : Refusal) → Err r ≡ probe_grid_answer exact o → o ≡ Some r
+probe-grid-some None true r e = differ (cc e)
+probe-grid-some None false r e = differ (cc e)
+probe-grid-some (Some x) exact r e = let h : x ≡ r = cc e in ap Some h
 
-write-some : (m : ℕ) (o : Option Refusal) (r : Refusal) → WriteAnswer.Refused r ≡ write_answer m o → o ≡ some r
-write-some m none r e = differ (cc e)
-write-some m (some x) r e = let h : x ≡ r = cc e in ap some h
+write-some : (m : ℕ) (o : Option Refusal) (r : Refusal) → Err r ≡ write_answer m o → o ≡ Some r
+write-some m None r e = differ (cc e)
+write-some m (Some x) r e = let h : x ≡ r = cc e in ap Some h
 
-total-some : (o : Option Refusal) (x : ℤ) (r : Refusal) → TotalAnswer.Refused r ≡ total_answer o x → o ≡ some r
-total-some none x r e = differ (cc e)
-total-some (some y) x r e = let h : y ≡ r = cc e in ap some h
+total-some : (o : Option Refusal) (x : ℤ) (r : Refusal) → Err r ≡ total_answer o x → o ≡ Some r
+total-some None x r e = differ (cc e)
+total-some (Some y) x r e = let h : y ≡ r = cc e in ap Some h
 
-step-some : (o : Option Refusal) (x : Outcome) (r : Refusal) → StepAnswer.Refused r ≡ step_answer_by o x → o ≡ some r
-step-some none (moved t) r e = differ (cc e)
-step-some none (stuck p t) r e = differ (cc e)
-step-some (some y) x r e = let h : y ≡ r = cc e in ap some h
+step-some : (o : Option Refusal) (x : Outcome) (r : Refusal) → Err (StepError.Refused r) ≡ step_answer_by o x → o ≡ Some r
+step-some None (moved t) r e = differ (cc e)
+step-some None (stuck p t) r e = differ (cc e)
+step-some (Some y) x r e = let h : y ≡ r = cc e in ap Some h
 
 -- ---- a step: with nothing wrong it answers by what the two passes come to
 
@@ -70,44 +68,42 @@ step_is s s' inflow work work' a o x e f p q w =
       clears = w ∙ ap (λ z. work_left z s work) e';
     }
 
-by-6 : (o : Option Refusal) (x : Outcome) (p k : ℕ) (f : Field) → StepAnswer.OutOfBounds p f k ≡ step_answer_by o x → (o ≡ none) × (x ≡ stuck p (place f k))
-by-6 none (moved t) p k f e = differ (cc e)
-by-6 none (stuck q y) p k f e =
-    let a : q ≡ p = cc e in
-    let b : y.field ≡ f = cc e in
-    let c : y.cell ≡ k = cc e in
-    (refl, λ i. stuck (a i) (place (b i) (c i)))
-by-6 (some r) x p k f e = differ (cc e)
+by-6 : (o : Option Refusal) (x : Outcome) (p k : ℕ) (f : Field) → Err (StepError.OutOfBounds (breach p f k)) ≡ step_answer_by o x → (o ≡ None) × (x ≡ stuck p (place f k))
+by-6 None (moved t) p k f e = differ (cc e)
+by-6 None (stuck q y) p k f e =
+    let h : breach q y.field y.cell ≡ breach p f k = cc e in
+    (refl, ap (λ x. stuck x.pass (place x.field x.cell)) h)
+by-6 (Some r) x p k f e = differ (cc e)
 
-by-done : (o : Option Refusal) (s s' : State) (x : Outcome) → StepAnswer.Done ≡ step_answer_by o x → s' ≡ step_state_by o s x → (o ≡ none) × (x ≡ moved s')
-by-done none s s' (moved t) e q = (refl, ap moved (sym q))
-by-done none s s' (stuck p y) e q = differ (cc e)
-by-done (some r) s s' x e q = differ (cc e)
+by-done : (o : Option Refusal) (s s' : State) (x : Outcome) → Ok tt ≡ step_answer_by o x → s' ≡ step_state_by o s x → (o ≡ None) × (x ≡ moved s')
+by-done None s s' (moved t) e q = (refl, ap moved (sym q))
+by-done None s s' (stuck p y) e q = differ (cc e)
+by-done (Some r) s s' x e q = differ (cc e)
 
 -- ---- a run: once its tests have passed, it is never refused with 1 to 5, however many steps it takes
 
-run-some : (o : Option Refusal) (s : State) (x : Ran) (r : Refusal) → ((z : Refusal) → x.answer ≡ RunAnswer.Refused z → ⊥) → RunAnswer.Refused r ≡ (run_by o s x).answer → o ≡ some r
-run-some none s x r n e = absurd (n r (sym e))
-run-some (some y) s x r n e = let h : y ≡ r = cc e in ap some h
+run-some : (o : Option Refusal) (s : State) (x : Ran) (r : Refusal) → ((z : Refusal) → x.answer ≡ Err (RunError.Refused z) → ⊥) → Err (RunError.Refused r) ≡ (run_by o s x).answer → o ≡ Some r
+run-some None s x r n e = absurd (n r (sym e))
+run-some (Some y) s x r n e = let h : y ≡ r = cc e in ap Some h
 
-onward : (more : State → Ran) (done : ℕ) (s : State) (z : Refusal) → ((t : State) → (more t).answer ≡ RunAnswer.Refused z → ⊥) → (o : Outcome) → (run_on more done s o).answer ≡ RunAnswer.Refused z → ⊥
+onward : (more : State → Ran) (done : ℕ) (s : State) (z : Refusal) → ((t : State) → (more t).answer ≡ Err (RunError.Refused z) → ⊥) → (o : Outcome) → (run_on more done s o).answer ≡ Err (RunError.Refused z) → ⊥
 onward more done s z n (moved t) e = n t e
 onward more done s z n (stuck p x) e = differ (cc e)
 
-never : (m done : ℕ) (s : State) (inflow : List ℤ) (z : Refusal) → (run_from m done s inflow).answer ≡ RunAnswer.Refused z → ⊥
+never : (m done : ℕ) (s : State) (inflow : List ℤ) (z : Refusal) → (run_from m done s inflow).answer ≡ Err (RunError.Refused z) → ⊥
 unfolding run_from
 never zero done s inflow z e = differ (cc e)
 never (suc m) done s inflow z e = onward (λ t. run_from m (suc done) t inflow) done s z (λ t. never m (suc done) t inflow z) (two_pass s inflow) e
 
 -- ---- calls that fill: a refused one leaves what each destination held
 
-pub kept : {A : Type 0} (r : Refusal) (m : ℕ) (ds : List (Filling A)) → filled_by (some r) m ds ≡ held ds
+pub kept : {A : Type 0} (r : Refusal) (m : ℕ) (ds : List (Filling A)) → filled_by (Some r) m ds ≡ held ds
 kept r m [] = refl
 kept r m (d ∷ ds) = ap (λ l. d.old ∷ l) (kept r m ds)
 
 fill-iff : {B A : Type 0} (by : Option Refusal → B) (tell : B → List ℤ) (test : Option Refusal) (m : ℕ) (ds : List (Filling A)) (ds' : List (List A)) (r : Refusal)
-    → (by (some r) ≡ by test → test ≡ some r)
-    → Fills by tell test m ds (by (some r)) ds' ↔ ((test ≡ some r) × (ds' ≡ held ds))
+    → (by (Some r) ≡ by test → test ≡ Some r)
+    → Fills by tell test m ds (by (Some r)) ds' ↔ ((test ≡ Some r) × (ds' ≡ held ds))
 fill-iff by tell test m ds ds' r back = (
   λ p. let e = back p.answers in (e, p.fills ∙ ap (λ o. filled_by o m ds) e ∙ kept r m ds),
   λ c.
@@ -152,7 +148,7 @@ causes = record {
   step = λ s s' inflow work work' r.
       let i = finds (step_tests s inflow (length work)) r in (
         λ p. let e = step-some (step_test s inflow (length work)) (two_pass s inflow) r p.answers in (i.0 e, p.steps ∙ ap (λ o. step_state_by o s (two_pass s inflow)) e, p.clears ∙ ap (λ o. work_left o s work) e),
-        λ c. step_is s s' inflow work work' (StepAnswer.Refused r) (some r) (two_pass s inflow) (i.1 c.0) refl refl c.1 c.2,
+        λ c. step_is s s' inflow work work' (Err (StepError.Refused r)) (Some r) (two_pass s inflow) (i.1 c.0) refl refl c.1 c.2,
       );
   run = λ s s' inflow m work work' r.
       let i = finds (run_tests s inflow m (length work)) r in
@@ -168,13 +164,13 @@ causes = record {
         λ q.
             let b = by-6 (step_test s inflow (length work)) (two_pass s inflow) p k f q.answers in
             (i.0 b.0, b.1, q.steps ∙ ap (λ o. step_state_by o s (two_pass s inflow)) b.0 ∙ ap (after_step s) b.1, q.clears ∙ ap (λ o. work_left o s work) b.0),
-        λ c. step_is s s' inflow work work' (StepAnswer.OutOfBounds p f k) none (stuck p (place f k)) (i.1 c.0) c.1 refl c.2 c.3,
+        λ c. step_is s s' inflow work work' (Err (StepError.OutOfBounds (breach p f k))) None (stuck p (place f k)) (i.1 c.0) c.1 refl c.2 c.3,
       );
   step-done = λ s s' inflow work work'.
       let i = step-taken s inflow (length work) in (
         λ q.
             let b = by-done (step_test s inflow (length work)) s s' (two_pass s inflow) q.answers q.steps in
             (i.0 b.0, b.1, q.clears ∙ ap (λ o. work_left o s work) b.0),
-        λ c. step_is s s' inflow work work' StepAnswer.Done none (moved s') (i.1 c.0) c.1 refl refl c.2,
+        λ c. step_is s s' inflow work work' (Ok tt) None (moved s') (i.1 c.0) c.1 refl refl c.2,
       );
 }

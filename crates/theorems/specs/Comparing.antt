@@ -8,8 +8,10 @@ use Rattle.model.specs.Record.{newer, Decoded, accepted, refused, decode, same_s
 use Rattle.model.specs.Claims.{CompareClaim, BothAre, Later, swapped}
 use Rattle.model.specs.declared.Timestamp.{Timestamp}
 use Rattle.model.specs.declared.Refusal.{Refusal}
-use Rattle.model.specs.declared.CompareAnswer.{CompareAnswer}
-use Rattle.model.specs.declared.CompareAnswer.TheVariants.{Same, FirstNewer, SecondNewer, Conflict, FirstRefused, SecondRefused}
+use Rattle.std.specs.Prelude.{Ok, Err}
+use Rattle.model.specs.Answers.{CompareAnswer}
+use Rattle.model.specs.declared.Comparison.TheVariants.{Same, FirstNewer, SecondNewer, Conflict}
+use Rattle.model.specs.declared.CompareError.TheVariants.{First, Second}
 use Rattle.theorems.specs.Truth.{◌⟫◌, and-iff, T_true, same_by_lem, by-same, differ}
 use Rattle.theorems.specs.Timestamps.{newer-iff, not_itself, neither, never, not-newer}
 
@@ -81,15 +83,15 @@ same-state s t h =
 -- ---- same
 
 abbrev pick : Bool → Bool → Bool → CompareAnswer
-pick p q r = cond p FirstNewer (cond q SecondNewer (cond r Same Conflict))
+pick p q r = cond p (Ok FirstNewer) (cond q (Ok SecondNewer) (cond r (Ok Same) (Ok Conflict)))
 
-picked_same : (p q r : Bool) → pick p q r ≡ Same → (p ≡ false) × (q ≡ false) × (r ≡ true)
+picked_same : (p q r : Bool) → pick p q r ≡ (Ok Same) → (p ≡ false) × (q ≡ false) × (r ≡ true)
 picked_same true q r h = differ (cc h)
 picked_same false true r h = differ (cc h)
 picked_same false false true h = (refl, refl, refl)
 picked_same false false false h = differ (cc h)
 
-same-means : (s t : State) (a b : Timestamp) → compared s a t b ≡ Same → (s ≡ t) × (a ≡ b)
+same-means : (s t : State) (a b : Timestamp) → compared s a t b ≡ (Ok Same) → (s ≡ t) × (a ≡ b)
 unfolding compared
 same-means s t a b h =
     let p = picked_same (newer a b) (newer b a) (same_state s t) h in (
@@ -97,12 +99,12 @@ same-means s t a b h =
       neither a b (λ l. subst T p.0 ((newer-iff a b).1 l)) (λ l. subst T p.1 ((newer-iff b a).1 l)),
     )
 
-same-there : (s : State) (a : Timestamp) → compared s a s a ≡ Same
+same-there : (s : State) (a : Timestamp) → compared s a s a ≡ Ok Same
 unfolding compared
 same-there s a = ap₂ (λ p r. pick p p r) (not-newer a) (T_true (same_state s s) (same_self s))
 
 -- by what is found in the two records
-both_by : (first second : List ℕ) (x y : Decoded) → decode first [] ≡ x → decode second [] ≡ y → compare_by x y ≡ Same → BothAre first second
+both_by : (first second : List ℕ) (x y : Decoded) → decode first [] ≡ x → decode second [] ≡ y → compare_by x y ≡ (Ok Same) → BothAre first second
 both_by first second (accepted s a) (accepted t b) p q h =
     let e = same-means s t a b h in
     record { state = s; timestamp = a; in-first = p; in-second = q ∙ ap₂ accepted (sym e.0) (sym e.1) }
@@ -134,26 +136,26 @@ by-decoded first second s t x y p q = rw (p, q)
 -- ---- newer, conflict
 
 -- three tests, of which the first two exclude each other
-picked_first : (p q r : Bool) → (pick p q r ≡ FirstNewer) ↔ T p
+picked_first : (p q r : Bool) → (pick p q r ≡ Ok FirstNewer) ↔ T p
 picked_first true q r = (λ h. tt, λ t. refl)
 picked_first false true r = (λ h. differ (cc h), λ t. absurd t)
 picked_first false false true = (λ h. differ (cc h), λ t. absurd t)
 picked_first false false false = (λ h. differ (cc h), λ t. absurd t)
 
-picked-second : (p q r : Bool) → (T p → T q → ⊥) → (pick p q r ≡ SecondNewer) ↔ T q
+picked-second : (p q r : Bool) → (T p → T q → ⊥) → (pick p q r ≡ Ok SecondNewer) ↔ T q
 picked-second true q r n = (λ h. differ (cc h), λ t. absurd (n tt t))
 picked-second false true r n = (λ h. tt, λ t. refl)
 picked-second false false true n = (λ h. differ (cc h), λ t. absurd t)
 picked-second false false false n = (λ h. differ (cc h), λ t. absurd t)
 
-picked-conflict : (p q r : Bool) → (pick p q r ≡ Conflict) ↔ ((T p → ⊥) × (T q → ⊥) × (T r → ⊥))
+picked-conflict : (p q r : Bool) → (pick p q r ≡ Ok Conflict) ↔ ((T p → ⊥) × (T q → ⊥) × (T r → ⊥))
 picked-conflict true q r = (λ h. differ (cc h), λ x. absurd (x.0 tt))
 picked-conflict false true r = (λ h. differ (cc h), λ x. absurd (x.1 tt))
 picked-conflict false false true = (λ h. differ (cc h), λ x. absurd (x.2 tt))
 picked-conflict false false false = (λ h. (λ t. t, λ t. t, λ t. t), λ x. refl)
 
 compared-tells : (s t : State) (a b : Timestamp)
-    → ((compared s a t b ≡ FirstNewer) ↔ Later a b) × ((compared s a t b ≡ SecondNewer) ↔ Later b a) × ((compared s a t b ≡ Conflict) ↔ ((a ≡ b) × (s ≡ t → ⊥)))
+    → ((compared s a t b ≡ Ok FirstNewer) ↔ Later a b) × ((compared s a t b ≡ Ok SecondNewer) ↔ Later b a) × ((compared s a t b ≡ Ok Conflict) ↔ ((a ≡ b) × (s ≡ t → ⊥)))
 unfolding compared
 compared-tells s t a b =
     let p = newer-iff a b in
@@ -172,19 +174,19 @@ compared-tells s t a b =
 accepted≢ : {A : Type 0} {s : State} {t : Timestamp} {r : Refusal} → accepted s t ≡ refused r → A
 accepted≢ h = differ (cc h)
 
-compared-not : (p q r : Bool) (x : Refusal) → (pick p q r ≡ FirstRefused x → ⊥) × (pick p q r ≡ SecondRefused x → ⊥)
+compared-not : (p q r : Bool) (x : Refusal) → (pick p q r ≡ (Err (First x)) → ⊥) × (pick p q r ≡ (Err (Second x)) → ⊥)
 compared-not true q r x = (λ h. differ (cc h), λ h. differ (cc h))
 compared-not false true r x = (λ h. differ (cc h), λ h. differ (cc h))
 compared-not false false true x = (λ h. differ (cc h), λ h. differ (cc h))
 compared-not false false false x = (λ h. differ (cc h), λ h. differ (cc h))
 
-first_by : (x y : Decoded) (r : Refusal) → (compare_by x y ≡ FirstRefused r) ↔ (x ≡ refused r)
+first_by : (x y : Decoded) (r : Refusal) → (compare_by x y ≡ Err (First r)) ↔ (x ≡ refused r)
 unfolding compared
 first_by (accepted s a) (accepted t b) r = (λ h. absurd ((compared-not (newer a b) (newer b a) (same_state s t) r).0 h), λ h. accepted≢ h)
 first_by (accepted s a) (refused q) r = (λ h. differ (cc h), λ h. accepted≢ h)
 first_by (refused q) y r = (λ h. cc h, λ h. cc h)
 
-second-by : (s : State) (a : Timestamp) (y : Decoded) (r : Refusal) → (compare_second s a y ≡ SecondRefused r) ↔ (y ≡ refused r)
+second-by : (s : State) (a : Timestamp) (y : Decoded) (r : Refusal) → (compare_second s a y ≡ Err (Second r)) ↔ (y ≡ refused r)
 unfolding compared
 second-by s a (accepted t b) r = (λ h. absurd ((compared-not (newer a b) (newer b a) (same_state s t) r).1 h), λ h. accepted≢ h)
 second-by s a (refused q) r = (λ h. cc h, λ h. cc h)

@@ -1,7 +1,7 @@
 -- A record is damaged exactly where its walk gets to a bad tag, or to the record's end with a tag missing. Assumes nothing.
 use Rattle.std.specs.Prelude.{◌≡◌, refl, ◌↔◌, Bool, true, false, List, [], ◌∷◌, ◌++◌, ℕ, zero, suc, ◌+◌, ◌≤◌, ◌<◌, leb, length}
 use Rattle.std.proofs.Common.{sym, ap, subst, ◌∙◌, inl, inr, ⊎_elim, zero-le, le_refl, arith, leb-true, leb-false}
-use Rattle.std.proofs.Math.Option.{some}
+use Rattle.std.specs.Prelude.{Some}
 use Rattle.std.proofs.lemmas.Bool.{lt-leb}
 use Rattle.model.specs.Record.{Part, size_at, part_at, tag_test, Walked, damaged, whole, unless, walk, walked}
 use Rattle.model.specs.Claims.{BadTag, Reaches, outset, past, Damaged, WholeIn}
@@ -16,7 +16,7 @@ abbrev Tells : List ℕ → Walked → Type 0
 Tells rec (damaged r) = Damaged rec r
 Tells rec (whole parts) = WholeIn rec parts
 
-walk-stop : (rec : List ℕ) (m k : ℕ) (parts : List Part) (r : Refusal) → leb (length rec) k ≡ false → tag_test rec k parts ≡ some r → walk rec (suc m) k parts ≡ damaged r
+walk-stop : (rec : List ℕ) (m k : ℕ) (parts : List Part) (r : Refusal) → leb (length rec) k ≡ false → tag_test rec k parts ≡ Some r → walk rec (suc m) k parts ≡ damaged r
 unfolding walk
 walk-stop rec m k parts r a b = rw (a, b)
 

@@ -1,25 +1,25 @@
 -- What an accepted potential vorticity or tendency call fills in, at every cell, and when it is accepted. Assumes nothing.
 use Rattle.std.specs.Prelude.{◌≡◌, refl, ◌↔◌, List, [], ◌∷◌, ℕ, ◌+◌, ◌*◌, ◌/◌, ◌%◌, ◌<◌, ℤ, pos, neg_ℤ, length, get_or, take, drop}
 use Rattle.std.proofs.Common.{sym, ap, ◌∙◌}
-use Rattle.std.proofs.Math.Option.{Option, none, some}
+use Rattle.std.specs.Prelude.{Option, None, Some}
 use Rattle.model.specs.Grid.{at, filled, by_cell}
 use Rattle.model.specs.State.{State, corner_columns, corner_rows, corners, WithinLimits}
 use Rattle.model.specs.Scheme.{D, tendency_u, tendency_v, h_tendencies, u_tendencies, v_tendencies, vorticity_at, vorticity}
 use Rattle.model.specs.Promises.{left_by, answer_of, vorticity_tests, vorticity_test, VorticityPromise, tendencies_test, TendenciesPromise}
 use Rattle.model.specs.Claims.{HoldsCorners, TendenciesAcceptedClaim, TendenciesClaim}
 use Rattle.model.specs.declared.Refusal.{Refusal}
-use Rattle.model.specs.declared.Answer.TheVariants as Answer
 use Rattle.theorems.specs.Truth.{◌⟫◌, differ}
 use Rattle.theorems.specs.TestLaws.{passes}
 use Rattle.theorems.specs.Limits.{accepted, tendencies-taken}
 use Rattle.grid.specs.Cells.{cell-lt, by_index}
 use Rattle.grid.specs.CellFields.{length-by_cell, any-by_cell, get_or-filled, take-filled, drop-filled}
+use Rattle.std.specs.Prelude.{Ok}
 
 -- ---- accepted is tested and passed
 
-pub done-iff : (o : Option Refusal) → (answer_of o ≡ Answer.Accepted) ↔ (o ≡ none)
-done-iff none = (λ h. refl, λ h. refl)
-done-iff (some r) = (λ h. differ (cc h), λ h. differ (cc h))
+pub done-iff : (o : Option Refusal) → (answer_of o ≡ Ok tt) ↔ (o ≡ None)
+done-iff None = (λ h. refl, λ h. refl)
+done-iff (Some r) = (λ h. differ (cc h), λ h. differ (cc h))
 
 pub tendencies-accepted : TendenciesAcceptedClaim
 tendencies-accepted s q dh du dv dh' du' dv' answer p =
@@ -39,10 +39,10 @@ pub record Left {A : Type 0} (w n : ℕ) (f : ℕ → ℕ → A) (d d' : List A)
 module _ {A : Type 0} (w n : ℕ) (f : ℕ → ℕ → A) (d d' : List A) where
   -- past w·n places nothing changes, refused or not
   pub left-rest : (o : Option Refusal) → d' ≡ left_by o (filled (w * n) (by_cell w n f) d) d → drop (w * n) d' ≡ drop (w * n) d
-  left-rest none h = ap (drop (w * n)) h ∙ drop-filled (w * n) (by_cell w n f) d (length-by_cell w n f)
-  left-rest (some r) h = ap (drop (w * n)) h
+  left-rest None h = ap (drop (w * n)) h ∙ drop-filled (w * n) (by_cell w n f) d (length-by_cell w n f)
+  left-rest (Some r) h = ap (drop (w * n)) h
 
-  pub left : (o : Option Refusal) → o ≡ none → d' ≡ left_by o (filled (w * n) (by_cell w n f) d) d → Left w n f d d'
+  pub left : (o : Option Refusal) → o ≡ None → d' ≡ left_by o (filled (w * n) (by_cell w n f) d) d → Left w n f d d'
   left o e h =
       let l = by_cell w n f in
       let z : d' ≡ filled (w * n) l d = h ∙ ap (λ o. left_by o (filled (w * n) l d) d) e in
@@ -63,7 +63,7 @@ pub record Tendencies (s : State) (q dh du dv dh' du' dv' : List ℤ) : Type 0 w
   pub u : Left s.w s.n (tendency_u s q) du du'
   pub v : Left s.w s.n (tendency_v s q) dv dv'
 
-pub tendencies-left : (s : State) (q dh du dv dh' du' dv' : List ℤ) → TendenciesPromise s q dh du dv Answer.Accepted dh' du' dv'
+pub tendencies-left : (s : State) (q dh du dv dh' du' dv' : List ℤ) → TendenciesPromise s q dh du dv (Ok tt) dh' du' dv'
     → Tendencies s q dh du dv dh' du' dv'
 unfolding h_tendencies u_tendencies v_tendencies
 tendencies-left s q dh du dv dh' du' dv' p =
@@ -87,7 +87,7 @@ pub record Vorticities (s : State) (d d' : List ℤ) : Type 0 where
   pub first : take (corners s) d' ≡ vorticity s
   pub rest : drop (corners s) d' ≡ drop (corners s) d
 
-pub vorticity-fill : (s : State) (d d' : List ℤ) → VorticityPromise s d Answer.Accepted d' → Vorticities s d d'
+pub vorticity-fill : (s : State) (d d' : List ℤ) → VorticityPromise s d (Ok tt) d' → Vorticities s d d'
 unfolding vorticity_test vorticity
 vorticity-fill s d d' p =
     let e = (done-iff (vorticity_test s (length d))).0 (sym p.answers) in

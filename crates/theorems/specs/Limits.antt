@@ -1,7 +1,7 @@
 -- Tests 1 to 5 pass exactly the states within the limits, with what else a call takes; test 9 the milliseconds up to 999. Assumes nothing.
 use Rattle.std.specs.Prelude.{◌≡◌, refl, ◌↔◌, Bool, true, false, not, ◌&&◌, List, [], ◌∷◌, ◌++◌, ℕ, ◌*◌, ◌+◌, ◌/◌, ◌%◌, ◌≤◌, ◌<◌, T, leb, ℤ, pos, negsuc, length, get_or}
 use Rattle.std.proofs.Common.{ap, subst, div-add-mod', mod-lt, div-lt_iff_lt-mul, mul_comm, eqb→eq, eq-eqb}
-use Rattle.std.proofs.Math.Option.{none}
+use Rattle.std.specs.Prelude.{None}
 use Rattle.std.proofs.Math.Arith.{digits_lt, digits_div, digits_mod}
 use Rattle.std.specs.Int.Signed.{le_z}
 use Rattle.model.specs.Numbers.{Limits, within, Within, eqℤ, gravity_limits, coriolis_limits, ratio_limits, longest_side, longest_run, most_milliseconds}
@@ -233,12 +233,12 @@ write-iff s t room =
 
 -- ---- each call's tests pass exactly what it takes
 
-pub total-taken : (s : State) → (total_test s ≡ none) ↔ WithinLimits s
+pub total-taken : (s : State) → (total_test s ≡ None) ↔ WithinLimits s
 unfolding total_test
 total-taken s = passes (total_tests s) ⟫ limits-tested s
 
 pub tendencies-taken : (s : State) (q : List ℤ) (h u v : ℕ)
-    → (tendencies_test s q h u v ≡ none) ↔ (ProbeTaken s q × (cells s ≤ h) × (cells s ≤ u) × (cells s ≤ v))
+    → (tendencies_test s q h u v ≡ None) ↔ (ProbeTaken s q × (cells s ≤ h) × (cells s ≤ u) × (cells s ≤ v))
 unfolding tendencies_test
 tendencies-taken s q h u v =
     let a = passes (tendencies_tests s q h u v) ⟫ call-iff s (taken s Vorticity q ∷ []) (cells s) (h ∷ u ∷ v ∷ []) in (
@@ -246,7 +246,7 @@ tendencies-taken s q h u v =
       λ b. a.1 (b.0.0, (b.0.1, tt), (b.1, (b.2, (b.3, tt)))),
     )
 
-pub probe-taken : (s : State) (q : List ℤ) (k : ℕ) → (probe_test s q k ≡ none) ↔ (ProbeTaken s q × (k < cells s))
+pub probe-taken : (s : State) (q : List ℤ) (k : ℕ) → (probe_test s q k ≡ None) ↔ (ProbeTaken s q × (k < cells s))
 unfolding probe_test
 probe-taken s q k =
     let a = accepted-iff s (taken s Vorticity q ∷ []) [] [] in
@@ -256,14 +256,14 @@ probe-taken s q k =
       λ b. p.1 (a.1 (b.0.0, (b.0.1, tt), tt, tt), (l.1 b.1, tt)),
     )
 
-pub step-taken : (s : State) (inflow : List ℤ) (room : ℕ) → (step_test s inflow room ≡ none) ↔ StepTaken s inflow room
+pub step-taken : (s : State) (inflow : List ℤ) (room : ℕ) → (step_test s inflow room ≡ None) ↔ StepTaken s inflow room
 unfolding step_test
 step-taken s inflow room =
     let a = passes (step_tests s inflow room) ⟫ accepted-iff s (taken s Inflow inflow ∷ []) [] (work_test (cells s) room ∷ []) in
     let k = le_iff (work_length s) room in
     (λ e. let b = a.0 e in (b.0, b.1.0, k.0 b.3.0), λ b. a.1 (b.0, (b.1, tt), tt, (k.1 b.2, tt)))
 
-pub run-taken : (s : State) (inflow : List ℤ) (m room : ℕ) → (run_test s inflow m room ≡ none) ↔ RunTaken s inflow m room
+pub run-taken : (s : State) (inflow : List ℤ) (m room : ℕ) → (run_test s inflow m room ≡ None) ↔ RunTaken s inflow m room
 unfolding run_test
 run-taken s inflow m room =
     let a = passes (run_tests s inflow m room) ⟫ accepted-iff s (taken s Inflow inflow ∷ []) (run_length_test m ∷ []) (work_test (cells s) room ∷ []) in

@@ -1,9 +1,8 @@
 -- The fields of a record, and one more after them. Assumes nothing.
 use Rattle.std.specs.Prelude.{◌≡◌, refl, Bool, true, false, cond, ◌||◌, List, [], ◌∷◌, ◌++◌, ℕ, eqb}
-use Rattle.std.proofs.Common.{sym, ap, subst, ◌∙◌, inl, inr, append_assoc, append-nil, eq-eqb, ne_eqb}
-use Rattle.std.proofs.Math.Bool.{or-false}
+use Rattle.std.proofs.Common.{sym, ap, subst, ◌∙◌, append_assoc, append-nil, eq-eqb, ne_eqb}
+use Rattle.std.proofs.Math.Bool.{or-false, or_assoc}
 use Rattle.model.specs.Record.{Part, has, value_of}
-use Rattle.model.specs.Claims.{Among}
 use Rattle.theorems.specs.Truth.{differ}
 use Rattle.theorems.specs.Walks.{Fine, AllFine}
 
@@ -11,19 +10,10 @@ use Rattle.theorems.specs.Walks.{Fine, AllFine}
 
 pub has_more : (t : ℕ) (a b : List Part) → has t (a ++ b) ≡ has t a || has t b
 has_more t [] b = refl
-has_more t (p ∷ a) b = ap (λ x. eqb p.tag t || x) (has_more t a b) ∙ grouped (eqb p.tag t) (has t a) (has t b)
-  where
-    grouped : (x y z : Bool) → x || (y || z) ≡ x || y || z
-    grouped true y z = refl
-    grouped false y z = refl
+has_more t (p ∷ a) b = ap (λ x. eqb p.tag t || x) (has_more t a b) ∙ sym (or_assoc (eqb p.tag t) (has t a) (has t b))
 
 pub has_one : (t : ℕ) (parts : List Part) (p : Part) → has t (parts ++ (p ∷ [])) ≡ (has t parts || eqb p.tag t)
 has_one t parts p = has_more t parts (p ∷ []) ∙ ap (λ x. has t parts || x) (or-false (eqb p.tag t))
-
-pub among-more : (t : ℕ) (parts : List Part) (p : Part) → Among t parts → Among t (parts ++ (p ∷ []))
-among-more t [] p m = elim m [ ]
-among-more t (q ∷ parts) p (inl e) = inl e
-among-more t (q ∷ parts) p (inr m) = inr (among-more t parts p m)
 
 -- ---- the value of a tag: the new field's, where no other has its tag; those of the other tags stay
 

@@ -15,7 +15,9 @@ use Rattle.model.specs.Claims.{OutputClaim}
 use Rattle.model.specs.declared.Timestamp.{Timestamp}
 use Rattle.model.specs.declared.Refusal.{Refusal}
 use Rattle.model.specs.declared.Refusal.TheVariants.{Grid, Lengths, Constants, Value, ClosedEdge, Record, Destination, Milliseconds, NoSuchCell}
-use Rattle.model.specs.declared.StepAnswer.{StepAnswer}
+use Rattle.std.specs.Prelude.{Ok, Err}
+use Rattle.model.specs.Answers.{StepAnswer}
+use Rattle.model.specs.declared.StepError.{StepError}
 use Rattle.integers.specs.Laws.{abs-add}
 use Rattle.integers.specs.Magnitudes.{depth-size, velocity-size}
 use Rattle.theorems.specs.Truth.{differ}
@@ -115,9 +117,9 @@ state-long s l p =
     subst (λ m. m ≤ 30737) (sym (length-append (total_line (total s.h)) (lines (tabulate (cells s) f)))) (omega arith)
 
 step-long : (a : StepAnswer) (s : State) → WithinLimits s → cells s ≤ program_cells → length (step_lines a s) ≤ 30737
-step-long StepAnswer.Done s l p = state-long s l p
-step-long (StepAnswer.Refused r) s l p = le_trans (refused-long (number r) (two_digits r)) (omega arith)
-step-long (StepAnswer.OutOfBounds p f k) s l q = le_trans (refused-long 6 (omega arith)) (omega arith)
+step-long (Ok x) s l p = state-long s l p
+step-long (Err (StepError.Refused r)) s l p = le_trans (refused-long (number r) (two_digits r)) (omega arith)
+step-long (Err (StepError.OutOfBounds x)) s l q = le_trans (refused-long 6 (omega arith)) (omega arith)
 
 stepped-long : (inflow : List ℤ) (room : ℕ) (x : Decoded) → ((s : State) (t : Timestamp) → x ≡ accepted s t → WithinLimits s × (cells s ≤ program_cells))
     → length (stepped_lines inflow room x) ≤ 30737

@@ -2,24 +2,25 @@
 -- near ones are close. What an answer is marked with is a Bool here, so that both are proved at once. Assumes nothing.
 use Rattle.std.specs.Prelude.{◌≡◌, refl, ◌↔◌, Bool, true, false, cond, List, ℕ, ◌/◌, ◌%◌, ◌<◌, T, ℤ, pos, neg_ℤ, length, get_or, Float}
 use Rattle.std.proofs.Common.{sym, ap, subst, ◌∙◌, zero-le, mod-lt, lit≤}
-use Rattle.std.proofs.Math.Option.{Option, none, some}
+use Rattle.std.specs.Prelude.{Option, None, Some}
 use Rattle.std.specs.Float.{nan}
 use Rattle.model.specs.Numbers.{Within, depth_limits, bottom_limits}
 use Rattle.model.specs.Numbers.{narrow_depth_limits, narrow_bottom_limits, narrow_velocity_limits, narrow_vorticity_limits}
 use Rattle.model.specs.State.{State, cells, corners, closed_west, closed_south}
+use Rattle.std.specs.Prelude.{Ok}
 use Rattle.model.specs.Answers.{told_probe}
 use Rattle.model.specs.Tests.{first_found}
 use Rattle.model.specs.Refusals.{narrowed, value_tests}
 use Rattle.model.specs.Scheme as Whole
 use Rattle.model.specs.Doubles as Double
 use Rattle.model.specs.Doubles.{IsWhole, IsNear, double, narrow, narrow_fields, is_none}
-use Rattle.model.specs.Promises.{tendencies_test, probe_test, probe_of, marked, probe_answer, ProbePromise, marked_grid, probe_grid_answer, ProbeGridPromise}
+use Rattle.model.specs.Promises.{tendencies_test, probe_test, probe_of, marked, probe_answer, ProbePromise, precision_of, probe_grid_answer, ProbeGridPromise}
 use Rattle.model.specs.Claims.{Narrow, ProbeTaken, ProbeClaim, DoublesRoom, ProbeGridClaim}
 use Rattle.model.specs.declared.Field.TheVariants.{Depth, Bottom, VelocityU, VelocityV, Vorticity}
 use Rattle.model.specs.declared.Refusal.{Refusal}
 use Rattle.model.specs.declared.Refusal.TheVariants.{Value}
 use Rattle.model.specs.declared.ProbeAnswer.{ProbeAnswer}
-use Rattle.model.specs.declared.ProbeGridAnswer.{ProbeGridAnswer}
+use Rattle.model.specs.Answers.{ProbeGridAnswer}
 use Rattle.integers.specs.Bounds.{abs-within, within-abs}
 use Rattle.integers.specs.Magnitudes.{depth-size, bottom-size, velocity-size, gravity-size, vorticity-size}
 use Rattle.grid.specs.CellFields.{row_lt}
@@ -40,9 +41,9 @@ record Inside (s : State) (q : List ℤ) : Type 0 where
   vs : (k : ℕ) → k < cells s → Within narrow_velocity_limits (get_or s.v k (pos 0))
   vorticities : (k : ℕ) → k < corners s → Within narrow_vorticity_limits (get_or q k (pos 0))
 
-none-iff : {R : Type 0} (o : Option R) → T (is_none o) ↔ (o ≡ none)
-none-iff none = (λ t. refl, λ e. tt)
-none-iff (some r) = (λ t. absurd t, λ e. some≢ e)
+none-iff : {R : Type 0} (o : Option R) → T (is_none o) ↔ (o ≡ None)
+none-iff None = (λ t. refl, λ e. tt)
+none-iff (Some r) = (λ t. absurd t, λ e. some≢ e)
 
 module _ (s : State) (q : List ℤ) where
   tested-inside : T (narrow s q) ↔ Inside s q
@@ -177,13 +178,13 @@ record Probed (m : Bool) (s : State) (q : List ℤ) (k : ℕ) (a b c : Float) : 
   v : c ≡ Double.tendency_v s q (k % s.w) (k / s.w)
 
 answered : (o : Option Refusal) (m n : Bool) (a b c x y z : Float) → marked m a b c ≡ probe_answer o n x y z
-    → (o ≡ none) × (n ≡ m) × (a ≡ x) × (b ≡ y) × (c ≡ z)
-answered none true true a b c x y z e = (refl, refl, cc e, cc e, cc e)
-answered none true false a b c x y z e = differ (cc e)
-answered none false true a b c x y z e = differ (cc e)
-answered none false false a b c x y z e = (refl, refl, cc e, cc e, cc e)
-answered (some r) true n a b c x y z e = differ (cc e)
-answered (some r) false n a b c x y z e = differ (cc e)
+    → (o ≡ None) × (n ≡ m) × (a ≡ x) × (b ≡ y) × (c ≡ z)
+answered None true true a b c x y z e = (refl, refl, cc e, cc e, cc e)
+answered None true false a b c x y z e = differ (cc e)
+answered None false true a b c x y z e = differ (cc e)
+answered None false false a b c x y z e = (refl, refl, cc e, cc e, cc e)
+answered (Some r) true n a b c x y z e = differ (cc e)
+answered (Some r) false n a b c x y z e = differ (cc e)
 
 probed-iff : (m : Bool) (s : State) (q : List ℤ) (k : ℕ) (a b c : Float) → ProbePromise s q k (marked m a b c) ↔ Probed m s q k a b c
 unfolding probe_of
@@ -247,20 +248,22 @@ record GridProbed (m : Bool) (s : State) (q : List ℤ) (dh du dv dh' du' dv' : 
   u : Left s.w s.n (Double.tendency_u s q) du du'
   v : Left s.w s.n (Double.tendency_v s q) dv dv'
 
-grid-answered : (o : Option Refusal) (m n : Bool) → (marked_grid m ≡ probe_grid_answer n o) ↔ ((o ≡ none) × (n ≡ m))
-grid-answered none true true = (λ e. (refl, refl), λ p. refl)
-grid-answered none true false = (λ e. differ (cc e), λ p. differ (cc p.1))
-grid-answered none false true = (λ e. differ (cc e), λ p. differ (cc p.1))
-grid-answered none false false = (λ e. (refl, refl), λ p. refl)
-grid-answered (some r) true n = (λ e. differ (cc e), λ p. some≢ p.0)
-grid-answered (some r) false n = (λ e. differ (cc e), λ p. some≢ p.0)
+same_mark : (m n : Bool) → precision_of m ≡ precision_of n → n ≡ m
+same_mark true true e = refl
+same_mark true false e = differ (cc e)
+same_mark false true e = differ (cc e)
+same_mark false false e = refl
+
+grid-answered : (o : Option Refusal) (m n : Bool) → (Ok (precision_of m) ≡ probe_grid_answer n o) ↔ ((o ≡ None) × (n ≡ m))
+grid-answered None m n = (λ e. (refl, same_mark m n (cc e)), λ p. ap (λ b. Ok (precision_of b)) (sym p.1))
+grid-answered (Some r) m n = (λ e. differ (cc e), λ p. some≢ p.0)
 
 module _ (m : Bool) (s : State) (q : List ℤ) (dh du dv dh' du' dv' : List Float) where
   abbrev test : Option Refusal
   test = tendencies_test s q (length dh) (length du) (length dv)
 
   grid-marked-iff : (answer : ProbeGridAnswer) → ProbeGridPromise s q dh du dv answer dh' du' dv'
-      → (answer ≡ marked_grid m) ↔ (ProbeTaken s q × DoublesRoom s dh du dv × Marks m s q)
+      → (answer ≡ Ok (precision_of m)) ↔ (ProbeTaken s q × DoublesRoom s dh du dv × Marks m s q)
   grid-marked-iff answer p =
       let i = grid-answered test m (narrow s q) in
       let t = tendencies-taken s q (length dh) (length du) (length dv) in (
@@ -271,7 +274,7 @@ module _ (m : Bool) (s : State) (q : List ℤ) (dh du dv dh' du' dv' : List Floa
         λ x. p.answers ∙ sym (i.1 (t.1 (x.0, x.1.0, x.1.1, x.1.2), (marks-iff m s q x.0).1 x.2)),
       )
 
-  grid-probed : ProbeGridPromise s q dh du dv (marked_grid m) dh' du' dv' → GridProbed m s q dh du dv dh' du' dv'
+  grid-probed : ProbeGridPromise s q dh du dv (Ok (precision_of m)) dh' du' dv' → GridProbed m s q dh du dv dh' du' dv'
   unfolding Double.h_doubles Double.u_doubles Double.v_doubles
   grid-probed p =
       let x = (grid-answered test m (narrow s q)).0 p.answers in
@@ -286,7 +289,7 @@ module _ (m : Bool) (s : State) (q : List ℤ) (dh du dv dh' du' dv' : List Floa
       }
 
   -- at each cell it fills in what the probe of that cell answers
-  grid-cell : (k : ℕ) → k < cells s → ProbeGridPromise s q dh du dv (marked_grid m) dh' du' dv'
+  grid-cell : (k : ℕ) → k < cells s → ProbeGridPromise s q dh du dv (Ok (precision_of m)) dh' du' dv'
       → ProbePromise s q k (marked m (get_or dh' k nan) (get_or du' k nan) (get_or dv' k nan))
   grid-cell k l p =
       let x = grid-probed p in

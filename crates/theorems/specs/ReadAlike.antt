@@ -13,7 +13,7 @@ use Rattle.model.specs.Promises.{read_answer, rooms_in, read_into, read_of, Read
 use Rattle.model.specs.Claims.{Among, Missing, WholeIn}
 use Rattle.model.specs.declared.Timestamp.{Timestamp}
 use Rattle.model.specs.declared.Refusal.TheVariants.{Lengths}
-use Rattle.model.specs.declared.ReadAnswer.{ReadAnswer}
+use Rattle.model.specs.Answers.{ReadAnswer}
 use Rattle.theorems.specs.Walks.{AllFine, walks}
 use Rattle.theorems.specs.TagLaws.{last_required, among-iff, none-missing}
 use Rattle.theorems.specs.Damage.{whole-iff}

@@ -2,7 +2,7 @@
 use Rattle.std.specs.Prelude.{◌≡◌, refl, ◌↔◌, ◌⊎◌, List, ℕ}
 use Rattle.std.proofs.Common.{sym, ap₂, subst₂, ◌∙◌, inl, inr, ⊎_elim}
 use Rattle.std.proofs.Math.Path.{ap, subst}
-use Rattle.std.proofs.Math.Option.{Option, none, some}
+use Rattle.std.specs.Prelude.{Option, None, Some}
 use Rattle.model.specs.State.{State, Fields, parameters_of}
 use Rattle.model.specs.Answers.{told_read}
 use Rattle.model.specs.Record.{Part, Walked, damaged, whole, walked, state_in, timestamp_in, record_tests, record_test, Decoded, accepted, refused, judged, read_by, decode}
@@ -11,7 +11,8 @@ use Rattle.model.specs.Claims.{ReadCause, Readable, ReadCausesClaim}
 use Rattle.model.specs.declared.Parameters.{Parameters}
 use Rattle.model.specs.declared.Timestamp.{Timestamp}
 use Rattle.model.specs.declared.Refusal.{Refusal}
-use Rattle.model.specs.declared.ReadAnswer.TheVariants.{Read, Refused}
+use Rattle.std.specs.Prelude.{Ok, Err}
+use Rattle.model.specs.Answers.{header}
 use Rattle.theorems.specs.Truth.{◌⟫◌, either, differ}
 use Rattle.theorems.specs.TestLaws.{finds}
 use Rattle.theorems.specs.RoundTrip.{Fit, fields-iff}
@@ -19,16 +20,16 @@ use Rattle.theorems.specs.Damage.{damaged-iff, whole-iff}
 
 -- ---- by what the walk found
 
-judged-some : (o : Option Refusal) (s : State) (t : Timestamp) (r : Refusal) → (judged o s t ≡ refused r) ↔ (o ≡ some r)
-judged-some none s t r = (λ e. differ (cc e), λ e. differ (cc e))
-judged-some (some x) s t r = (λ e. let h : x ≡ r = cc e in ap some h, λ e. let h : x ≡ r = cc e in ap refused h)
+judged-some : (o : Option Refusal) (s : State) (t : Timestamp) (r : Refusal) → (judged o s t ≡ refused r) ↔ (o ≡ Some r)
+judged-some None s t r = (λ e. differ (cc e), λ e. differ (cc e))
+judged-some (Some x) s t r = (λ e. let h : x ≡ r = cc e in ap Some h, λ e. let h : x ≡ r = cc e in ap refused h)
 
-judged-none : (o : Option Refusal) (s s' : State) (t t' : Timestamp) → (judged o s t ≡ accepted s' t') ↔ ((o ≡ none) × (s ≡ s') × (t ≡ t'))
-judged-none none s s' t t' = (λ e. (refl, cc e, cc e), λ p. ap₂ accepted p.1 p.2)
-judged-none (some x) s s' t t' = (λ e. differ (cc e), λ p. differ (cc p.0))
+judged-none : (o : Option Refusal) (s s' : State) (t t' : Timestamp) → (judged o s t ≡ accepted s' t') ↔ ((o ≡ None) × (s ≡ s') × (t ≡ t'))
+judged-none None s s' t t' = (λ e. (refl, cc e, cc e), λ p. ap₂ accepted p.1 p.2)
+judged-none (Some x) s s' t t' = (λ e. differ (cc e), λ p. differ (cc p.0))
 
 refused-by : (rooms : List ℕ) (w : Walked) (r : Refusal)
-    → (read_by rooms w ≡ refused r) ↔ ((w ≡ damaged r) ⊎ ((parts : List Part) × (w ≡ whole parts) × (record_test (state_in parts) (timestamp_in parts) parts rooms ≡ some r)))
+    → (read_by rooms w ≡ refused r) ↔ ((w ≡ damaged r) ⊎ ((parts : List Part) × (w ≡ whole parts) × (record_test (state_in parts) (timestamp_in parts) parts rooms ≡ Some r)))
 refused-by rooms (damaged x) r = (
   λ e. let h : x ≡ r = cc e in inl (ap damaged h),
   ⊎_elim (λ e. let h : x ≡ r = cc e in ap refused h) (λ p. differ (cc p.1)),
@@ -36,13 +37,13 @@ refused-by rooms (damaged x) r = (
 refused-by rooms (whole ps) r =
     let i = judged-some (record_test (state_in ps) (timestamp_in ps) ps rooms) (state_in ps) (timestamp_in ps) r in (
       λ e. inr (ps, refl, i.0 e),
-      ⊎_elim (λ e. differ (cc e)) (λ p. let h : p.0 ≡ ps = cc p.1 in i.1 (subst (λ x. record_test (state_in x) (timestamp_in x) x rooms ≡ some r) h p.2)),
+      ⊎_elim (λ e. differ (cc e)) (λ p. let h : p.0 ≡ ps = cc p.1 in i.1 (subst (λ x. record_test (state_in x) (timestamp_in x) x rooms ≡ Some r) h p.2)),
     )
 
 record Found (rooms : List ℕ) (w : Walked) (s : State) (t : Timestamp) : Type 0 where
   parts : List Part
   walks : w ≡ whole parts
-  passes : record_test (state_in parts) (timestamp_in parts) parts rooms ≡ none
+  passes : record_test (state_in parts) (timestamp_in parts) parts rooms ≡ None
   state : state_in parts ≡ s
   timestamp : timestamp_in parts ≡ t
 
@@ -94,7 +95,7 @@ accepts rec rooms s t =
 
 -- ---- the reader's promise
 
-answer-refused : (x : Decoded) (r : Refusal) → Refused r ≡ read_answer x → x ≡ refused r
+answer-refused : (x : Decoded) (r : Refusal) → Err r ≡ read_answer x → x ≡ refused r
 answer-refused (accepted s t) r e = differ (cc e)
 answer-refused (refused y) r e = let h : y ≡ r = cc e in ap refused h
 
@@ -103,8 +104,10 @@ record Holds (x : Decoded) (p : Parameters) (t : Timestamp) : Type 0 where
   is : x ≡ accepted state t
   parameters : p ≡ parameters_of state
 
-answer-read : (x : Decoded) (p : Parameters) (t : Timestamp) → Read p t ≡ read_answer x → Holds x p t
-answer-read (accepted s y) p t e = let h : y ≡ t = cc e in record { state = s; is = ap (accepted s) h; parameters = cc e }
+answer-read : (x : Decoded) (p : Parameters) (t : Timestamp) → Ok (header p t) ≡ read_answer x → Holds x p t
+answer-read (accepted s y) p t e =
+    let h : header p t ≡ header (parameters_of s) y = cc e in
+    record { state = s; is = ap (λ x. accepted s x.timestamp) (sym h); parameters = ap (λ x. x.parameters) h }
 answer-read (refused r) p t e = differ (cc e)
 
 module _ (rec : List ℕ) (d d' : Fields) where
@@ -112,7 +115,7 @@ module _ (rec : List ℕ) (d d' : Fields) where
   promised : (x : Decoded) → read_of rec d ≡ x → d' ≡ read_into x d → ReadPromise rec d (read_answer x) d'
   promised x e p = let a = ap read_answer (sym e) in record { answers = a; tells = ap told_read a; fills = p ∙ ap (λ x. read_into x d) (sym e) }
 
-  read-refuses : (r : Refusal) → ReadPromise rec d (Refused r) d' ↔ (ReadCause rec (rooms_in d) r × (d' ≡ d))
+  read-refuses : (r : Refusal) → ReadPromise rec d (Err r) d' ↔ (ReadCause rec (rooms_in d) r × (d' ≡ d))
   unfolding read_of
   read-refuses r =
       let i = refuses rec (rooms_in d) r in (
@@ -121,14 +124,14 @@ module _ (rec : List ℕ) (d d' : Fields) where
       )
 
   pub read-accepts : (p : Parameters) (t : Timestamp)
-      → ReadPromise rec d (Read p t) d' ↔ ((s : State) × Readable rec (rooms_in d) s t × (p ≡ parameters_of s) × (d' ≡ put s d))
+      → ReadPromise rec d (Ok (header p t)) d' ↔ ((s : State) × Readable rec (rooms_in d) s t × (p ≡ parameters_of s) × (d' ≡ put s d))
   unfolding read_of
   read-accepts p t =
       let i = accepts rec (rooms_in d) in (
         λ r.
             let f = answer-read (read_of rec d) p t r.answers in
             (f.state, (i f.state t).0 f.is, f.parameters, r.fills ∙ ap (λ x. read_into x d) f.is),
-        λ c. subst (λ q. ReadPromise rec d (Read q t) d') (sym c.2) (promised (accepted c.0 t) ((i c.0 t).1 c.1) c.3),
+        λ c. subst (λ q. ReadPromise rec d (Ok (header q t)) d') (sym c.2) (promised (accepted c.0 t) ((i c.0 t).1 c.1) c.3),
       )
 
 pub read-causes : ReadCausesClaim

@@ -1,7 +1,7 @@
 -- What a refused call leaves, and what every step and run leaves in its work space. Assumes nothing.
 use Rattle.std.specs.Prelude.{◌≡◌, refl, List, [], ◌∷◌, ◌++◌, ℤ, length}
 use Rattle.std.proofs.Common.{sym, subst, ◌∙◌, arith, lit≤}
-use Rattle.std.proofs.Math.Option.{Option, none, some}
+use Rattle.std.specs.Prelude.{Option, None, Some}
 use Prim.Native.Nat.{ℕ, zero, suc, ◌≤◌}
 use Rattle.model.specs.State.{State, Fields, cells}
 use Rattle.model.specs.Answers.{number}
@@ -15,9 +15,10 @@ use Rattle.model.specs.declared.Field.{Field}
 use Rattle.model.specs.declared.Field.TheVariants.{Inflow}
 use Rattle.model.specs.declared.Refusal.{Refusal}
 use Rattle.model.specs.declared.Refusal.TheVariants.{Grid, Lengths, Constants, Value, ClosedEdge, Record, Destination, Milliseconds, NoSuchCell}
-use Rattle.model.specs.declared.RunAnswer.{RunAnswer}
-use Rattle.model.specs.declared.StepAnswer.TheVariants as StepAnswer
-use Rattle.model.specs.declared.ReadAnswer.TheVariants as ReadAnswer
+use Rattle.std.specs.Prelude.{Ok, Err}
+use Rattle.model.specs.Answers.{RunAnswer, breach}
+use Rattle.model.specs.declared.StepError.{StepError}
+use Rattle.model.specs.declared.RunError.{RunError}
 use Rattle.theorems.specs.Truth.{differ}
 use Rattle.theorems.specs.TestLaws.{Only, EachOnly, only-append, found-only}
 use Rattle.theorems.specs.Causes.{kept}
@@ -25,27 +26,27 @@ use Rattle.theorems.specs.Causes.{kept}
 -- ---- destinations
 
 fill-refused : {B A : Type 0} → FillRefused B A
-fill-refused by tell none m ds a ds' n p = absurd (n p.answers)
-fill-refused by tell (some r) m ds a ds' n p = p.fills ∙ kept r m ds
+fill-refused by tell None m ds a ds' n p = absurd (n p.answers)
+fill-refused by tell (Some r) m ds a ds' n p = p.fills ∙ kept r m ds
 
-read-refused : {r : Refusal} (x : Decoded) (d : Fields) → ReadAnswer.Refused r ≡ read_answer x → read_into x d ≡ d
+read-refused : {r : Refusal} (x : Decoded) (d : Fields) → Err r ≡ read_answer x → read_into x d ≡ d
 read-refused (accepted s t) d h = differ (cc h)
 read-refused (refused r) d h = refl
 
 -- ---- states
 
-step-refused : {r : Refusal} (s : State) (o : Outcome) (x : Option Refusal) → StepAnswer.Refused r ≡ step_answer_by x o → step_state_by x s o ≡ s
-step-refused s (moved t) none h = differ (cc h)
-step-refused s (stuck p x) none h = refl
-step-refused s o (some y) h = refl
+step-refused : {r : Refusal} (s : State) (o : Outcome) (x : Option Refusal) → Err (StepError.Refused r) ≡ step_answer_by x o → step_state_by x s o ≡ s
+step-refused s (moved t) None h = differ (cc h)
+step-refused s (stuck p x) None h = refl
+step-refused s o (Some y) h = refl
 
-step-out : {p k : ℕ} {f : Field} (s : State) (o : Outcome) (x : Option Refusal) → StepAnswer.OutOfBounds p f k ≡ step_answer_by x o → step_state_by x s o ≡ s
-step-out s (moved t) none h = differ (cc h)
-step-out s (stuck p x) none h = refl
-step-out s o (some y) h = refl
+step-out : {p k : ℕ} {f : Field} (s : State) (o : Outcome) (x : Option Refusal) → Err (StepError.OutOfBounds (breach p f k)) ≡ step_answer_by x o → step_state_by x s o ≡ s
+step-out s (moved t) None h = differ (cc h)
+step-out s (stuck p x) None h = refl
+step-out s o (Some y) h = refl
 
 -- a run that passes its tests is finished or stopped
-module _ (Q : RunAnswer → Type 0) (finished : (k : ℕ) → Q (RunAnswer.Finished k)) (stopped : (k p : ℕ) (f : Field) (c : ℕ) → Q (RunAnswer.Stopped k p f c)) where
+module _ (Q : RunAnswer → Type 0) (finished : (k : ℕ) → Q (Ok k)) (stopped : (k p : ℕ) (f : Field) (c : ℕ) → Q (Err (RunError.Stopped k (breach p f c)))) where
   by-outcome : (more : State → Ran) → ((t : State) → Q (more t).answer) → (done : ℕ) (s : State) (o : Outcome) → Q (run_on more done s o).answer
   by-outcome more h done s (moved t) = h t
   by-outcome more h done s (stuck p x) = stopped done p x.field x.cell
@@ -55,9 +56,9 @@ module _ (Q : RunAnswer → Type 0) (finished : (k : ℕ) → Q (RunAnswer.Finis
   ran zero done s inflow = finished done
   ran (suc m) done s inflow = by-outcome (λ t. run_from m (suc done) t inflow) (λ t. ran m (suc done) t inflow) done s (two_pass s inflow)
 
-run-refused : {r : Refusal} (s : State) (x : Option Refusal) (q : Ran) → (RunAnswer.Refused r ≡ q.answer → ⊥) → RunAnswer.Refused r ≡ (run_by x s q).answer → (run_by x s q).state ≡ s
-run-refused s none q n h = absurd (n h)
-run-refused s (some y) q n h = refl
+run-refused : {r : Refusal} (s : State) (x : Option Refusal) (q : Ran) → (Err (RunError.Refused r) ≡ q.answer → ⊥) → Err (RunError.Refused r) ≡ (run_by x s q).answer → (run_by x s q).state ≡ s
+run-refused s None q n h = absurd (n h)
+run-refused s (Some y) q n h = refl
 
 pub refused-leaves : RefusedClaim
 unfolding step_state step_answer run_of
@@ -67,7 +68,7 @@ refused-leaves = record {
   write = fill-refused;
   step = λ s s' inflow work work' r p. p.steps ∙ step-refused s (two_pass s inflow) (step_test s inflow (length work)) p.answers;
   step-6 = λ s s' inflow work work' a k f p. p.steps ∙ step-out s (two_pass s inflow) (step_test s inflow (length work)) p.answers;
-  run = λ s s' inflow work work' m r p. p.steps ∙ run-refused s (run_test s inflow m (length work)) (run_from m 0 s inflow) (ran (λ a. RunAnswer.Refused r ≡ a → ⊥) (λ k h. differ (cc h)) (λ k p f c h. differ (cc h)) m 0 s inflow) p.answers;
+  run = λ s s' inflow work work' m r p. p.steps ∙ run-refused s (run_test s inflow m (length work)) (run_from m 0 s inflow) (ran (λ a. (Err (RunError.Refused r)) ≡ a → ⊥) (λ k h. differ (cc h)) (λ k p f c h. differ (cc h)) m 0 s inflow) p.answers;
   read = λ rec d d' r p. p.fills ∙ read-refused (read_of rec d) d p.answers;
 }
 
@@ -104,7 +105,7 @@ unfolding run_test
 run_only s inflow m room = found-only UpTo5 (run_tests s inflow m room) (state-only s (taken s Inflow inflow ∷ []) (run_length_test m ∷ []) (work_test (cells s) room ∷ []) (lit≤ tt, tt) (lit≤ tt, tt))
 
 -- what each of them leaves
-refused-work : (r : Refusal) (s : State) (work : List ℤ) → UpTo5 r → RefusedWork r s work (work_left (some r) s work)
+refused-work : (r : Refusal) (s : State) (work : List ℤ) → UpTo5 r → RefusedWork r s work (work_left (Some r) s work)
 unfolding work_left
 refused-work Grid s work h = (h, λ l. refl, λ l. absurd (omega arith))
 refused-work Lengths s work h = (h, λ l. refl, λ l. absurd (omega arith))
@@ -118,13 +119,13 @@ refused-work NoSuchCell s work h = absurd (omega arith)
 
 step-work : (s : State) (work : List ℤ) (x : Option Refusal) (o : Outcome) → Only UpTo5 x → StepWork (step_answer_by x o) s work (work_left x s work)
 unfolding work_left
-step-work s work none (moved t) h = refl
-step-work s work none (stuck p y) h = refl
-step-work s work (some r) o h = refused-work r s work h
+step-work s work None (moved t) h = refl
+step-work s work None (stuck p y) h = refl
+step-work s work (Some r) o h = refused-work r s work h
 
-run-work : (s : State) (work : List ℤ) (x : Option Refusal) (q : Ran) → Only UpTo5 x → RunWork q.answer s work (work_left none s work) → RunWork (run_by x s q).answer s work (work_left x s work)
-run-work s work none q h w = w
-run-work s work (some r) q h w = refused-work r s work h
+run-work : (s : State) (work : List ℤ) (x : Option Refusal) (q : Ran) → Only UpTo5 x → RunWork q.answer s work (work_left None s work) → RunWork (run_by x s q).answer s work (work_left x s work)
+run-work s work None q h w = w
+run-work s work (Some r) q h w = refused-work r s work h
 
 pub work-left : WorkClaim
 unfolding step_answer run_of work_left
@@ -135,5 +136,5 @@ work-left = record {
   run = λ s s' inflow work work' m answer p.
       subst (λ a. RunWork a s work work') (sym p.answers)
       (subst (λ l. RunWork (run_of s inflow m (length work)).answer s work l) (sym p.clears)
-      (run-work s work (run_test s inflow m (length work)) (run_from m 0 s inflow) (run_only s inflow m (length work)) (ran (λ a. RunWork a s work (work_left none s work)) (λ k. refl) (λ k p f c. refl) m 0 s inflow)));
+      (run-work s work (run_test s inflow m (length work)) (run_from m 0 s inflow) (run_only s inflow m (length work)) (ran (λ a. RunWork a s work (work_left None s work)) (λ k. refl) (λ k p f c. refl) m 0 s inflow)));
 }

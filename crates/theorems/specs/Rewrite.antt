@@ -11,8 +11,8 @@ use Rattle.model.specs.Promises.{WritePromise, rooms_in, ReadPromise}
 use Rattle.model.specs.Claims.{Among, WholeIn, EachRoom, BytesOf, Readable, ReadClaim, RewriteClaim, zero_field, RestoredClaim}
 use Rattle.model.specs.declared.Parameters.{Parameters}
 use Rattle.model.specs.declared.Timestamp.{Timestamp}
-use Rattle.model.specs.declared.ReadAnswer.TheVariants as Answer
-use Rattle.model.specs.declared.WriteAnswer.TheVariants.{Written}
+use Rattle.std.specs.Prelude.{Ok}
+use Rattle.model.specs.Answers.{header}
 use Rattle.theorems.specs.Truth.{T_true}
 use Rattle.theorems.specs.NumbersAsBytes.{AllBytes}
 use Rattle.theorems.specs.Walks.{Whole, whole-record}
@@ -30,7 +30,7 @@ pub decoded-within : (rec rooms : List ℕ) (s : State) (t : Timestamp) → deco
 decoded-within rec rooms s t h = let r = (accepts rec rooms s t).0 h in (r.inside, r.room)
 
 -- which stands in the five fields
-module _ (rec : List ℕ) (d d' : Fields) (p : Parameters) (t : Timestamp) (rp : ReadPromise rec d (Answer.Read p t) d') where
+module _ (rec : List ℕ) (d d' : Fields) (p : Parameters) (t : Timestamp) (rp : ReadPromise rec d (Ok (header p t)) d') where
   abbrev read : State
   read = ((read-accepts rec d d' p t).0 rp).0
 
@@ -204,7 +204,7 @@ rewritten rec d d' x x' p t written' plain rp wp room =
     let n : length (restored rec) ≡ record_length s = ap length (sym e) ∙ length-encode s l t in
     let w = written s l t f.time d d' written' (subst (λ m. m ≤ length d) n room) (subst (λ x. WritePromise x t d written' d') (left_is rec x x' p t rp) wp) in
     let back : take (length (restored rec)) d' ≡ restored rec = ap (λ m. take m d') n ∙ w.1 ∙ e in (
-      w.0 ∙ ap Written (sym n),
+      w.0 ∙ ap Ok (sym n),
       back,
       λ r.
           sym (take-take (kept rec) (length (restored rec)) d' (kept-most rec bytes f.parts f.whole))

@@ -3,7 +3,7 @@ use Rattle.std.specs.Prelude.{◌≡◌, ◌↔◌, Bool, true, false, not, ◌|
 use Rattle.std.proofs.Math.Path.{refl, ap, ap₂}
 use Rattle.std.proofs.Common.{sym, subst, ◌∙◌, le_trans, lt_of_le_of_lt, mul-le-mul, leb→le, lit<, lit≤, length-append}
 use mathlib.Core.List.{List, [], ◌∷◌, ◌++◌, map}
-use Rattle.std.proofs.Math.Option.{Option, none, some}
+use Rattle.std.specs.Prelude.{Option, None, Some}
 use native.Mathlib.Omega.{arith}
 use Rattle.std.proofs.Math.ListN.{get_or}
 use Rattle.std.proofs.lemmas.List.{length-map}
@@ -18,8 +18,8 @@ use Rattle.model.specs.Promises.{◌into◌, filled_by, write_tests, write_test,
 use Rattle.model.specs.Claims.{EachPasses, EachRoom, Missing, BytesOf, WriteAcceptedClaim, RoundTripClaim}
 use Rattle.model.specs.declared.Timestamp.{Timestamp}
 use Rattle.model.specs.declared.Refusal.{Refusal}
-use Rattle.model.specs.declared.WriteAnswer.{WriteAnswer}
-use Rattle.model.specs.declared.WriteAnswer.TheVariants.{Written}
+use Rattle.std.specs.Prelude.{Ok}
+use Rattle.model.specs.Answers.{WriteAnswer}
 use Rattle.theorems.specs.Truth.{◌⟫◌, same, eq_iff, differ}
 use Rattle.theorems.specs.TestLaws.{passes, passes_append}
 use Rattle.theorems.specs.Limits.{rooms-iff, tested-iff, timed-iff, write-iff}
@@ -114,7 +114,7 @@ abbrev pub Fit : State → Timestamp → List Part → (rooms : List ℕ) → Ty
 Fit s t parts rooms = BytesOf (cells s) parts × EachRoom (cells s) rooms × (t.milliseconds ≤ most_milliseconds) × WithinLimits s
 
 pub record-iff : (s : State) (t : Timestamp) (parts : List Part) (rooms : List ℕ) → (Missing parts → ⊥) → EachPasses (length_tests (fields_of s))
-    → (record_test s t parts rooms ≡ none) ↔ Fit s t parts rooms
+    → (record_test s t parts rooms ≡ None) ↔ Fit s t parts rooms
 unfolding record_test
 record-iff s t parts rooms full lengths =
     let m = cells s in
@@ -146,7 +146,7 @@ long-read parts =
     barred m = (eq_iff _ m).1 (length-map (tabulate m (λ k. get_or (value_of 9 parts) k 0)) pos ∙ length-tabulate m (λ k. get_or (value_of 9 parts) k 0))
 
 pub fields-iff : (parts : List Part) (rooms : List ℕ) → (Missing parts → ⊥)
-    → (record_test (state_in parts) (timestamp_in parts) parts rooms ≡ none) ↔ Fit (state_in parts) (timestamp_in parts) parts rooms
+    → (record_test (state_in parts) (timestamp_in parts) parts rooms ≡ None) ↔ Fit (state_in parts) (timestamp_in parts) parts rooms
 fields-iff parts rooms full = record-iff (state_in parts) (timestamp_in parts) parts rooms full (long-read parts)
 
 -- ---- the record of a state within the limits
@@ -215,11 +215,11 @@ module _ (s : State) (l : WithinLimits s) where
   -- ---- over the promises of the calls
 
   pub written : (t : Timestamp) → t.milliseconds ≤ most_milliseconds → (d d' : List ℕ) (a : WriteAnswer) → record_length s ≤ length d → WritePromise s t d a d'
-      → (a ≡ write_answer (record_length s) none) × (take (record_length s) d' ≡ encode s t)
+      → (a ≡ write_answer (record_length s) None) × (take (record_length s) d' ≡ encode s t)
   unfolding write_test
   written t k d d' a h p =
       let m = record_length s in
-      let e : write_test s t (length d) ≡ none = (passes (write_tests s t (length d))).1 ((write-iff s t (length d)).1 (l, k, h)) in
+      let e : write_test s t (length d) ≡ None = (passes (write_tests s t (length d))).1 ((write-iff s t (length d)).1 (l, k, h)) in
       let f = p.fills ∙ ap (λ o. filled_by o m (encode s t into d ∷ [])) e in
       (p.answers ∙ ap (write_answer m) e, ap (take m) (ap (λ x. get_or x 0 []) f) ∙ take-filled m (encode s t) d (length-encode t))
 
@@ -234,9 +234,9 @@ module _ (s : State) (l : WithinLimits s) where
       (take-filled (cells s) s.barriers d.barriers bars-long i)
 
 -- the writer accepts this, and no more
-written_none : (m : ℕ) (o : Option Refusal) → write_answer m o ≡ Written m → o ≡ none
-written_none m none e = refl
-written_none m (some r) e = differ (cc e)
+written_none : (m : ℕ) (o : Option Refusal) → write_answer m o ≡ (Ok m) → o ≡ None
+written_none m None e = refl
+written_none m (Some r) e = differ (cc e)
 
 pub write-accepted : WriteAcceptedClaim
 unfolding write_test

@@ -1,8 +1,8 @@
 -- A run with nothing wrong finishes, or stops with 6, exactly where its steps do. That it then ends so is RunClaim; here the way back: a
 -- run from a state that k steps lead on is what is left of the run, from the state that they lead to. Assumes nothing.
 use Rattle.std.specs.Prelude.{◌≡◌, refl, List, ℕ, suc, ◌+◌, ◌-◌, ◌<◌, ℤ, length}
-use Rattle.std.proofs.Common.{sym, ap, subst, ◌∙◌, arith}
-use Rattle.std.proofs.Math.Option.{Option, none, some}
+use Rattle.std.proofs.Common.{sym, ap, subst, ◌∙◌, zero-add, arith}
+use Rattle.std.specs.Prelude.{Option, None, Some}
 use Rattle.model.specs.State.{State}
 use Rattle.model.specs.Answers.{told_run}
 use Rattle.model.specs.Step.{place, stuck, Ran, two_pass, run_on, run_from, run_test, run_by, run_of, work_left, cleared}
@@ -10,30 +10,29 @@ use Rattle.model.specs.Promises.{RunPromise}
 use Rattle.model.specs.Claims.{Steps, start, onward, RunEndsClaim}
 use Rattle.model.specs.declared.Field.{Field}
 use Rattle.model.specs.declared.Refusal.{Refusal}
-use Rattle.model.specs.declared.RunAnswer.{RunAnswer}
+use Rattle.std.specs.Prelude.{Ok, Err}
+use Rattle.model.specs.Answers.{RunAnswer, breach}
+use Rattle.model.specs.declared.RunError.{RunError}
 use Rattle.theorems.specs.Truth.{differ}
 use Rattle.theorems.specs.Limits.{run-taken}
 use Rattle.theorems.specs.Runs.{run-counts}
 
 -- ---- nothing wrong
 
-finished-passed : (o : Option Refusal) (s : State) (x : Ran) (k : ℕ) → RunAnswer.Finished k ≡ (run_by o s x).answer → o ≡ none
-finished-passed none s x k e = refl
-finished-passed (some r) s x k e = differ (cc e)
+finished-passed : (o : Option Refusal) (s : State) (x : Ran) (k : ℕ) → Ok k ≡ (run_by o s x).answer → o ≡ None
+finished-passed None s x k e = refl
+finished-passed (Some r) s x k e = differ (cc e)
 
-stopped-passed : (o : Option Refusal) (s : State) (x : Ran) (k p c : ℕ) (f : Field) → RunAnswer.Stopped k p f c ≡ (run_by o s x).answer → o ≡ none
-stopped-passed none s x k p c f e = refl
-stopped-passed (some r) s x k p c f e = differ (cc e)
+stopped-passed : (o : Option Refusal) (s : State) (x : Ran) (k p c : ℕ) (f : Field) → Err (RunError.Stopped k (breach p f c)) ≡ (run_by o s x).answer → o ≡ None
+stopped-passed None s x k p c f e = refl
+stopped-passed (Some r) s x k p c f e = differ (cc e)
 
 -- ---- the way back
 
 run-onward : (inflow : List ℤ) (k n done : ℕ) (s t : State) → Steps inflow k s t → run_from (k + n) done s inflow ≡ run_from n (done + k) t inflow
 unfolding run_from
-run-onward inflow k n done s t (start) = λ i. run_from (none_more n i) (more-none done i) s inflow
+run-onward inflow k n done s t (start) = λ i. run_from (zero-add n i) (more-none done i) s inflow
   where
-    none_more : (n : ℕ) → 0 + n ≡ n
-    none_more n = omega arith
-
     more-none : (d : ℕ) → d ≡ d + 0
     more-none d = omega arith
 run-onward inflow k n done s t (onward {m = j} {t = x} e r) =
@@ -51,34 +50,28 @@ run-onward inflow k n done s t (onward {m = j} {t = x} e r) =
 abbrev ended : RunAnswer → State → Ran
 ended a t = record { answer = a; state = t }
 
-run-finished : (inflow : List ℤ) (m : ℕ) (s t : State) → Steps inflow m s t → run_from m 0 s inflow ≡ ended (RunAnswer.Finished m) t
+run-finished : (inflow : List ℤ) (m : ℕ) (s t : State) → Steps inflow m s t → run_from m 0 s inflow ≡ ended (Ok m) t
 unfolding run_from
-run-finished inflow m s t r = ap (λ z. run_from z 0 s inflow) (whole m) ∙ run-onward inflow m 0 0 s t r ∙ ap (λ z. ended (RunAnswer.Finished z) t) (plain m)
+run-finished inflow m s t r = ap (λ z. run_from z 0 s inflow) (whole m) ∙ run-onward inflow m 0 0 s t r ∙ ap (λ z. ended (Ok z) t) (zero-add m)
   where
     whole : (m : ℕ) → m ≡ m + 0
     whole m = omega arith
 
-    plain : (m : ℕ) → 0 + m ≡ m
-    plain m = omega arith
-
 run-stopped : (inflow : List ℤ) (m k p c : ℕ) (f : Field) (s t : State) → k < m → Steps inflow k s t → two_pass t inflow ≡ stuck p (place f c)
-    → run_from m 0 s inflow ≡ ended (RunAnswer.Stopped k p f c) t
+    → run_from m 0 s inflow ≡ ended (Err (RunError.Stopped k (breach p f c))) t
 unfolding run_from
 run-stopped inflow m k p c f s t l r e =
     let n = m - suc k in
     ap (λ z. run_from z 0 s inflow) (parts m k l)
     ∙ run-onward inflow k (suc n) 0 s t r
     ∙ ap (run_on (λ y. run_from n (suc (0 + k)) y inflow) (0 + k) t) e
-    ∙ ap (λ z. ended (RunAnswer.Stopped z p f c) t) (plain k)
+    ∙ ap (λ z. ended (Err (RunError.Stopped z (breach p f c))) t) (zero-add k)
   where
     parts : (m k : ℕ) → k < m → m ≡ k + suc (m - suc k)
     parts m k l = omega arith
 
-    plain : (m : ℕ) → 0 + m ≡ m
-    plain m = omega arith
-
 -- a run that takes what it needs and ends so meets its promise with that end
-run_is : (s s' : State) (inflow : List ℤ) (m : ℕ) (work work' : List ℤ) (a : RunAnswer) → run_test s inflow m (length work) ≡ none → run_from m 0 s inflow ≡ ended a s'
+run_is : (s s' : State) (inflow : List ℤ) (m : ℕ) (work work' : List ℤ) (a : RunAnswer) → run_test s inflow m (length work) ≡ None → run_from m 0 s inflow ≡ ended a s'
     → work' ≡ cleared s work → RunPromise s inflow m work a s' work'
 unfolding run_of work_left
 run_is s s' inflow m work work' a e f w =
@@ -96,18 +89,18 @@ run_ends = record {
   finished = λ s s' inflow work work' m k. (
     λ p.
         let e = finished-passed (run_test s inflow m (length work)) s (run_from m 0 s inflow) k p.answers in
-        let c = run-counts s s' inflow work work' m (RunAnswer.Finished k) p in
+        let c = run-counts s s' inflow work work' m (Ok k) p in
         ((run-taken s inflow m (length work)).0 e, c.1, subst (λ j. Steps inflow j s s') c.1 c.0, p.clears ∙ ap (λ o. work_left o s work) e),
     λ b.
-        subst (λ j. RunPromise s inflow m work (RunAnswer.Finished j) s' work') (sym b.1)
-        (run_is s s' inflow m work work' (RunAnswer.Finished m) ((run-taken s inflow m (length work)).1 b.0) (run-finished inflow m s s' b.2) b.3),
+        subst (λ j. RunPromise s inflow m work (Ok j) s' work') (sym b.1)
+        (run_is s s' inflow m work work' (Ok m) ((run-taken s inflow m (length work)).1 b.0) (run-finished inflow m s s' b.2) b.3),
   );
   stopped = λ s s' inflow work work' m k p c f. (
     λ q.
         let e = stopped-passed (run_test s inflow m (length work)) s (run_from m 0 s inflow) k p c f q.answers in
-        let d = run-counts s s' inflow work work' m (RunAnswer.Stopped k p f c) q in
+        let d = run-counts s s' inflow work work' m (Err (RunError.Stopped k (breach p f c))) q in
         ((run-taken s inflow m (length work)).0 e, d.1.0, d.0, d.1.1, q.clears ∙ ap (λ o. work_left o s work) e),
     λ b.
-        run_is s s' inflow m work work' (RunAnswer.Stopped k p f c) ((run-taken s inflow m (length work)).1 b.0) (run-stopped inflow m k p c f s s' b.1 b.2 b.3) b.4,
+        run_is s s' inflow m work work' (Err (RunError.Stopped k (breach p f c))) ((run-taken s inflow m (length work)).1 b.0) (run-stopped inflow m k p c f s s' b.1 b.2 b.3) b.4,
   );
 }

@@ -1,13 +1,13 @@
 -- The number that a run answers is the number of definition steps that lead to the state left. Assumes nothing.
 use Rattle.std.specs.Prelude.{◌≡◌, refl, List, ℕ, zero, suc, ◌+◌, ◌<◌, ℤ, length}
 use Rattle.std.proofs.Common.{sym, subst, ◌∙◌, arith}
-use Rattle.std.proofs.Math.Option.{Option, none, some}
+use Rattle.std.specs.Prelude.{Option, None, Some}
 use Rattle.model.specs.State.{State}
 use Rattle.model.specs.Step.{Outcome, moved, stuck, Ran, two_pass, run_on, run_from, run_test, run_by, run_of}
 use Rattle.model.specs.Histories.{run_count}
 use Rattle.model.specs.Claims.{Steps, start, onward, Ended, RunClaim}
 use Rattle.model.specs.declared.Refusal.{Refusal}
-use Rattle.model.specs.declared.RunAnswer.{RunAnswer}
+use Rattle.model.specs.Answers.{RunAnswer}
 
 -- k steps lead from s to the state left, and the answer counts them; m is the whole run's length
 record Counted (inflow : List ℤ) (m done : ℕ) (s : State) (r : Ran) : Type 0 where
@@ -40,11 +40,11 @@ abbrev Told : List ℤ → ℕ → State → RunAnswer → State → Type 0
 Told inflow m s answer t = Steps inflow (run_count answer) s t × Ended inflow m answer t
 
 tested : (inflow : List ℤ) (m : ℕ) (s : State) (r : Ran) → Counted inflow m 0 s r → (t : Option Refusal) → Told inflow m s (run_by t s r).answer (run_by t s r).state
-tested inflow m s r c none = (subst (λ k. Steps inflow k s r.state) (plain c.k _ c.counts) c.leads, c.ends)
+tested inflow m s r c None = (subst (λ k. Steps inflow k s r.state) (plain c.k _ c.counts) c.leads, c.ends)
   where
     plain : (k x : ℕ) → x ≡ 0 + k → k ≡ x
     plain k x e = omega arith
-tested inflow m s r c (some x) = (start, tt)
+tested inflow m s r c (Some x) = (start, tt)
 
 pub run-told : (s : State) (inflow : List ℤ) (m room : ℕ) → Told inflow m s (run_of s inflow m room).answer (run_of s inflow m room).state
 unfolding run_of

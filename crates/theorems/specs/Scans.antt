@@ -1,7 +1,7 @@
 -- A scan finds the lowest index at which its test holds. Assumes nothing.
 use Rattle.std.specs.Prelude.{◌≡◌, refl, ◌↔◌, Bool, true, false, cond, ℕ, zero, suc, ◌+◌, ◌≤◌, ◌<◌, T}
 use Rattle.std.proofs.Common.{sym, ap, subst, ◌∙◌, ⊎_elim, zero-le, eq-or-lt_of_le, add-zero, add-suc, suc-add, zero-add, not-suc-le-zero, le_of_suc-le-suc, arith}
-use Rattle.std.proofs.Math.Option.{Option, none, some}
+use Rattle.std.specs.Prelude.{Option, None, Some}
 use Rattle.model.specs.Grid.{first_from}
 use Rattle.model.specs.Claims.{ScanClaim}
 use Rattle.theorems.specs.Truth.{true-T, differ, some≢}
@@ -13,15 +13,15 @@ record Found (bad : ℕ → Bool) (m k i : ℕ) : Type 0 where
   holds : T (bad i)
   first : (x : ℕ) → k ≤ x → x < i → bad x ≡ false
 
-none≢ : {A : Type 0} {i : ℕ} → ◌≡◌ {A = Option ℕ} none (some i) → A
-none≢ h = differ (cc h)
+None≢ : {A : Type 0} {i : ℕ} → ◌≡◌ {A = Option ℕ} None (Some i) → A
+None≢ h = differ (cc h)
 
-same_some : (k i : ℕ) → some k ≡ some i → k ≡ i
+same_some : (k i : ℕ) → Some k ≡ Some i → k ≡ i
 same_some k i h = cc
 
 -- by the test at the first index
-found-by : (bad : ℕ → Bool) (m k i : ℕ) (t : Bool) → bad k ≡ t → (first_from bad m (suc k) ≡ some i → Found bad m (suc k) i)
-    → cond t (some k) (first_from bad m (suc k)) ≡ some i → Found bad (suc m) k i
+found-by : (bad : ℕ → Bool) (m k i : ℕ) (t : Bool) → bad k ≡ t → (first_from bad m (suc k) ≡ Some i → Found bad m (suc k) i)
+    → cond t (Some k) (first_from bad m (suc k)) ≡ Some i → Found bad (suc m) k i
 found-by bad m k i true e h g =
     let z = same_some k i g in record { low = omega arith; high = omega arith; holds = subst (λ x. T (bad x)) z (true-T e); first = λ x p q. absurd (never x p q z) }
   where
@@ -36,21 +36,21 @@ found-by bad m k i false e h g =
       first = λ x p q. ⊎_elim (λ z. subst (λ y. bad y ≡ false) z e) (λ l. r.first x l q) (eq-or-lt_of_le p);
     }
 
-found : (bad : ℕ → Bool) (m k i : ℕ) → first_from bad m k ≡ some i → Found bad m k i
+found : (bad : ℕ → Bool) (m k i : ℕ) → first_from bad m k ≡ Some i → Found bad m k i
 unfolding first_from
-found bad zero k i h = none≢ h
+found bad zero k i h = None≢ h
 found bad (suc m) k i h = found-by bad m k i (bad k) refl (found bad m (suc k) i) h
 
-find-by : (bad : ℕ → Bool) (m k i : ℕ) (t : Bool) → bad k ≡ t → Found bad (suc m) k i → (Found bad m (suc k) i → first_from bad m (suc k) ≡ some i)
-    → cond t (some k) (first_from bad m (suc k)) ≡ some i
-find-by bad m k i true e f h = ap some (⊎_elim (λ z. z) (λ l. absurd (subst T (sym (sym (f.first k (omega arith) l) ∙ e)) tt)) (eq-or-lt_of_le f.low))
+find-by : (bad : ℕ → Bool) (m k i : ℕ) (t : Bool) → bad k ≡ t → Found bad (suc m) k i → (Found bad m (suc k) i → first_from bad m (suc k) ≡ Some i)
+    → cond t (Some k) (first_from bad m (suc k)) ≡ Some i
+find-by bad m k i true e f h = ap Some (⊎_elim (λ z. z) (λ l. absurd (subst T (sym (sym (f.first k (omega arith) l) ∙ e)) tt)) (eq-or-lt_of_le f.low))
 find-by bad m k i false e f h =
     ⊎_elim
     (λ z. absurd (subst T e (subst (λ x. T (bad x)) (sym z) f.holds)))
     (λ l. h (record { low = l; high = omega (arith, f.high); holds = f.holds; first = λ x p q. f.first x (omega arith) q }))
     (eq-or-lt_of_le f.low)
 
-find : (bad : ℕ → Bool) (m k i : ℕ) → Found bad m k i → first_from bad m k ≡ some i
+find : (bad : ℕ → Bool) (m k i : ℕ) → Found bad m k i → first_from bad m k ≡ Some i
 unfolding first_from
 find bad zero k i f = absurd (omega (arith, f.low, f.high))
 find bad (suc m) k i f = find-by bad m k i (bad k) refl f (find bad m (suc k) i)
@@ -64,23 +64,23 @@ scan bad m k = (
 -- ---- nothing found
 
 -- by the test at the first index
-clean-by : (bad : ℕ → Bool) (m k : ℕ) (t : Bool) → bad k ≡ t → (first_from bad m (suc k) ≡ none → (i : ℕ) → i < m → bad (suc k + i) ≡ false)
-    → cond t (some k) (first_from bad m (suc k)) ≡ none → (i : ℕ) → i < suc m → bad (k + i) ≡ false
+clean-by : (bad : ℕ → Bool) (m k : ℕ) (t : Bool) → bad k ≡ t → (first_from bad m (suc k) ≡ None → (i : ℕ) → i < m → bad (suc k + i) ≡ false)
+    → cond t (Some k) (first_from bad m (suc k)) ≡ None → (i : ℕ) → i < suc m → bad (k + i) ≡ false
 clean-by bad m k true e h g i l = some≢ g
 clean-by bad m k false e h g zero l = ap bad (add-zero k) ∙ e
 clean-by bad m k false e h g (suc i) l = ap bad (add-suc k i ∙ sym (suc-add k i)) ∙ h g i (le_of_suc-le-suc l)
 
-first-clean : (bad : ℕ → Bool) (m k : ℕ) → first_from bad m k ≡ none → (i : ℕ) → i < m → bad (k + i) ≡ false
+first-clean : (bad : ℕ → Bool) (m k : ℕ) → first_from bad m k ≡ None → (i : ℕ) → i < m → bad (k + i) ≡ false
 unfolding first_from
 first-clean bad zero k h i l = absurd (not-suc-le-zero l)
 first-clean bad (suc m) k h i l = clean-by bad m k (bad k) refl (first-clean bad m (suc k)) h i l
 
-clean-first : (bad : ℕ → Bool) (m k : ℕ) → ((i : ℕ) → i < m → bad (k + i) ≡ false) → first_from bad m k ≡ none
+clean-first : (bad : ℕ → Bool) (m k : ℕ) → ((i : ℕ) → i < m → bad (k + i) ≡ false) → first_from bad m k ≡ None
 unfolding first_from
 clean-first bad zero k h = refl
 clean-first bad (suc m) k h =
-    ap (λ t. cond t (some k) (first_from bad m (suc k))) (ap bad (sym (add-zero k)) ∙ h 0 (omega arith))
+    ap (λ t. cond t (Some k) (first_from bad m (suc k))) (ap bad (sym (add-zero k)) ∙ h 0 (omega arith))
     ∙ clean-first bad m (suc k) (λ i l. ap bad (suc-add k i ∙ sym (add-suc k i)) ∙ h (suc i) (omega arith))
 
-pub first-iff : (bad : ℕ → Bool) (m : ℕ) → (first_from bad m 0 ≡ none) ↔ ((i : ℕ) → i < m → bad i ≡ false)
+pub first-iff : (bad : ℕ → Bool) (m : ℕ) → (first_from bad m 0 ≡ None) ↔ ((i : ℕ) → i < m → bad i ≡ false)
 first-iff bad m = (λ h i l. ap bad (sym (zero-add i)) ∙ first-clean bad m 0 h i l, λ h. clean-first bad m 0 (λ i l. ap bad (zero-add i) ∙ h i l))

@@ -2,7 +2,7 @@
 -- Assumes nothing.
 use Rattle.std.specs.Prelude.{◌≡◌, refl, Bool, true, false, cond, List, [], ◌∷◌, ℕ, ◌*◌, ◌<◌, eqb, ℤ, pos, ◌+ℤ◌, ◌*ℤ◌, length, take}
 use Rattle.std.proofs.Common.{sym, ap, ap₂, subst, ◌∙◌}
-use Rattle.std.proofs.Math.Option.{Option, none, some}
+use Rattle.std.specs.Prelude.{Option, None, Some}
 use Rattle.std.proofs.Math.Dec.{T}
 use Rattle.model.specs.Numbers.{rnd, total}
 use Rattle.model.specs.Grid.{at, by_cell}
@@ -56,17 +56,17 @@ pass-given base given inflow du dv ew en g = (
 stuck≢ : {A : Type 0} {p : ℕ} {x : Place} {t : State} → stuck p x ≡ moved t → A
 stuck≢ h = differ (cc h)
 
-passed_on : (o : Option Place) (p : ℕ) (later : Outcome) (t : State) → passed o p later ≡ moved t → (o ≡ none) × (later ≡ moved t)
-passed_on none p later t h = (refl, h)
-passed_on (some x) p later t h = stuck≢ h
+passed_on : (o : Option Place) (p : ℕ) (later : Outcome) (t : State) → passed o p later ≡ moved t → (o ≡ None) × (later ≡ moved t)
+passed_on None p later t h = (refl, h)
+passed_on (Some x) p later t h = stuck≢ h
 
 same-moved : (s t : State) → moved s ≡ moved t → s ≡ t
 same-moved s t h = cc
 
 -- both passes leave no bound, and the second is what the step comes to
 record Moved (s : State) (inflow : List ℤ) (t : State) : Type 0 where
-  first : leaves (pass s s inflow) ≡ none
-  second : leaves (pass s (pass s s inflow) inflow) ≡ none
+  first : leaves (pass s s inflow) ≡ None
+  second : leaves (pass s (pass s s inflow) inflow) ≡ None
   result : pass s (pass s s inflow) inflow ≡ t
 
 moves : (s t : State) (inflow : List ℤ) → two_pass s inflow ≡ moved t → Moved s inflow t
@@ -115,7 +115,7 @@ pass-long s g inflow = (long (new_depth g s inflow), (long (new_u g s (vorticity
     long f = (eq_iff (length (by_cell s.w s.n f)) (s.w * s.n)).1 (length-by_cell s.w s.n f)
 
 -- a pass from a state within the limits, with the tendencies of a state that has the same walls, keeps the limits where it leaves no bound
-pass-within : (s g : State) (inflow : List ℤ) → SameWalls g s → WithinLimits s → leaves (pass s g inflow) ≡ none → WithinLimits (pass s g inflow)
+pass-within : (s g : State) (inflow : List ℤ) → SameWalls g s → WithinLimits s → leaves (pass s g inflow) ≡ None → WithinLimits (pass s g inflow)
 unfolding pass leaves
 pass-within s g inflow same l h =
     let q = vorticity g in
@@ -137,11 +137,11 @@ pass-within s g inflow same l h =
     }
 
 -- so pass 1, with the state's own tendencies
-pub first-within : (s : State) (inflow : List ℤ) → WithinLimits s → leaves (pass s s inflow) ≡ none → WithinLimits (pass s s inflow)
+pub first-within : (s : State) (inflow : List ℤ) → WithinLimits s → leaves (pass s s inflow) ≡ None → WithinLimits (pass s s inflow)
 first-within s inflow l h = pass-within s s inflow (record { west = λ i j. refl; south = λ i j. refl }) l h
 
 -- and leaves no bound where it keeps them
-none_left : (r : State) → WithinLimits r → leaves r ≡ none
+none_left : (r : State) → WithinLimits r → leaves r ≡ None
 unfolding leaves
 none_left r l = (passes (leaves_tests r)).1 ((each-iff place (stepped r)).1 (l.depths, (l.us, (l.vs, tt)))).1
 
@@ -159,10 +159,10 @@ step-within = record {
           subst WithinLimits m.result (pass-within s (pass s s inflow) inflow (pass-walls s s inflow) l m.second),
           sym m.result,
         ),
-    λ p. by-passes s inflow none none (none_left (pass s s inflow) p.0) (ap leaves (sym p.2) ∙ none_left t p.1) ∙ ap moved (sym p.2),
+    λ p. by-passes s inflow None None (none_left (pass s s inflow) p.0) (ap leaves (sym p.2) ∙ none_left t p.1) ∙ ap moved (sym p.2),
   );
-  stuck-1 = λ s inflow x p. by-passes s inflow (some x) (leaves (pass s (pass s s inflow) inflow)) p refl;
-  stuck-2 = λ s inflow x p q. by-passes s inflow none (some x) p q;
+  stuck-1 = λ s inflow x p. by-passes s inflow (Some x) (leaves (pass s (pass s s inflow) inflow)) p refl;
+  stuck-2 = λ s inflow x p q. by-passes s inflow None (Some x) p q;
 }
 
 -- ---- total depth
@@ -185,8 +185,8 @@ after-outcome s inflow l (stuck p x) h = (l, refl)
 
 after_test : (s : State) (inflow : List ℤ) → WithinLimits s → (x : Option Refusal)
     → WithinLimits (step_state_by x s (two_pass s inflow)) × (cells (step_state_by x s (two_pass s inflow)) ≡ cells s)
-after_test s inflow l none = after-outcome s inflow l (two_pass s inflow) refl
-after_test s inflow l (some r) = (l, refl)
+after_test s inflow l None = after-outcome s inflow l (two_pass s inflow) refl
+after_test s inflow l (Some r) = (l, refl)
 
 -- what it leaves is within the limits, and has as many cells
 pub step-leaves : (s : State) (inflow : List ℤ) (room : ℕ) → WithinLimits s → WithinLimits (step_state s inflow room) × (cells (step_state s inflow room) ≡ cells s)
@@ -200,8 +200,8 @@ keeps-outcome s inflow (moved t) h = let e = (moves s t inflow h).result in sym 
 keeps-outcome s inflow (stuck p x) h = refl
 
 keeps-test : (s : State) (inflow : List ℤ) (x : Option Refusal) → let t = step_state_by x s (two_pass s inflow) in t ≡ with_flow s t.h t.u t.v
-keeps-test s inflow none = keeps-outcome s inflow (two_pass s inflow) refl
-keeps-test s inflow (some r) = refl
+keeps-test s inflow None = keeps-outcome s inflow (two_pass s inflow) refl
+keeps-test s inflow (Some r) = refl
 
 pub step_keeps : (s : State) (inflow : List ℤ) (room : ℕ) → let t = step_state s inflow room in t ≡ with_flow s t.h t.u t.v
 unfolding step_state

@@ -1,7 +1,7 @@
 -- What test 7 asks at a tag, and at the record's end: by the table of tags, whatever its rows. Assumes nothing.
 use Rattle.std.specs.Prelude.{◌≡◌, refl, ◌↔◌, ◌⊎◌, Bool, true, false, not, cond, ◌&&◌, List, [], ◌∷◌, map, ℕ, zero, suc, ◌+◌, ◌≤◌, ◌<◌, T, eqb, leb, length}
 use Rattle.std.proofs.Common.{sym, ap, subst, ◌∙◌, inl, inr, ⊎_elim, suc-le-suc, eq-or-lt_of_le, lt_of_not-le, le_of_suc-le-suc, arith, lit<, leb-false, eqb-true, ne_eqb}
-use Rattle.std.proofs.Math.Option.{Option, none, some}
+use Rattle.std.specs.Prelude.{Option, None, Some}
 use Rattle.std.proofs.Math.Dec.{eqb_refl}
 use Rattle.std.proofs.lemmas.Bool.{eqb-false, lt-leb}
 use Rattle.model.specs.Numbers.{all, any}
@@ -19,13 +19,13 @@ true≢ h = differ (cc h)
 
 -- either it is told and A holds, or nothing is told and A does not hold
 abbrev pub Judges : Option Refusal → Refusal → Type 0 → Type 0
-Judges o own A = ((o ≡ some own) × A) ⊎ ((o ≡ none) × (A → ⊥))
+Judges o own A = ((o ≡ Some own) × A) ⊎ ((o ≡ None) × (A → ⊥))
 
 judge : (t : Bool) (own : Refusal) {A : Type 0} → (t ≡ false) ↔ A → Judges (must t own) own A
 judge true own i = inr (refl, λ a. true≢ (i.1 a))
 judge false own i = inl (refl, i.0 refl)
 
-judge-last : (t : Bool) (own : Refusal) {A : Type 0} → (t ≡ false) ↔ A → Judges (must t own then none) own A
+judge-last : (t : Bool) (own : Refusal) {A : Type 0} → (t ≡ false) ↔ A → Judges (must t own then None) own A
 judge-last true own i = judge true own i
 judge-last false own i = judge false own i
 
@@ -34,10 +34,10 @@ judge-then true own q i j = ⊎_elim (λ p. inl (p.0, inr p.1)) (λ p. inr (p.0,
 judge-then false own q i j = inl (refl, inl (i.0 refl))
 
 -- told where it holds, and not told where it does not
-pub told : {o : Option Refusal} {own : Refusal} {A : Type 0} → Judges o own A → A → o ≡ some own
+pub told : {o : Option Refusal} {own : Refusal} {A : Type 0} → Judges o own A → A → o ≡ Some own
 told j a = ⊎_elim (λ p. p.0) (λ p. absurd (p.1 a)) j
 
-pub untold : {o : Option Refusal} {own : Refusal} {A : Type 0} → Judges o own A → (A → ⊥) → o ≡ none
+pub untold : {o : Option Refusal} {own : Refusal} {A : Type 0} → Judges o own A → (A → ⊥) → o ≡ None
 untold j n = ⊎_elim (λ p. absurd (n p.1)) (λ p. p.0) j
 
 -- ---- what is asked at a tag
@@ -99,9 +99,6 @@ EachOf P (x ∷ l) = P x × EachOf P l
 each_of : (P : ℕ → Type 0) (l : List ℕ) → EachOf P l → (t : ℕ) → T (any (eqb t) l) → P t
 each_of P [] e t h = absurd h
 each_of P (x ∷ l) e t h = ⊎_elim (λ q. subst P (sym ((eq_iff t x).0 q)) e.0) (each_of P l e.1 t) ((or-iff (eqb t x) (any (eqb t) l)).0 h)
-
-pub each-tag : (P : ℕ → Type 0) → EachOf P (tags_of tag_table) → (t : ℕ) → 1 ≤ t → t ≤ length tag_table → P t
-each-tag P e t a b = each_of P (tags_of tag_table) e t ((known-iff t).1 (a, b))
 
 pub among-iff : (t : ℕ) (l : List Part) → T (has t l) ↔ Among t l
 among-iff t [] = (λ h. h, λ h. h)
@@ -211,7 +208,7 @@ pub end-judged : (rec : List ℕ) (parts : List Part) → Judges (missing_test r
 unfolding missing_test
 end-judged rec parts = judge (all (λ t. has t parts) required) (Record (length rec)) (missing-iff parts)
 
-pub none-missing : (rec : List ℕ) (parts : List Part) → (Missing parts → ⊥) → missing_test rec parts ≡ none
+pub none-missing : (rec : List ℕ) (parts : List Part) → (Missing parts → ⊥) → missing_test rec parts ≡ None
 none-missing rec parts n = untold (end-judged rec parts) n
 
 -- each that a record must have is there then

@@ -1,7 +1,7 @@
 -- A list of tests, for any calls: it finds nothing exactly where each passes, and r exactly where r's cause holds. Assumes nothing.
 use Rattle.std.specs.Prelude.{◌≡◌, refl, ◌↔◌, ◌⊎◌, Bool, true, false, List, [], ◌∷◌, ◌++◌, ℕ, T}
 use Rattle.std.proofs.Common.{sym, ap, ◌∙◌, inl, inr, ⊎_elim}
-use Rattle.std.proofs.Math.Option.{Option, none, some}
+use Rattle.std.specs.Prelude.{Option, None, Some}
 use Rattle.model.specs.Grid.{first_from}
 use Rattle.model.specs.Tests.{Test, asks, seeks, must, found_at, found, ◌then◌, first_found}
 use Rattle.model.specs.Claims.{Passes, Fails, EachPasses, Cause, TestClaim}
@@ -11,31 +11,31 @@ use Rattle.theorems.specs.Scans.{scan, first-iff}
 -- ---- one test
 
 module _ {R : Type 0} where
-  pub then-iff : (a b : Option R) → (a then b ≡ none) ↔ ((a ≡ none) × (b ≡ none))
-  then-iff none b = (λ h. (refl, h), λ p. p.1)
-  then-iff (some r) b = (λ h. some≢ h, λ p. some≢ p.0)
+  pub then-iff : (a b : Option R) → (a then b ≡ None) ↔ ((a ≡ None) × (b ≡ None))
+  then-iff None b = (λ h. (refl, h), λ p. p.1)
+  then-iff (Some r) b = (λ h. some≢ h, λ p. some≢ p.0)
 
-  pub must-iff : (t : Bool) (r : R) → (must t r ≡ none) ↔ T t
+  pub must-iff : (t : Bool) (r : R) → (must t r ≡ None) ↔ T t
   must-iff true r = (λ h. tt, λ t. refl)
   must-iff false r = (λ h. some≢ h, λ t. absurd t)
 
-  at_none : (r : ℕ → R) (o : Option ℕ) → (found_at r o ≡ none) ↔ (o ≡ none)
-  at_none r none = (λ e. refl, λ e. refl)
-  at_none r (some k) = (λ e. some≢ e, λ e. some≢ e)
+  at_none : (r : ℕ → R) (o : Option ℕ) → (found_at r o ≡ None) ↔ (o ≡ None)
+  at_none r None = (λ e. refl, λ e. refl)
+  at_none r (Some k) = (λ e. some≢ e, λ e. some≢ e)
 
-  at_some : (own : ℕ → R) (o : Option ℕ) (r : R) → (found_at own o ≡ some r) ↔ ((k : ℕ) × (own k ≡ r) × (o ≡ some k))
-  at_some own none r = (λ e. some≢ (sym e), λ p. some≢ (sym p.2))
-  at_some own (some k) r = (λ e. (k, cc e, refl), λ p. let h : k ≡ p.0 = cc p.2 in ap some (ap own h ∙ p.1))
+  at_some : (own : ℕ → R) (o : Option ℕ) (r : R) → (found_at own o ≡ Some r) ↔ ((k : ℕ) × (own k ≡ r) × (o ≡ Some k))
+  at_some own None r = (λ e. some≢ (sym e), λ p. some≢ (sym p.2))
+  at_some own (Some k) r = (λ e. (k, cc e, refl), λ p. let h : k ≡ p.0 = cc p.2 in ap Some (ap own h ∙ p.1))
 
-  must-some : (t : Bool) (own r : R) → (must t own ≡ some r) ↔ ((T t → ⊥) × (own ≡ r))
+  must-some : (t : Bool) (own r : R) → (must t own ≡ Some r) ↔ ((T t → ⊥) × (own ≡ r))
   must-some true own r = (λ e. some≢ (sym e), λ p. absurd (p.0 tt))
-  must-some false own r = (λ e. (λ a. absurd a, cc e), λ p. ap some p.1)
+  must-some false own r = (λ e. (λ a. absurd a, cc e), λ p. ap Some p.1)
 
-  pub passes-iff : (t : Test R) → (found t ≡ none) ↔ Passes t
+  pub passes-iff : (t : Test R) → (found t ≡ None) ↔ Passes t
   passes-iff (asks t r) = must-iff t r
   passes-iff (seeks bad m r) = at_none r (first_from bad m 0) ⟫ first-iff bad m
 
-  fails-iff : (t : Test R) (r : R) → (found t ≡ some r) ↔ Fails t r
+  fails-iff : (t : Test R) (r : R) → (found t ≡ Some r) ↔ Fails t r
   fails-iff (asks t own) r = must-some t own r
   fails-iff (seeks bad m own) r =
       let i = at_some own (first_from bad m 0) r in (
@@ -45,22 +45,22 @@ module _ {R : Type 0} where
 
   -- ---- a list of them
 
-  then_some : (a b : Option R) (r : R) {A N B : Type 0} → (a ≡ some r) ↔ A → (a ≡ none) ↔ N → (b ≡ some r) ↔ B → (a then b ≡ some r) ↔ (A ⊎ (N × B))
-  then_some none b r i n j = (λ e. inr (n.0 refl, j.0 e), λ c. ⊎_elim (λ a. some≢ (sym (i.1 a))) (λ p. j.1 p.1) c)
-  then_some (some x) b r i n j = (λ e. inl (i.0 e), λ c. ⊎_elim (λ a. i.1 a) (λ p. some≢ (n.1 p.0)) c)
+  then_some : (a b : Option R) (r : R) {A N B : Type 0} → (a ≡ Some r) ↔ A → (a ≡ None) ↔ N → (b ≡ Some r) ↔ B → (a then b ≡ Some r) ↔ (A ⊎ (N × B))
+  then_some None b r i n j = (λ e. inr (n.0 refl, j.0 e), λ c. ⊎_elim (λ a. some≢ (sym (i.1 a))) (λ p. j.1 p.1) c)
+  then_some (Some x) b r i n j = (λ e. inl (i.0 e), λ c. ⊎_elim (λ a. i.1 a) (λ p. some≢ (n.1 p.0)) c)
 
-  pub passes : (l : List (Test R)) → (first_found l ≡ none) ↔ EachPasses l
+  pub passes : (l : List (Test R)) → (first_found l ≡ None) ↔ EachPasses l
   passes [] = (λ e. tt, λ t. refl)
   passes (t ∷ l) = then-iff (found t) (first_found l) ⟫ both (passes-iff t) (passes l)
 
-  pub finds : (l : List (Test R)) (r : R) → (first_found l ≡ some r) ↔ Cause l r
+  pub finds : (l : List (Test R)) (r : R) → (first_found l ≡ Some r) ↔ Cause l r
   finds [] r = (λ e. some≢ (sym e), λ x. absurd x)
   finds (t ∷ l) r = then_some (found t) (first_found l) r (fails-iff t r) (passes-iff t) (finds l r)
 
   -- one list after another
   pub then-assoc : (a b c : Option R) → (a then b) then c ≡ a then (b then c)
-  then-assoc none b c = refl
-  then-assoc (some r) b c = refl
+  then-assoc None b c = refl
+  then-assoc (Some r) b c = refl
 
   pub found-append : (a b : List (Test R)) → first_found (a ++ b) ≡ first_found a then first_found b
   found-append [] b = refl
@@ -74,8 +74,8 @@ module _ {R : Type 0} where
 
   -- a property of each thing that a list of tests can find holds of what it finds
   abbrev pub Only : (R → Type 0) → Option R → Type 0
-  Only Q none = Unit
-  Only Q (some r) = Q r
+  Only Q None = Unit
+  Only Q (Some r) = Q r
 
   abbrev pub OnlyBy : (R → Type 0) → Test R → Type 0
   OnlyBy Q (asks t r) = Q r
@@ -94,16 +94,16 @@ module _ {R : Type 0} where
   must-only Q false r q = q
 
   at_only : (Q : R → Type 0) (r : ℕ → R) (o : Option ℕ) → ((k : ℕ) → Q (r k)) → Only Q (found_at r o)
-  at_only Q r none q = tt
-  at_only Q r (some k) q = q k
+  at_only Q r None q = tt
+  at_only Q r (Some k) q = q k
 
   test-only : (Q : R → Type 0) (t : Test R) → OnlyBy Q t → Only Q (found t)
   test-only Q (asks t r) q = must-only Q t r q
   test-only Q (seeks bad m r) q = at_only Q r (first_from bad m 0) q
 
   then-only : (Q : R → Type 0) (a b : Option R) → Only Q a → Only Q b → Only Q (a then b)
-  then-only Q none b p q = q
-  then-only Q (some r) b p q = p
+  then-only Q None b p q = q
+  then-only Q (Some r) b p q = p
 
   pub found-only : (Q : R → Type 0) (l : List (Test R)) → EachOnly Q l → Only Q (first_found l)
   found-only Q [] q = tt

@@ -1,12 +1,14 @@
 -- Truth of tests that compute, and how equivalences are put together. Assumes nothing.
 use Rattle.std.specs.Prelude.{◌≡◌, refl, ◌↔◌, ◌⊎◌, Bool, true, false, not, ◌&&◌, ◌||◌, List, [], ◌∷◌, ℕ, ◌≤◌, ◌<◌, T, eqb, leb, ltb}
 use Rattle.std.proofs.Common.{sym, ap₂, subst, ◌∙◌, inl, inr, ⊎_elim, arith, eqb→eq, leb→le, le→leb, eq-eqb, ltb-true, lt-ltb}
-use Rattle.std.proofs.Math.Option.{none, some}
+use Rattle.std.specs.Prelude.{None, Some}
 use Rattle.model.specs.Numbers.{same_by}
 
+-- The library's `T_from_true` is this, of a test that is named; here it is inferred.
 pub true-T : {b : Bool} → b ≡ true → T b
 true-T e = subst T (sym e) tt
 
+-- The library has it in files that nothing else may cite.
 pub T_true : (b : Bool) → T b → b ≡ true
 T_true true t = refl
 T_true false t = absurd t
@@ -22,7 +24,7 @@ pub or-iff : (a b : Bool) → T (a || b) ↔ (T a ⊎ T b)
 or-iff true b = (λ t. inl tt, λ c. tt)
 or-iff false b = (λ t. inr t, ⊎_elim (λ t. absurd t) (λ t. t))
 
--- what does not hold of a test is told by it
+-- what does not hold of a test is told by it; the library's `not_T` says `T (not b)`
 pub not_T : (b : Bool) → (T b → ⊥) → b ≡ false
 not_T true n = absurd (n tt)
 not_T false n = refl
@@ -48,6 +50,7 @@ f ⟫ g = (λ a. g.0 (f.0 a), λ c. f.1 (g.1 c))
 pub same : {A : Type 0} → A ↔ A
 same = (λ a. a, λ a. a)
 
+-- the library's stands in a file that may not be cited
 pub both : {A B C D : Type 0} → A ↔ C → B ↔ D → (A × B) ↔ (C × D)
 both i j = (λ p. (i.0 p.0, j.0 p.1), λ p. (i.1 p.0, j.1 p.1))
 
@@ -69,5 +72,5 @@ by-same eq h (x ∷ a) = (and-iff (eq x x) (same_by eq a a)).1 (h x, by-same eq 
 pub differ : {A : Type 0} → ◌≡◌ {A = ℕ} 0 1 → A
 differ z = absurd (omega arith)
 
-pub some≢ : {A B : Type 0} {x : A} → some x ≡ none → B
+pub some≢ : {A B : Type 0} {x : A} → Some x ≡ None → B
 some≢ h = differ (cc h)

@@ -7,7 +7,7 @@ use Rattle.model.specs.Grid.{at, on_wall}
 use Rattle.model.specs.State.{State, walled_west, walled_south, corner_columns, corner_rows, corners, FieldWithin, WithinLimits}
 use Rattle.model.specs.Scheme.{to_west, to_south, Z, H, vorticity_at, vorticity}
 use Rattle.model.specs.Claims.{OwnVorticityClaim, VorticityClaim}
-use Rattle.integers.specs.Laws.{abs-mul}
+use Rattle.std.proofs.lemmas.Int.{unsigned_abs-mul}
 use Rattle.integers.specs.Bounds.{within-abs}
 use Rattle.integers.specs.Magnitudes.{coriolis-size, absolute-vorticity-size, depths-least, least_size}
 use Rattle.grid.specs.Cells.{cell-lt, previous-lt}
@@ -46,7 +46,7 @@ module _ (s : State) (l : WithinLimits s) (x y : ℕ) (p : x < corner_columns s)
       let h = l.depths.each in
       let z : nat_abs (Z s x y) ≤ 30000 = z-size (on_wall a s.w x) (on_wall b s.n y) (λ e. (inner a p e).place) (λ e. (inner b r e).place) in
       let d : 4000 ≤ nat_abs (H s x y) = least_size 4000 _ (depths-least (h _ (cell-lt east north)) (h _ (cell-lt west north)) (h _ (cell-lt east south)) (h _ (cell-lt west south))) in
-      rnd-size 1966080 (pos 262144 *ℤ Z s x y) (H s x y) (le_trans (lit≤ tt) d) (quotient (nat_abs (Z s x y)) (nat_abs (pos 262144 *ℤ Z s x y)) (nat_abs (H s x y)) z d (abs-mul (pos 262144) (Z s x y)))
+      rnd-size 1966080 (pos 262144 *ℤ Z s x y) (H s x y) (le_trans (lit≤ tt) d) (quotient (nat_abs (Z s x y)) (nat_abs (pos 262144 *ℤ Z s x y)) (nat_abs (H s x y)) z d (unsigned_abs-mul (pos 262144) (Z s x y)))
 
 pub within-limit : OwnVorticityClaim
 unfolding vorticity vorticity_limits

@@ -1,7 +1,7 @@
 -- A record made of fields is read back as those fields, and a record that is read as fields is those fields joined. Assumes nothing.
 use Rattle.std.specs.Prelude.{◌≡◌, refl, ◌↔◌, Bool, true, false, not, cond, ◌&&◌, List, [], ◌∷◌, ◌++◌, ℕ, zero, suc, ◌+◌, ◌-◌, ◌^◌, ◌≤◌, ◌<◌, min, T, leb, length, take, drop, get_or}
 use Rattle.std.proofs.Common.{sym, ap, ap₂, subst, ◌∙◌, append_assoc, append-nil, add-zero, not-suc-le-zero, le_of_suc-le-suc, add-one, arith, length-append, length-take, length-drop, take-append-drop, drop_of_length-le, get_or-append-add, drop-drop, drop_at, take_at, drop-cons, le-leb, leb-true}
-use Rattle.std.proofs.Math.Option.{Option, none, some}
+use Rattle.std.specs.Prelude.{Option, None, Some}
 use Rattle.std.proofs.lemmas.Bool.{lt-leb, not-true}
 use Rattle.model.specs.Tests.{Test, asks}
 use Rattle.model.specs.Record.{bytes, unsigned, Part, joined, has, tag_at, size_at, part_at, known_tag, right_size, tag_test, missing_test, Walked, damaged, whole, unless, walk, walked}
@@ -21,7 +21,7 @@ pub record Sound (rec : List ℕ) (k : ℕ) (seen : List Part) : Type 0 where
   pub room : k + 3 + size_at rec k ≤ length rec
   pub right : T (right_size (tag_at rec k) (size_at rec k))
 
-pub sound-iff : (rec : List ℕ) (k : ℕ) (seen : List Part) → (tag_test rec k seen ≡ none) ↔ Sound rec k seen
+pub sound-iff : (rec : List ℕ) (k : ℕ) (seen : List Part) → (tag_test rec k seen ≡ None) ↔ Sound rec k seen
 unfolding tag_test
 sound-iff rec k seen =
     let t = tag_at rec k in
@@ -92,7 +92,7 @@ module _ (rec pre : List ℕ) (p : Part) (rest : List ℕ) (k : ℕ) (e : rec �
       value : take (size_at rec k) (drop (k + 3) rec) ≡ p.value
       value = ap₂ (λ n l. take n l) (size-at h) (from 3) ∙ take_at p.value rest (length p.value) refl
 
-  passes_at : (seen : List Part) → Fine seen p → tag_test rec k seen ≡ none
+  passes_at : (seen : List Part) → Fine seen p → tag_test rec k seen ≡ None
   passes_at seen f =
       (sound-iff rec k seen).1 (
       record {
@@ -108,7 +108,7 @@ module _ (rec pre : List ℕ) (p : Part) (rest : List ℕ) (k : ℕ) (e : rec �
 abbrev pub at_end : List ℕ → List Part → Walked
 at_end rec seen = unless (missing_test rec seen) (whole seen)
 
-pub walk_step : (rec : List ℕ) (m k : ℕ) (seen : List Part) → leb (length rec) k ≡ false → tag_test rec k seen ≡ none
+pub walk_step : (rec : List ℕ) (m k : ℕ) (seen : List Part) → leb (length rec) k ≡ false → tag_test rec k seen ≡ None
     → walk rec (suc m) k seen ≡ walk rec m (k + 3 + size_at rec k) (seen ++ (part_at rec k ∷ []))
 unfolding walk
 walk_step rec m k seen a b = rw (a, b)
@@ -164,8 +164,8 @@ damaged≢ : {A : Type 0} {r : Refusal} {ps : List Part} → damaged r ≡ whole
 damaged≢ h = differ (cc h)
 
 end_by : (o : Option Refusal) (seen ps : List Part) → unless o (whole seen) ≡ whole ps → seen ≡ ps
-end_by none seen ps h = whole_same seen ps h
-end_by (some r) seen ps h = damaged≢ h
+end_by None seen ps h = whole_same seen ps h
+end_by (Some r) seen ps h = damaged≢ h
 
 ended : (rec : List ℕ) (k : ℕ) (seen ps : List Part) → length rec ≤ k → at_end rec seen ≡ whole ps → Undone rec k seen ps
 ended rec k seen ps h e =
@@ -240,8 +240,8 @@ by_tests : (rec : List ℕ) → AllBytes rec → (k : ℕ) (seen ps : List Part)
     → (more ≡ whole ps → Undone rec (k + 3 + size_at rec k) (seen ++ (part_at rec k ∷ [])) ps)
     → (b : Bool) (o : Option Refusal) → leb (length rec) k ≡ b → tag_test rec k seen ≡ o → cond b (at_end rec seen) (unless o more) ≡ whole ps → Undone rec k seen ps
 by_tests rec plain k seen ps more h true o p q e = ended rec k seen ps (leb-true (length rec) k p) e
-by_tests rec plain k seen ps more h false none p q e = onward rec plain k seen ps ((sound-iff rec k seen).0 q) (h e)
-by_tests rec plain k seen ps more h false (some r) p q e = damaged≢ e
+by_tests rec plain k seen ps more h false None p q e = onward rec plain k seen ps ((sound-iff rec k seen).0 q) (h e)
+by_tests rec plain k seen ps more h false (Some r) p q e = damaged≢ e
 
 unwalk : (rec : List ℕ) → AllBytes rec → (m k : ℕ) (seen ps : List Part) → length rec ≤ k + m → walk rec m k seen ≡ whole ps → Undone rec k seen ps
 unfolding walk

@@ -1,6 +1,7 @@
 -- Corners on a wall (02, U5) in the request's words, and the corners that each cell uses. Assumes nothing.
 use Rattle.std.specs.Prelude.{◌≡◌, refl, Bool, true, false, ◌||◌, ℕ, ◌+◌, ◌-◌, ◌≤◌, ◌<◌, ℤ, pos, ◌+ℤ◌, ◌*ℤ◌}
 use Rattle.std.proofs.Common.{sym, ap, ◌∙◌, arith, eq-eqb, ne_eqb}
+use Rattle.std.proofs.Math.Bool.{or-true}
 use Rattle.model.specs.Numbers.{rnd}
 use Rattle.model.specs.Grid.{at, lower, upper, on_wall}
 use Rattle.model.specs.State.{State, boundary_of, walled_west, walled_south}
@@ -83,11 +84,7 @@ module _ (s : State) {x y : ℕ} where
   -- the same row, the same column, or the same cell inside
   in_row : {a : Bool} {w e j : ℕ} → Beside (walled_west s) s.w x a w e → Beside (walled_south s) s.n y true j j
       → vorticity_at s x y ≡ beside_two s (h s e j) (h s w j)
-  in_row {a} {w} {e} {j} p r = walled-at (any a) p r ∙ ap (rnd (pos 262144 *ℤ s.c)) (twice.at (h s e j) (h s w j))
-    where
-      any : (a : Bool) → (a || true) ≡ true
-      any true = refl
-      any false = refl
+  in_row {a} {w} {e} {j} p r = walled-at (or-true a) p r ∙ ap (rnd (pos 262144 *ℤ s.c)) (twice.at (h s e j) (h s w j))
 
   in-column : {b : Bool} {i o n : ℕ} → Beside (walled_west s) s.w x true i i → Beside (walled_south s) s.n y b o n
       → vorticity_at s x y ≡ beside_two s (h s i n) (h s i o)

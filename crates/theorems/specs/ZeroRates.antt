@@ -3,14 +3,14 @@ use Rattle.std.specs.Prelude.{◌≡◌, refl, Bool, false, cond, List, ℕ, ◌
 use Rattle.std.proofs.Common.{sym, ap, subst, ◌∙◌, arith}
 use Rattle.std.proofs.Math.IntN.{zero-*ℤ, neg_ℤ-neg_ℤ}
 use Rattle.grid.specs.Cells.{previous-lt}
-use Rattle.grid.specs.Corners.{neither}
+use Rattle.std.proofs.lemmas.Bool.{or_parts}
 use Rattle.grid.specs.CellFields.{same_at, at-by_cell}
 use Rattle.model.specs.Grid.{at, previous, sum_grid, corners_of}
 use Rattle.model.specs.State.{State, cells, boundary_of, walled_west, walled_south, barrier_at, closed_west, closed_south, WithinLimits, OpenEverywhere}
 use Rattle.model.specs.Scheme.{divergence, momentum_u, momentum_v, corner_weight, to_west, to_south, flux_u, flux_v, D, B, corner, Tu, Tv, tendency_u, tendency_v, h_tendencies, u_tendencies, v_tendencies}
 use Rattle.model.specs.Rates.{energy_rate, vorticity_tendency, D4, enstrophy_rate}
 use Rattle.model.specs.Claims.{Holds, EnergyClaim, AnyCornersEnergyClaim, EnstrophyClaim, PeriodicEnstrophyClaim}
-use Rattle.model.specs.declared.Answer.TheVariants.{Accepted}
+use Rattle.std.specs.Prelude.{Ok}
 use Rattle.grid.specs.Sums.{grid-cong}
 use Rattle.theorems.specs.Conservation.{energy-law, enstrophy-law}
 use Rattle.theorems.specs.Filling.{tendencies-accepted, tendencies-fill}
@@ -43,7 +43,7 @@ energy-held s q dh du dv l h u v =
 pub energy-zero : EnergyClaim
 energy-zero s q dh du dv dh' du' dv' p =
     let f = tendencies-fill s q dh du dv dh' du' dv' p in
-    energy-held s q dh' du' dv' ((tendencies-accepted s q dh du dv dh' du' dv' Accepted p).0 refl).0 f.0 f.1 f.2
+    energy-held s q dh' du' dv' ((tendencies-accepted s q dh du dv dh' du' dv' (Ok tt) p).0 refl).0 f.0 f.1 f.2
 
 pub any-corners-energy : AnyCornersEnergyClaim
 unfolding h_tendencies u_tendencies v_tendencies
@@ -58,7 +58,7 @@ any-corners-energy s q l =
 -- no edge is closed, so there is no wall: the corners are w by n
 no-walls : (s : State) → WithinLimits s → OpenEverywhere s → (walled_west s ≡ false) × (walled_south s ≡ false)
 unfolding closed_west closed_south
-no-walls s l o = ((neither _ _ (o.west 0 0 l.columns.some l.rows.some)).0, (neither _ _ (o.south 0 0 l.columns.some l.rows.some)).0)
+no-walls s l o = ((or_parts _ _ (o.west 0 0 l.columns.some l.rows.some)).0, (or_parts _ _ (o.south 0 0 l.columns.some l.rows.some)).0)
 
 -- the law with the corners of such a grid
 module _ (w n : ℕ) (U W B : ℕ → ℕ → ℤ) (q : List ℤ) where
@@ -80,7 +80,7 @@ module _ (w n : ℕ) (U W B : ℕ → ℕ → ℤ) (q : List ℤ) where
 pub enstrophy-zero : EnstrophyClaim
 unfolding enstrophy_rate vorticity_tendency D4 D tendency_u tendency_v Tu Tv
 enstrophy-zero s q dh du dv dh' du' dv' o t =
-    let l = ((tendencies-accepted s q dh du dv dh' du' dv' Accepted t).0 refl).0 in
+    let l = ((tendencies-accepted s q dh du dv dh' du' dv' (Ok tt) t).0 refl).0 in
     let z = no-walls s l o in
     let f = tendencies-fill s q dh du dv dh' du' dv' t in
     let u : (i j : ℕ) → i < s.w → j < s.n → at s.w du' i j ≡ Tu s q i j = λ i j p r. f.1 i j p r ∙ ap (λ c. cond c (pos 0) (Tu s q i j)) (o.west i j p r) in

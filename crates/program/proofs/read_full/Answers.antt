@@ -1,17 +1,7 @@
 -- Each read puts its bytes behind those that were read before.
-use Rattle.std.proofs.Common.{rules, refl, arith, zero-le}
-use Rattle.std.proofs.KnownBytes.{Consumes-nil}
+use Rattle.std.proofs.Common.{rules, refl}
 use Rattle.program.proofs.Reading.{read_more}
 use Rattle.program.proofs.read_full.Goals as goal
-
-pub loop-count-init : goal.loop-count-init
-loop-count-init g c = (zero-le, Consumes-nil _)
-
-pub returns-then-n-eq0-clause-bytes : goal.returns-then-n-eq0-clause-bytes
-returns-then-n-eq0-clause-bytes g c =
-    let r = c.in_ok-n in
-    let l = c.loop-count in
-    read_more _ _ _ l.count r.n l.count l.buf c.read.new.buf (omega (arith, c.if-n-eq0.true)) l.invariant.0 r.ensures.bound.0 l.invariant.1 r.ensures.bytes.0
 
 pub loop-count-preserved : goal.loop-count-preserved
 loop-count-preserved g c =

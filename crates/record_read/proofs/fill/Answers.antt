@@ -28,11 +28,11 @@ own-bytes {rec} v d e q = q ∙ ap₂ (λ n l. filled n (tabulate n (λ k. get_o
 pub returns : goal.returns
 returns c =
     let a = c.args in
-    let e = c.requires.1 in
+    let e = c.requires.0 in
     λ i. record {
-      h = own c.value_of.ensures Four a.h.now e (h-is a.rec.now) c.read_numbers.ensures i;
-      b = own c.value_of-2.ensures Four a.b.now e (b-is a.rec.now) c.read_numbers-2.ensures i;
-      u = own c.value_of-3.ensures Two a.u.now e (u-is a.rec.now) c.read_numbers-3.ensures i;
-      v = own c.value_of-4.ensures Two a.v.now e (v-is a.rec.now) c.read_numbers-4.ensures i;
+      h = own c.value_of.ensures Four a.h.now e (h-is a.rec.now.bytes.now) c.read_numbers.ensures i;
+      b = own c.value_of-2.ensures Four a.b.now e (b-is a.rec.now.bytes.now) c.read_numbers-2.ensures i;
+      u = own c.value_of-3.ensures Two a.u.now e (u-is a.rec.now.bytes.now) c.read_numbers-3.ensures i;
+      v = own c.value_of-4.ensures Two a.v.now e (v-is a.rec.now.bytes.now) c.read_numbers-4.ensures i;
       barriers = own-bytes c.value_of-5.ensures a.barriers.now e c.read_bytes.ensures i;
     }

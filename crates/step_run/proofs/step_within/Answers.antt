@@ -1,7 +1,8 @@
--- `step_run::step_within` meets its contract: of a state within the limits, what is left to test decides. Assumes nothing.
-use mathlib.Core.Path.{sym, ap, ◌∙◌}
-use lib.ListN.{length}
-use Rattle.model.specs.State.{state_of}
+-- Of a state within the limits, what is left to test decides. Assumes nothing.
+use Rattle.std.proofs.Common.{refl, sym, ap, ◌∙◌, length}
+use Rattle.std.proofs.lemmas.Result.{err_from_is_err_and}
+use Rattle.std.specs.Prelude.{Err}
+use Rattle.model.specs.State.{state_at}
 use Rattle.model.specs.Promises.{answer_of}
 use Rattle.step_run.specs.Beside.{beside-only}
 use Rattle.step_run.proofs.CallLaws.{as_one}
@@ -9,11 +10,12 @@ use Rattle.step_run.proofs.step_within.Goals as goal
 
 pub run_tested-requires : goal.run_tested-requires
 run_tested-requires c =
-    let a = c.args in
-    let s = state_of a.p a.h.now a.b.now a.u.now a.v.now a.barriers.now in
-    c.test_beside-tested.ensures ∙ sym (ap answer_of (beside-only s a.inflow.now (length a.work.now) c.requires))
+    c.test_beside-tested.ensures ∙ sym (ap answer_of (beside-only (state_at c.args.s.now) c.args.inflow.now (length c.args.work.now) c.requires))
 
-pub returns : goal.returns
-returns c =
-    let a = c.args in
-    as_one (state_of a.p a.h.now a.b.now a.u.now a.v.now a.barriers.now) a.inflow.now c.run_tested.ensures c.as_step.ensures
+pub returns-in_err-run_tested-clause-promise : goal.returns-in_err-run_tested-clause-promise
+returns-in_err-run_tested-clause-promise c =
+    let p = err_from_is_err_and c.from_residual.result c.from_residual.ensures.1 in
+    as_one _ c.args.inflow.now c.in_err-run_tested.ensures.promise (p.1 ∙ ap Err p.2)
+
+pub returns-clause-promise : goal.returns-clause-promise
+returns-clause-promise c = as_one _ c.args.inflow.now c.in_ok-run_tested.ensures.promise refl

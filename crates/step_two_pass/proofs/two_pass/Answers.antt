@@ -1,74 +1,60 @@
 -- `step_two_pass::two_pass` meets its contract. Assumes nothing.
-use mathlib.Core.Path.{◌≡◌, refl, sym, ap, subst, ◌∙◌}
-use mathlib.Core.List.{List}
-use Prim.Native.Nat.{◌+◌, ◌*◌}
-use native.Mathlib.Omega.{arith}
-use lib.IntN.{ℤ}
-use lib.ListN.{length}
-use Rattle.model.specs.State.{State, state_of}
+use Rattle.std.proofs.Common.{◌≡◌, length, sym, ap, subst, ◌∙◌}
+use Rattle.std.proofs.lemmas.Result.{err_from_is_err_and}
+use Rattle.model.specs.State.{State, lent_state, state_at, with_flow}
 use Rattle.model.specs.Step.{pass, leaves}
-use Rattle.grid.specs.Parts.{part}
-use Rattle.step_pass.specs.Spaces.{base_in, PassReady}
-use Rattle.step_two_pass.specs.Outcomes.{bounds_by, StepReady, Rest, rest_then}
-use Rattle.step_two_pass.proofs.StepLaws.{taken-result, kept-base, base-after, rest_of, second-as, both, first-stuck, second-ready, ready-after}
+use Rattle.step_pass.specs.Spaces.{PassReady}
+use Rattle.step_two_pass.specs.Outcomes.{bounds_by}
+use Rattle.step_two_pass.proofs.StepLaws.{made, made-room, both, first-stuck, second_stuck, second-ready}
 use Rattle.step_two_pass.proofs.two_pass.Goals as goal
-use Rattle.step_two_pass.proofs.two_pass.Goals.{After-first_outside}
+use Rattle.step_two_pass.proofs.two_pass.Goals.{After-test_result}
 
 -- ---- pass 1 is there
 
-abbrev state : After-first_outside → State
-state c = let a = c.args in state_of a.p a.h.now a.b.now a.u.now a.v.now a.barriers.now
+abbrev state : After-test_result → State
+state c = state_at c.args.s.now
 
-abbrev first : After-first_outside → State
+abbrev first : After-test_result → State
 first c = pass (state c) (state c) c.args.inflow.now
 
--- the base is in the work space before it, and after it
-base-is : (c : After-first_outside) → let a = c.args in base_in a.p a.b.now a.barriers.now c.keep_base.new.work ≡ state c
-base-is c = let a = c.args in let e = c.keep_base.ensures in kept-base a.p a.b.now a.barriers.now _ _ _ _ e.0 e.1 e.2
+first-made : (c : After-test_result) → with_flow (state_at c.args.first.now) c.pass.new.h c.pass.new.u c.pass.new.v ≡ first c
+first-made c = made c.args.inflow.now c.requires.room-first c.lent.ensures c.lent-2.ensures c.pass.ensures
 
-ready : (c : After-first_outside) → StepReady (state c) c.args.inflow.now (length c.args.q.now) c.keep_base.new.work
-ready c = ready-after c.requires refl c.keep_base.ensures.3.long
+scanned : (c : After-test_result) → c.test_result.result ≡ bounds_by 1 (leaves (first c))
+scanned c = c.test_result.ensures ∙ ap (λ t. bounds_by 1 (leaves t)) (c.lent-3.ensures ∙ first-made c)
 
-base-still : (c : After-first_outside) → let a = c.args in base_in a.p a.b.now a.barriers.now c.pass.new.work ≡ state c
-base-still c = let a = c.args in base-after a.p a.b.now a.barriers.now c.pass.ensures.1 (ready c).long ∙ base-is c
+pub returns-in_err-test_result-clause-steps : goal.returns-in_err-test_result-clause-steps
+returns-in_err-test_result-clause-steps c =
+    let f = (goal.at.returns-in_err-test_result-clause-steps c).After-test_result in
+    let p = err_from_is_err_and c.from_residual.result c.from_residual.ensures.1 in
+    rw (p.1, p.2) (first-stuck (state f) c.args.inflow.now (sym c.in_err-test_result.was ∙ scanned f))
 
--- the room for a potential vorticity is as much as before
-ready-again : (c : After-first_outside) → StepReady (state c) c.args.inflow.now (length c.pass.new.q) c.pass.new.work
-ready-again c = ready-after (ready c) c.pass.auto.q c.pass.ensures.1.long
+-- ---- pass 2, with its tendencies
 
-rest : (c : After-first_outside) → Rest (c.args.p.w * c.args.p.n) c.args.work.now c.pass.new.work
-rest c = let m = c.args.p.w * c.args.p.n in rest_then (rest_of m c.keep_base.ensures.3 (omega arith)) (rest_of m c.pass.ensures.1 (omega arith))
-
-passed : (c : After-first_outside) → pass (base_in c.args.p c.args.b.now c.args.barriers.now c.keep_base.new.work) (state c) c.args.inflow.now ≡ first c
-passed c = ap (λ x. pass x (state c) c.args.inflow.now) (base-is c)
-
-scanned : (c : After-first_outside) → c.first_outside.result ≡ bounds_by (leaves (first c))
-scanned c = let a = c.args in c.first_outside.ensures a.b.now a.barriers.now ∙ ap (λ r. bounds_by (leaves r)) (c.pass.ensures.0 ∙ passed c)
-
--- ---- pass 1's result is lent
-
-lent_is : (f : After-first_outside) {h u v : List ℤ}
-    → let a = f.args in
-    let m = a.p.w * a.p.n in
-    let d = f.pass.new.work in
-    (h ≡ part (3 * m) m d) × (u ≡ part (3 * m + m) m d) × (v ≡ part (3 * m + 2 * m) m d)
-    → state_of a.p h a.b.now u v a.barriers.now ≡ first f
-lent_is f e = let a = f.args in taken-result a.p a.b.now a.barriers.now _ _ _ _ e ∙ f.pass.ensures.0 ∙ passed f
-
-pub second_pass-requires : goal.second_pass-requires
-second_pass-requires c =
-    let f = (goal.at.second_pass-requires c).After-first_outside in
+pub pass-requires-2 : goal.pass-requires-2
+pass-requires-2 c =
+    let f = (goal.at.pass-requires-2 c).After-test_result in
     let inflow = c.args.inflow.now in
-    subst (λ g. PassReady g inflow (length c.pass.new.q) c.pass.new.work) (sym (lent_is f c.take_state.ensures)) (second-ready (state f) inflow (ready-again f) (sym c.in-Kept.is ∙ scanned f) (base-still f))
+    let t = c.args.second.now in
+    let k = length c.pass.new.q in
+    let ready = second-ready (state f) inflow c.requires c.pass.auto.q (sym c.in_ok-test_result.was ∙ scanned f) in
+    subst (λ g. PassReady g (lent_state c.lent-5.result) inflow k t.h.now t.u.now t.v.now) (sym (c.lent-4.ensures ∙ first-made f))
+    (subst (λ b. PassReady (first f) b inflow k t.h.now t.u.now t.v.now) (sym c.lent-5.ensures) ready)
 
-pub returns-in-Kept : goal.returns-in-Kept
-returns-in-Kept c =
-    let f = (goal.at.returns-in-Kept c).After-first_outside in
+pub returns-in_err-test_result-2-clause-steps : goal.returns-in_err-test_result-2-clause-steps
+returns-in_err-test_result-2-clause-steps c =
+    let f = (goal.at.returns-in_err-test_result-2-clause-steps c).After-test_result in
+    let is = c.lent-6.ensures ∙ made c.args.inflow.now c.requires.room-second (c.lent-4.ensures ∙ first-made f) c.lent-5.ensures c.pass-2.ensures in
+    let p = err_from_is_err_and c.from_residual-in_err-test_result-2.result c.from_residual-in_err-test_result-2.ensures.1 in
+    rw (p.1, p.2)
+    (second_stuck (state f) c.args.inflow.now (sym c.in_ok-test_result.was ∙ scanned f)
+    (sym c.in_err-test_result-2.was ∙ c.test_result-2.ensures ∙ ap (λ t. bounds_by 2 (leaves t)) is))
+
+pub returns-clause-steps : goal.returns-clause-steps
+returns-clause-steps c =
+    let f = (goal.at.returns-clause-steps c).After-test_result in
+    let s = state f in
     let inflow = c.args.inflow.now in
-    let e = c.second_pass.ensures in
-    (both (state f) inflow (sym c.in-Kept.is ∙ scanned f) (second-as inflow (base-still f) (lent_is f c.take_state.ensures) e.0), rest_then (rest f) e.1)
-
-pub returns-in-Outside : goal.returns-in-Outside
-returns-in-Outside c =
-    let f = (goal.at.returns-in-Outside c).After-first_outside in
-    (first-stuck (state f) c.args.inflow.now _ _ (sym c.in-Outside.is ∙ scanned f), rest f)
+    let there = made c.args.inflow.now c.requires.room-second (c.lent-4.ensures ∙ first-made f) c.lent-5.ensures c.pass-2.ensures in
+    let taken = ap state_at c.take_state.ensures ∙ ap (λ (t : State). with_flow s t.h t.u t.v) (c.lent-7.ensures ∙ there) ∙ sym (made-room s (first f) inflow).alike in
+    both s inflow (sym c.in_ok-test_result.was ∙ scanned f) (sym c.in_ok-test_result-2.was ∙ c.test_result-2.ensures ∙ ap (λ t. bounds_by 2 (leaves t)) (c.lent-6.ensures ∙ there)) taken

@@ -1,2 +1,0 @@
--- the numbers of a refusal
-mod Tells

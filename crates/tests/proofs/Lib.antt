@@ -1,3 +1,0 @@
--- tests joined by `&&`; links of a chain
-pub mod AndLaws
-pub mod LinkLaws
